@@ -1,4 +1,4 @@
-//! From a set as it is written to its nodes, with references in place.
+//! Builds the nodes of a set from its written form, and expands references in place.
 
 mod parts;
 
@@ -28,7 +28,7 @@ use fast_value::Kind;
 use parts::{add_node, empty_group, initial_of, set_shape, template_of};
 use std::alloc::{AllocError, Global};
 
-/// Where instructions stand: in the text of a template, from which so many references may still lead on.
+/// The context of instructions: the scope of the template that contains them, and the number of references that may still be followed.
 #[derive(Clone, Copy)]
 pub(crate) struct BuildContext<'a> {
     pub(crate) scope: TextScope<'a>,
@@ -36,7 +36,7 @@ pub(crate) struct BuildContext<'a> {
 }
 
 impl BuildContext<'_> {
-    /// Where the instructions of a template stand to which a reference leads from here.
+    /// Returns the context of the instructions of the template that a reference names.
     fn behind_reference<'a>(self, number: u32, template: &'a WrittenTemplate) -> BuildContext<'a>
         requires { 1 ≤ self.chain }
         ensures scope { scope_data result.scope ≡ scope_of number (written_data template.now) }
@@ -70,7 +70,7 @@ pub(crate) struct Builder<'a> {
 }
 
 impl Builder<'_> {
-    /// Builds all templates.
+    /// Builds the nodes of all templates.
     pub(crate) fn build(&self) -> Result<BuiltSet, AllocError>
         requires many { length self.now.set.now.templates.items < 2 ^ 32 }
         requires set { IsBuilder self.now }
@@ -103,7 +103,7 @@ impl Builder<'_> {
         })
     }
 
-    /// How a value is sent under an operator.
+    /// Returns the field instruction of a value under an operator.
     fn field_of(
         &self,
         scope: TextScope<'_>,
@@ -125,7 +125,7 @@ impl Builder<'_> {
         })
     }
 
-    /// The field that tells the length of a sequence.
+    /// Returns the field instruction of the length of a sequence.
     fn length_of(
         &self,
         scope: TextScope<'_>,
@@ -191,7 +191,7 @@ impl Builder<'_> {
         add_node(self.alloc, nodes, body, name, shape)
     }
 
-    /// Builds the nodes of instructions, and puts their numbers behind those of the body.
+    /// Builds the nodes of instructions, and appends their numbers to those of the body.
     #[cycle(building)]
     pub(crate) fn build_fields(
         &self,
@@ -211,7 +211,7 @@ impl Builder<'_> {
         Ok(())
     }
 
-    /// Builds the node of an instruction, and those of all that it holds.
+    /// Builds the node of an instruction, and those of all that it contains.
     #[cycle(building)]
     fn build_instruction(
         &self,
@@ -327,7 +327,7 @@ impl Builder<'_> {
         Ok(())
     }
 
-    /// Builds the nodes of the instructions of the template to which a reference leads.
+    /// Builds the nodes of the instructions of the template that a reference names.
     #[cycle(building)]
     fn build_reference(
         &self,

@@ -1,5 +1,5 @@
-//! Chains of references: those that never end, those that are too long, and what they come to, all of it found out
-//! before any reference is put in place.
+//! Chains of references: which of them never end or are too long, and the number of nodes that they expand to, all of it computed before
+//! any reference is expanded.
 
 ghost use Rattle.std.specs.Prelude.{◌≡◌, ◌≢◌, ◌↔◌, ◌<◌, ◌≤◌, ◌^◌, ℕ, suc, List, is_some, length, replicate, take, sum_by, All, AllPairs, Some, None, IsTrue, IfSome, IfOk, IfErr, OnOk};
 ghost use Rattle.std.specs.List.{list_all};
@@ -25,20 +25,20 @@ use crate::written::WrittenTemplate;
 use std::alloc::{AllocError, Global};
 use std::collections::HashMap;
 
-/// There was no memory left.
+/// The fault of a failed allocation.
 const NO_MEMORY: StaticFault = StaticFault {
     code: StaticCode::Memory,
     template: None,
 };
 
-/// No extent of so many templates.
+/// Returns `count` extents, none of which is known.
 fn nothing_known(alloc: Global, count: usize) -> Result<Vec<Option<Extent>>, AllocError>
     ensures { IfOk result (λ v. v.items ≡ replicate count None) }
 {
     vec![in alloc; None; count]
 }
 
-/// Whether the extent of each template is known.
+/// Returns whether the extent of each template is known.
 fn are_known(extents: &[Option<Extent>]) -> bool
     ensures { result ≡ list_all is_some extents.now }
 {
@@ -50,7 +50,7 @@ fn are_known(extents: &[Option<Extent>]) -> bool
     true
 }
 
-/// One round: the extents that were known, and those of templates that refer only to such.
+/// Computes one round: the extents that were known, and those of templates that refer only to such.
 fn next_extents(
     alloc: Global,
     names: &HashMap<String, u32>,
@@ -72,7 +72,7 @@ fn next_extents(
     Ok(next)
 }
 
-/// The extents of all templates from which no more than 64 references lead on.
+/// Returns the extents of all templates from which no chain of more than 64 references leads on.
 fn extents_of(
     alloc: Global,
     names: &HashMap<String, u32>,
@@ -93,14 +93,14 @@ fn extents_of(
     Ok(extents)
 }
 
-/// Whether the extent is known, and not too deep.
+/// Returns whether the extent is known and not too deep.
 fn is_shallow(extent: Option<Extent>) -> bool
     ensures { IsTrue result ↔ IsShallow extent }
 {
     matches!(extent, Some(e) if e.depth <= NESTING_LIMIT)
 }
 
-/// No chain of references is too long, and groups and sequences do not nest too deep.
+/// Checks that no chain of references is too long, and that groups and sequences do not nest too deep.
 fn check_depths(extents: &[Option<Extent>]) -> Result<(), StaticFault>
     requires { length extents.now < 2 ^ 32 }
     ensures shallow { OnOk result (All IsShallow extents.now) }
@@ -120,14 +120,14 @@ fn check_depths(extents: &[Option<Extent>]) -> Result<(), StaticFault>
     Ok(())
 }
 
-/// The nodes, if the extent is known.
+/// Returns the number of nodes, if the extent is known.
 fn known_nodes(extent: Option<Extent>) -> u32
     ensures { result ≡ known_nodes extent }
 {
     extent.map_or(0, |e| e.nodes)
 }
 
-/// The templates have no more nodes than a set may have.
+/// Checks that the templates have no more nodes than a set may have.
 fn check_nodes(extents: &[Option<Extent>]) -> Result<(), StaticFault>
     requires { length extents.now < 2 ^ 32 }
     ensures few { OnOk result (sum_by known_nodes extents.now ≤ node_limit) }
@@ -150,7 +150,7 @@ fn check_nodes(extents: &[Option<Extent>]) -> Result<(), StaticFault>
     Ok(())
 }
 
-/// No template refers to itself, by way of others or not.
+/// Checks that no template refers to itself, directly or through others.
 fn check_cycles(
     alloc: Global,
     names: &HashMap<String, u32>,
@@ -173,8 +173,8 @@ fn check_cycles(
     }
 }
 
-/// The sixth, seventh and eighth pass over a set in which the first five find no fault. No template refers to itself;
-/// no chain of references is too long, and no template too deep; and there are not too many nodes.
+/// Makes the sixth, seventh and eighth pass over a set in which the first five find no fault: no template refers to itself; no chain of
+/// references is too long, and no template too deep; and there are not too many nodes.
 pub(crate) fn check_chains(alloc: Global, set: &WrittenSet) -> Result<(), StaticFault>
     requires few { length set.now.templates.items < 2 ^ 32 }
     requires names { (q : List ℕ) → get_by_text set.now.names q

@@ -1,4 +1,4 @@
-//! The passes over a set that is written, each of which looks at the whole set.
+//! The passes over a written set, each of which looks at the whole set.
 
 ghost use Rattle.std.specs.Prelude.{◌≡◌, ◌≢◌, ◌<◌, ◌^◌, ℕ, List, nat_eq, is_some, length, take, All, AllPairs, Some, IfSome, IsSome, IfOk, IfErr, OnOk};
 ghost use Rattle.std.specs.List.{list_all};
@@ -17,7 +17,7 @@ use crate::written::{WrittenInstruction, WrittenTemplate};
 use std::alloc::Global;
 use std::collections::HashMap;
 
-/// A fault at a template. Want of memory names none.
+/// Returns a fault at a template. A failed allocation names none.
 fn fault_at(code: StaticCode, template: usize) -> StaticFault
     requires { template < 2 ^ 32 }
     ensures { result ≡ fault_of code template }
@@ -34,7 +34,7 @@ fn fault_at(code: StaticCode, template: usize) -> StaticFault
     }
 }
 
-/// The fourth pass: operators that do not suit their types, and initial values that are missing or mean nothing.
+/// Makes the fourth pass: operators that do not suit their types, and initial values that are missing or not of their types.
 pub(crate) fn check_uses(alloc: Global, templates: &[WrittenTemplate]) -> Result<(), StaticFault>
     requires { length templates.now < 2 ^ 32 }
     ensures sound { OnOk result (All (λ t. All IsSound (all_uses t.fields)) (templates_data templates.now)) }
@@ -50,7 +50,7 @@ pub(crate) fn check_uses(alloc: Global, templates: &[WrittenTemplate]) -> Result
     Ok(())
 }
 
-/// The second pass: no name stands twice. The number of each template by its name.
+/// Makes the second pass, which finds a name that two templates have. Returns the number of each template by its name.
 pub(crate) fn index_names(
     alloc: Global,
     templates: &[WrittenTemplate],
@@ -77,7 +77,7 @@ pub(crate) fn index_names(
     Ok(names)
 }
 
-/// The third pass: no identifier stands twice. The number of each template by its identifier.
+/// Makes the third pass, which finds an identifier that two templates have. Returns the number of each template by its identifier.
 pub(crate) fn index_ids(
     alloc: Global,
     templates: &[WrittenTemplate],
@@ -105,7 +105,7 @@ pub(crate) fn index_ids(
     Ok(ids)
 }
 
-/// Whether each reference of the instructions names a template.
+/// Returns whether each reference of the instructions names a template.
 #[cycle(references)]
 fn are_known(names: &HashMap<String, u32>, fields: &[WrittenInstruction]) -> bool
     ensures { result ≡ list_all (λ q. is_some (get_by_text names.now q)) (references_in fields.now) }
@@ -118,7 +118,7 @@ fn are_known(names: &HashMap<String, u32>, fields: &[WrittenInstruction]) -> boo
     true
 }
 
-/// Whether each reference of an instruction names a template.
+/// Returns whether each reference of an instruction names a template.
 #[cycle(references)]
 fn is_known(names: &HashMap<String, u32>, instruction: &WrittenInstruction) -> bool
     ensures { result ≡ list_all (λ q. is_some (get_by_text names.now q))
@@ -132,7 +132,7 @@ fn is_known(names: &HashMap<String, u32>, instruction: &WrittenInstruction) -> b
     }
 }
 
-/// The fifth pass: each reference names a template.
+/// Makes the fifth pass: each reference names a template.
 pub(crate) fn check_references(
     names: &HashMap<String, u32>,
     templates: &[WrittenTemplate],

@@ -1,13 +1,13 @@
-//! What can be wrong with a template set.
+//! The error codes of a template set.
 
 use std::error::Error;
 use std::fmt;
 
-/// What is wrong with the text of a template set. The codes that begin with S or D are named after errors of the FAST
-/// Specification Version 1.1; those that begin with C are this reader's own.
+/// The error of a template file. The codes that begin with S or D are named after errors of the FAST Specification Version 1.1; those that
+/// begin with C are this reader's own.
 #[derive(Clone, Copy, Debug, PartialEq, Eq)]
 pub enum StaticCode {
-    /// The text is not TOML, or not of the stated shape.
+    /// The file is not TOML, or not of the stated shape.
     S1,
     /// The operator does not suit the type.
     S2,
@@ -23,7 +23,7 @@ pub enum StaticCode {
     C1,
     /// An earlier template has the identifier.
     C2,
-    /// The template refers to itself, by way of others or not.
+    /// The template refers to itself, directly or through others.
     C3,
     /// More than 64 references lead from one template to the next, or more than 64 groups and sequences nest.
     C4,
@@ -31,7 +31,7 @@ pub enum StaticCode {
     C5,
     /// The set has more than 65,536 nodes.
     C6,
-    /// There was no memory left.
+    /// An allocation failed.
     Memory,
 }
 
@@ -39,7 +39,7 @@ impl StaticCode {
     ghost use Rattle.std.specs.Prelude.{◌≡◌};
     ghost use Rattle.fast_notation.specs.meaning.Codes.{static_code_text};
 
-    /// The name of the code: `S1`, where `Display` says in words what is wrong.
+    /// Returns the name of the code, such as `S1`; `Display` writes a description.
     pub fn name(self) -> &'static str
         ensures { result.now ≡ static_code_text self }
     {
@@ -84,12 +84,12 @@ impl fmt::Display for StaticCode {
 
 impl Error for StaticCode {}
 
-/// What is wrong with a template set, and where.
+/// The error of a template set, and the template at which it is.
 #[derive(Clone, Copy, Debug, PartialEq, Eq)]
 pub struct StaticFault {
-    /// What is wrong.
+    /// The error.
     pub code: StaticCode,
-    /// The number of the template at which it stands, if it stands at one.
+    /// The number of the template at which the error is, if it is at one.
     pub template: Option<u32>,
 }
 

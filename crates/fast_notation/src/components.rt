@@ -1,14 +1,14 @@
-//! The sets of templates that refer to one another.
+//! The strongly connected components of the templates that refer to one another.
 
 ghost use Rattle.std.specs.Prelude.{◌≡◌, ◌<◌, length, vec_len, All};
 ghost use Rattle.fast_notation.specs.device.Cycles.{AreWithin};
 
 use std::alloc::{AllocError, Global};
 
-/// What a walk finds.
+/// The result of a walk.
 #[derive(Drop)]
 pub(crate) struct Components {
-    /// The first template that was found to refer to itself, by way of others or not.
+    /// The first template that was found to refer to itself, directly or through others.
     pub(crate) first: Option<usize>,
     /// For each template a number: no reference leads to a greater one, and to the same one only in a component.
     pub(crate) ranks: Vec<usize>,
@@ -18,9 +18,9 @@ pub(crate) struct Components {
 #[derive(Clone, Copy)]
 struct Step {
     template: usize,
-    /// The place of the template on the stack, from 1 on.
+    /// The index of the template on the stack, from 1 on.
     place: usize,
-    /// How many of its references have been followed.
+    /// The number of its references that have been followed.
     followed: usize,
 }
 
@@ -29,15 +29,15 @@ struct Step {
 #[derive(Drop)]
 struct Walk<'a> {
     graph: &'a [Vec<u32>],
-    /// For each template the first place on the stack that it is known to lead to; 0 where it was not met, and the number
-    /// of its component once that is closed.
+    /// For each template the lowest index on the stack that it is known to lead to; 0 if it was not met, and the number of its component
+    /// once that is closed.
     lowlinks: Vec<usize>,
     /// The templates that were met and whose components are not closed.
     stack: Vec<usize>,
     path: Vec<Step>,
-    /// The number of the component that was closed last, behind each place on the stack.
+    /// The number of the component that was closed last, after each index on the stack.
     closed: usize,
-    /// The first template that was found to refer to itself, by way of others or not.
+    /// The first template that was found to refer to itself, directly or through others.
     first: Option<usize>,
     ghost graph_within: { AreWithin graph.now },
     ghost lowlinks_long: { vec_len lowlinks ≡ length graph.now },
@@ -63,7 +63,7 @@ impl<'a> Walk<'a> {
         })
     }
 
-    /// A template leads to one at this place on the stack.
+    /// Records that a template leads to the one at this index on the stack.
     fn lower(&mut self, template: usize, place: usize)
         requires { template < length self.old.graph.now }
         ensures { self.new.graph ≡ self.old.graph }
@@ -71,7 +71,7 @@ impl<'a> Walk<'a> {
         self.lowlinks[template] = self.lowlinks[template].min(place);
     }
 
-    /// A template refers to itself.
+    /// Records that a template refers to itself.
     fn note(&mut self, template: usize)
         requires { template < length self.old.graph.now }
         ensures { self.new.graph ≡ self.old.graph }
@@ -98,7 +98,7 @@ impl<'a> Walk<'a> {
         Ok(())
     }
 
-    /// Follows one reference or goes back one template; `false` where the walk is at its end.
+    /// Follows one reference or goes back one template. Returns `false` at the end of the walk.
     fn turn(&mut self) -> Result<bool, AllocError>
         ensures { self.new.graph ≡ self.old.graph }
     {
@@ -117,7 +117,7 @@ impl<'a> Walk<'a> {
         Ok(true)
     }
 
-    /// Takes so many turns, or as many as there are.
+    /// Follows at most `turns` references or steps back, fewer if the walk ends before.
     fn take_turns(&mut self, turns: usize) -> Result<(), AllocError>
         ensures { self.new.graph ≡ self.old.graph }
     {
@@ -141,7 +141,7 @@ impl<'a> Walk<'a> {
         self.take_turns(turns)
     }
 
-    /// Goes along a reference.
+    /// Follows a reference.
     fn follow(&mut self, template: usize, target: usize) -> Result<(), AllocError>
         requires template { template < length self.old.graph.now }
         requires target { target < length self.old.graph.now }
@@ -171,7 +171,7 @@ impl<'a> Walk<'a> {
         }
     }
 
-    /// Closes the component of the templates on the stack from a place on. More than one refer to each other.
+    /// Closes the component of the templates on the stack from an index on. If they are more than one, they refer to each other.
     fn close(&mut self, place: usize)
         ensures { self.new.graph ≡ self.old.graph }
     {
@@ -196,7 +196,7 @@ impl<'a> Walk<'a> {
     }
 }
 
-/// The turns that a walk along all references takes: each template is left once, and each reference followed once.
+/// Returns the number of steps of a walk along all references: each template is left once, and each reference followed once.
 fn turns_of(graph: &[Vec<u32>]) -> usize {
     let mut turns: usize = 1;
     for targets in graph {
@@ -205,7 +205,7 @@ fn turns_of(graph: &[Vec<u32>]) -> usize {
     turns
 }
 
-/// The components of all templates.
+/// Returns the components of all templates.
 pub(crate) fn components_of(alloc: Global, graph: &[Vec<u32>]) -> Result<Components, AllocError>
     requires { AreWithin graph.now }
 {

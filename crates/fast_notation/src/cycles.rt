@@ -1,4 +1,4 @@
-//! Templates that refer to themselves, by way of others or not.
+//! Templates that refer to themselves, directly or through others.
 
 ghost use Rattle.std.specs.Prelude.{◌≡◌, ◌<◌, ◌^◌, ◌≢◌, ◌++◌, ℕ, List, true, map, length, All, AllPairs, IsTrue, IfOk, IfSome, OnOk};
 ghost use Rattle.std.specs.List.{filter_map};
@@ -16,7 +16,7 @@ use crate::written::{WrittenInstruction, WrittenTemplate};
 use std::alloc::{AllocError, Global};
 use std::collections::HashMap;
 
-/// Puts the numbers of the templates that the instructions refer to behind the others.
+/// Appends the numbers of the templates that the instructions refer to.
 #[cycle(targets)]
 fn add_targets(
     targets: &mut Vec<u32>,
@@ -32,7 +32,7 @@ fn add_targets(
     Ok(())
 }
 
-/// Puts the numbers of the templates that the instruction refers to behind the others.
+/// Appends the numbers of the templates that the instruction refers to.
 #[cycle(targets)]
 fn add_target(
     targets: &mut Vec<u32>,
@@ -55,7 +55,7 @@ fn add_target(
     }
 }
 
-/// The numbers of the templates that each template refers to.
+/// Returns the numbers of the templates that each template refers to.
 fn graph_of(
     alloc: Global,
     names: &HashMap<String, u32>,
@@ -73,8 +73,8 @@ fn graph_of(
     Ok(graph)
 }
 
-/// Follows the references of a template. Whether one of them leads to the start; otherwise those that were not met
-/// before are ahead.
+/// Follows the references of a template. Returns whether one of them leads to the start; otherwise those that were not met before are added
+/// to `ahead`.
 fn follow(
     graph: &[Vec<u32>],
     start: usize,
@@ -104,7 +104,7 @@ fn follow(
     Ok(false)
 }
 
-/// Whether references lead from the template back to it.
+/// Returns whether references lead from the template back to it.
 fn is_cyclic(alloc: Global, graph: &[Vec<u32>], start: usize) -> Result<bool, AllocError>
     requires within { AreWithin graph.now }
     requires inside { start < length graph.now }
@@ -125,7 +125,7 @@ fn is_cyclic(alloc: Global, graph: &[Vec<u32>], start: usize) -> Result<bool, Al
     Ok(false)
 }
 
-/// Whether references lead to templates of no greater rank, and where it is strict of a lesser one.
+/// Returns whether references lead to templates of no greater rank, or, if `is_strict`, of a lesser one.
 fn lead_down(targets: &[u32], ranks: &[usize], rank: usize, is_strict: bool) -> bool
     ensures { IsTrue result → All (LeadsDown ranks.now is_strict rank) targets.now }
 {
@@ -140,8 +140,8 @@ fn lead_down(targets: &[u32], ranks: &[usize], rank: usize, is_strict: bool) -> 
     true
 }
 
-/// Whether no reference leads to a template of a greater rank, and none from the templates before the first to one of the
-/// same rank. Then none of those refers to itself, by way of others or not.
+/// Returns whether no reference leads to a template of a greater rank, and none from the templates before the first to one of the same
+/// rank. Then none of those refers to itself, directly or through others.
 fn are_ranked(graph: &[Vec<u32>], ranks: &[usize], first: usize) -> bool
     ensures { IsTrue result → AreRanked graph.now ranks.now first }
 {
@@ -156,7 +156,7 @@ fn are_ranked(graph: &[Vec<u32>], ranks: &[usize], first: usize) -> bool
     true
 }
 
-/// The first template that refers to itself, by way of others or not.
+/// Returns the first template that refers to itself, directly or through others.
 pub(crate) fn first_cyclic(
     alloc: Global,
     names: &HashMap<String, u32>,

@@ -1,4 +1,4 @@
-//! From the text of a template set to the set as it is written: the first pass, whose fault is S1.
+//! The first pass, whose fault is S1: reads a TOML file into a written set.
 
 ghost use Rattle.std.specs.Prelude.{◌≡◌, ◌<◌, ◌^◌, codes, option_map, length, true, Some, None, Err, ℕ, IfOk, IfErr, IfSome, IsSome};
 ghost use Rattle.toml.specs.Data.{Data, Members, get_member, get_item, as_array};
@@ -19,7 +19,7 @@ use std::alloc::Global;
 use std::mem;
 use toml::{Table, Value};
 
-/// The identifier of a template, if it has one.
+/// Returns the identifier of a template, if it has one.
 fn id_at(table: &Table) -> Result<Option<u32>, Unread>
     ensures id { IfOk result (λ o. id_of (get_member (codes "id") (table_view table.now)) ≡ Some o) }
     ensures shape { result ≡ Err Unread.Shape → id_of (get_member (codes "id") (table_view table.now)) ≡ None }
@@ -36,7 +36,7 @@ fn id_at(table: &Table) -> Result<Option<u32>, Unread>
     }
 }
 
-/// The dictionary of a template, which is the global one where nothing is written.
+/// Returns the dictionary of a template, which is the global one if none is written.
 fn dictionary_at<'a>(table: &'a Table) -> Result<&'a str, Unread>
     ensures dictionary { IfOk result (λ s. dictionary_of (get_member (codes "dictionary") (table_view table.now))
         ≡ Some s.now) }
@@ -52,7 +52,7 @@ fn dictionary_at<'a>(table: &'a Table) -> Result<&'a str, Unread>
     Ok(dictionary)
 }
 
-/// The template of a table.
+/// Reads the template of a table.
 fn template_in(alloc: Global, table: &Table) -> Result<WrittenTemplate, Unread>
     ensures template { IfOk result (λ t. template_of (table_view table.now) ≡ Some (written_data t)) }
     ensures shape { result ≡ Err Unread.Shape → template_of (table_view table.now) ≡ None }
@@ -76,7 +76,7 @@ fn template_in(alloc: Global, table: &Table) -> Result<WrittenTemplate, Unread>
     })
 }
 
-/// Whether each value is a table.
+/// Returns whether each value is a table.
 fn are_tables(items: &[Value]) -> bool
     ensures { result ≡ are_tables (items_view items.now) }
 {
@@ -88,7 +88,7 @@ fn are_tables(items: &[Value]) -> bool
     true
 }
 
-/// Whether there are 1 to 4,294,967,295 values, each a table.
+/// Returns whether there are 1 to 4,294,967,295 values, each a table.
 fn are_templates(items: &[Value]) -> bool
     ensures test { result ≡ are_templates (items_view items.now) }
     ensures few { result ≡ true → length items.now < 2 ^ 32 }
@@ -103,14 +103,14 @@ fn are_templates(items: &[Value]) -> bool
     are_tables(items)
 }
 
-/// Takes what stands at a key out of a table.
+/// Removes the value at a key from a table, and returns it.
 fn taken_at(table: &mut Table, key: &str) -> Option<Value>
     ensures { option_map view result ≡ get_member key.now (table_view table.old) }
 {
     table.remove(key)
 }
 
-/// The items of an array.
+/// Returns the items of an array.
 fn items_of(value: Value) -> Option<Vec<Value>>
     ensures { option_map array_view result ≡ as_array (view value) }
 {
@@ -120,7 +120,7 @@ fn items_of(value: Value) -> Option<Vec<Value>>
     }
 }
 
-/// The tables of a document, taken out of it.
+/// Removes the tables of templates from a document, and returns them.
 fn tables_in(mut document: Table) -> Option<Vec<Value>>
     ensures tables { option_map array_view result ≡ tables_of (table_view document) }
     ensures few { IfSome result (λ v. length v.items < 2 ^ 32) }
@@ -140,7 +140,7 @@ fn tables_in(mut document: Table) -> Option<Vec<Value>>
     Some(items)
 }
 
-/// A fault at a template.
+/// Returns a fault at a template.
 fn fault_at(fault: Unread, template: usize) -> StaticFault
     requires { template < 2 ^ 32 }
     ensures shape { fault ≡ Unread.Shape → result ≡ record { code = StaticCode.S1; template = Some template } }
@@ -158,7 +158,7 @@ fn fault_at(fault: Unread, template: usize) -> StaticFault
     }
 }
 
-/// The template of a value.
+/// Reads the template of a value.
 fn template_at(alloc: Global, value: &Value) -> Result<WrittenTemplate, Unread>
     ensures template { IfOk result (λ t. template_in (view value.now) ≡ Some (written_data t)) }
     ensures shape { result ≡ Err Unread.Shape → template_in (view value.now) ≡ None }
@@ -169,7 +169,7 @@ fn template_at(alloc: Global, value: &Value) -> Result<WrittenTemplate, Unread>
     }
 }
 
-/// The templates of tables, each of which is dropped once it is read: the tree of a text takes many times the text's length.
+/// Reads the templates of tables, each of which is dropped once it is read: the tree of a file needs many times the file's length.
 fn templates_in(alloc: Global, items: &mut [Value]) -> Result<Vec<WrittenTemplate>, StaticFault>
     requires { length items.old < 2 ^ 32 }
     ensures templates { IfOk result (λ v. all_templates (items_view items.old) ≡ Some (templates_data v.items)) }
@@ -192,7 +192,7 @@ fn templates_in(alloc: Global, items: &mut [Value]) -> Result<Vec<WrittenTemplat
     Ok(templates)
 }
 
-/// The set that a text writes.
+/// Reads the written set of a TOML file's contents.
 pub(crate) fn read_written(alloc: Global, text: &str) -> Result<Vec<WrittenTemplate>, StaticFault>
     ensures written { IfOk result (λ v. (document : Members) × (parse_document text.now ≡ Some document)
         × WritesSet document (templates_data v.items)) }
@@ -216,7 +216,7 @@ pub(crate) fn read_written(alloc: Global, text: &str) -> Result<Vec<WrittenTempl
     }
 }
 
-/// The fault of a text that has no tables of templates.
+/// Returns the fault of a file that has no tables of templates.
 fn no_set() -> StaticFault
     ensures { result ≡ record { code = StaticCode.S1; template = None } }
 {

@@ -1,4 +1,4 @@
-//! The dictionary entries of a set, numbered in the order of its text.
+//! The dictionary entries of a set, numbered in the order of the file.
 
 ghost use Rattle.std.specs.Prelude.{◌≡◌, ◌⊎◌, ◌++◌, ◌∷◌, [], suc, ◌<◌, ◌≤◌, ◌*◌, ◌^◌, slice_get, length, Contains, Some, IfSome, IfNone, IfOk, OnOk};
 ghost use Rattle.fast_tree.specs.meaning.AsWritten.{uses};
@@ -23,8 +23,8 @@ pub(crate) enum EntryPlace {
     Named(String),
 }
 
-/// An entry: its dictionary, and its key there. Parts of decimals and lengths without a name have entries of their own
-/// beside that of the name.
+/// An entry: its dictionary, and its key there. Parts of decimals and lengths without a name have entries of their own, apart from that of
+/// the name.
 #[derive(PartialEq, Eq, Hash, Drop)]
 pub(crate) struct EntryKey {
     pub(crate) place: EntryPlace,
@@ -32,13 +32,13 @@ pub(crate) struct EntryKey {
     pub(crate) part: OperatorPart,
 }
 
-/// The entries of a set in the order of its text, but that of the template identifier, which comes first.
+/// The entries of a set in the order of the file, without that of the template identifier, which comes first.
 #[derive(Drop)]
 pub(crate) struct Entries {
     pub(crate) keys: IndexSet<EntryKey>,
 }
 
-/// Whether the operator keeps a value in the dictionary.
+/// Returns whether the operator keeps a value in the dictionary.
 fn keeps_value(operator: Operator) -> bool
     ensures { result ≡ keeps_value operator }
 {
@@ -48,7 +48,7 @@ fn keeps_value(operator: Operator) -> bool
     }
 }
 
-/// The dictionary of a name in a text.
+/// Returns the dictionary that a name means in a template.
 fn place_in(alloc: Global, scope: TextScope<'_>, name: &str) -> Result<EntryPlace, AllocError>
     ensures { IfOk result (λ p. IsPlace (scope_data scope.entry) name.now (place_data p)) }
 {
@@ -59,7 +59,7 @@ fn place_in(alloc: Global, scope: TextScope<'_>, name: &str) -> Result<EntryPlac
     }
 }
 
-/// The entry of an operator in a text.
+/// Returns the entry of an operator in a template.
 fn key_of(
     alloc: Global,
     scope: TextScope<'_>,
@@ -87,7 +87,7 @@ fn key_of(
 }
 
 impl Entries {
-    /// Puts an entry behind the others, if it is none of them.
+    /// Appends an entry, if it is none of those that are there.
     fn add(&mut self, key: EntryKey) -> Result<(), AllocError>
         ensures { OnOk result (Contains (entries_of self.old) (key_data key)
             × (entries_of self.new ≡ entries_of self.old)
@@ -100,7 +100,7 @@ impl Entries {
         }
     }
 
-    /// The place of an entry.
+    /// Returns the index of an entry.
     fn place_of(&self, key: &EntryKey) -> Option<usize>
         ensures found { IfSome result (λ k. slice_get (entries_of self.now) k ≡ Some (key_data key.now)) }
         ensures none { IfNone result (¬ (Contains (entries_of self.now) (key_data key.now))) }
@@ -108,7 +108,7 @@ impl Entries {
         self.keys.get_index_of(key)
     }
 
-    /// The number of entries, with the template identifier's.
+    /// Returns the number of entries, with the template identifier's.
     pub(crate) fn count(&self) -> u32
         requires { length (entries_of self.now) ≤ 2 * node_limit }
         ensures { result ≡ suc (length (entries_of self.now)) }
@@ -116,7 +116,7 @@ impl Entries {
         self.keys.len() as u32 + 1
     }
 
-    /// The number of the entry of an operator in a text, if it keeps a value there. The template identifier's is 0.
+    /// Returns the number of the entry of an operator in a template, if it keeps a value there. The template identifier's is 0.
     pub(crate) fn number_of(
         &self,
         alloc: Global,
@@ -138,7 +138,7 @@ impl Entries {
         }
     }
 
-    /// Adds the entry of an operator in a text, if it has one.
+    /// Adds the entry of an operator in a template, if it has one.
     fn add_use(
         &mut self,
         alloc: Global,
@@ -155,7 +155,7 @@ impl Entries {
         Ok(())
     }
 
-    /// Adds the entries of instructions in a text.
+    /// Adds the entries of instructions in a template.
     #[cycle(entries)]
     fn add_fields(
         &mut self,
@@ -172,7 +172,7 @@ impl Entries {
         Ok(())
     }
 
-    /// Adds the entries of an instruction in a text: an exponent's before a mantissa's, a length's before an element's.
+    /// Adds the entries of an instruction in a template: an exponent's before a mantissa's, a length's before an element's.
     #[cycle(entries)]
     fn add_instruction(
         &mut self,
@@ -227,7 +227,7 @@ impl Entries {
     }
 }
 
-/// The entries of templates, each where it is first used.
+/// Returns the entries of templates, in the order in which they are first used.
 pub(crate) fn collect_entries(
     alloc: Global,
     templates: &[WrittenTemplate],

@@ -1,4 +1,4 @@
-//! How many nodes written instructions come to and how deep they nest, before any reference is put in place.
+//! The number of nodes and the nesting depth of written instructions, computed before any reference is expanded.
 
 ghost use Rattle.std.specs.Prelude.{◌≡◌};
 ghost use Rattle.std.specs.HashMap.{get_by_text};
@@ -8,31 +8,31 @@ ghost use Rattle.fast_notation.specs.device.WrittenSets.{instruction_data, field
 use crate::written::WrittenInstruction;
 use std::collections::HashMap;
 
-/// What instructions come to with their references in place. Numbers that a `u32` does not hold stay at its greatest.
+/// The size of instructions with their references expanded. Numbers that do not fit a `u32` stay at its greatest value.
 #[derive(Clone, Copy, PartialEq, Eq)]
 pub(crate) struct Extent {
-    /// The nodes.
+    /// The number of nodes.
     pub(crate) nodes: u32,
-    /// The deepest nesting of groups and sequences.
+    /// The depth to which groups and sequences nest.
     pub(crate) depth: u32,
 }
 
 impl Extent {
-    /// No instruction.
+    /// Returns the extent of no instruction.
     fn nothing() -> Extent
         ensures { result ≡ nothing }
     {
         Extent { nodes: 0, depth: 0 }
     }
 
-    /// A field.
+    /// Returns the extent of a field.
     fn single() -> Extent
         ensures { result ≡ single }
     {
         Extent { nodes: 1, depth: 0 }
     }
 
-    /// Instructions before others.
+    /// Returns the extent of these instructions followed by others.
     fn beside(self, other: Extent) -> Extent
         ensures { result ≡ beside self other }
     {
@@ -42,7 +42,7 @@ impl Extent {
         }
     }
 
-    /// A group or a sequence of the instructions.
+    /// Returns the extent of a group or a sequence of the instructions.
     fn around(self) -> Extent
         ensures { result ≡ around self }
     {
@@ -53,7 +53,7 @@ impl Extent {
     }
 }
 
-/// What the template of the name comes to, if that is known.
+/// Returns the extent of the template with this name, if it is known.
 fn extent_named(
     names: &HashMap<String, u32>,
     extents: &[Option<Extent>],
@@ -65,7 +65,7 @@ fn extent_named(
     *extents.get(*number as usize)?
 }
 
-/// What the instructions come to, if that is known of each template that they refer to.
+/// Returns the extent of the instructions, if that of each template to which they refer is known.
 #[cycle(extents)]
 pub(crate) fn extent_of_fields(
     names: &HashMap<String, u32>,
@@ -81,7 +81,7 @@ pub(crate) fn extent_of_fields(
     Some(total)
 }
 
-/// What the instruction comes to, if that is known of each template that it refers to.
+/// Returns the extent of the instruction, if that of each template to which it refers is known.
 #[cycle(extents)]
 fn extent_of_instruction(
     names: &HashMap<String, u32>,

@@ -1,4 +1,4 @@
-//! What stands at the keys of a table of a template text.
+//! The values at the keys of a table of a template file.
 
 ghost use Rattle.std.specs.Prelude.{◌≡◌, map, option_map, Some, None, Err, IfOk, IfErr, string_bytes};
 ghost use Rattle.toml.specs.Data.{get_member};
@@ -9,23 +9,23 @@ use crate::names::is_name;
 use std::alloc::Global;
 use toml::{Table, Value};
 
-/// Why a part of a template text was not read.
+/// The reason why a part of a template file was not read.
 #[derive(Clone, Copy, PartialEq, Eq)]
 pub(crate) enum Unread {
     /// It is not of the stated shape.
     Shape,
-    /// There was no memory left.
+    /// An allocation failed.
     Memory,
 }
 
-/// What stands at a key.
+/// Returns the value at a key.
 pub(crate) fn value_at<'a>(table: &'a Table, key: &str) -> Option<&'a Value>
     ensures { option_map (λ v. view v.now) result ≡ get_member key.now (table_view table.now) }
 {
     table.get(key)
 }
 
-/// Whether the key is one of these.
+/// Returns whether the key is one of these.
 fn is_one_of(keys: &[&str], key: &str) -> bool
     ensures { result ≡ is_one_of (map (λ k. k.now) keys.now) key.now }
 {
@@ -37,7 +37,7 @@ fn is_one_of(keys: &[&str], key: &str) -> bool
     false
 }
 
-/// Whether the table has no key but these.
+/// Returns whether the table has no key but these.
 pub(crate) fn has_only(table: &Table, keys: &[&str]) -> bool
     ensures { result ≡ has_only (map (λ k. k.now) keys.now) (table_view table.now) }
 {
@@ -49,7 +49,7 @@ pub(crate) fn has_only(table: &Table, keys: &[&str]) -> bool
     true
 }
 
-/// The text at a key, if there is something.
+/// Returns the string at a key, if there is a value.
 pub(crate) fn text_at<'a>(table: &'a Table, key: &str) -> Result<Option<&'a str>, Unread>
     ensures text { IfOk result (λ o. text_of (get_member key.now (table_view table.now))
         ≡ Some (option_map (λ s. s.now) o)) }
@@ -64,7 +64,7 @@ pub(crate) fn text_at<'a>(table: &'a Table, key: &str) -> Result<Option<&'a str>
     }
 }
 
-/// The truth value at a key, or false.
+/// Returns the boolean at a key, or `false` if there is none.
 pub(crate) fn flag_at(table: &Table, key: &str) -> Result<bool, Unread>
     ensures flag { IfOk result (λ b. flag_of (get_member key.now (table_view table.now)) ≡ Some b) }
     ensures shape { result ≡ Err Unread.Shape → flag_of (get_member key.now (table_view table.now)) ≡ None }
@@ -78,7 +78,7 @@ pub(crate) fn flag_at(table: &Table, key: &str) -> Result<bool, Unread>
     }
 }
 
-/// The items of the array at a key, if there is something.
+/// Returns the items of the array at a key, if there is a value.
 pub(crate) fn items_at<'a>(table: &'a Table, key: &str) -> Result<&'a [Value], Unread>
     ensures items { IfOk result (λ xs. items_of (get_member key.now (table_view table.now))
         ≡ Some (items_view xs.now)) }
@@ -93,7 +93,7 @@ pub(crate) fn items_at<'a>(table: &'a Table, key: &str) -> Result<&'a [Value], U
     }
 }
 
-/// The name at a key.
+/// Returns the name at a key.
 pub(crate) fn name_at<'a>(table: &'a Table, key: &str) -> Result<&'a str, Unread>
     ensures name { IfOk result (λ s. name_of (get_member key.now (table_view table.now)) ≡ Some s.now) }
     ensures shape { result ≡ Err Unread.Shape → name_of (get_member key.now (table_view table.now)) ≡ None }
@@ -107,7 +107,7 @@ pub(crate) fn name_at<'a>(table: &'a Table, key: &str) -> Result<&'a str, Unread
     Ok(name)
 }
 
-/// The text at a key in memory of its own, if there is something.
+/// Copies the string at a key, if there is a value.
 pub(crate) fn string_at(alloc: Global, table: &Table, key: &str) -> Result<Option<String>, Unread>
     ensures text { IfOk result (λ o. text_of (get_member key.now (table_view table.now))
         ≡ Some (option_map string_bytes o)) }
@@ -122,7 +122,7 @@ pub(crate) fn string_at(alloc: Global, table: &Table, key: &str) -> Result<Optio
     }
 }
 
-/// Whether a name stands there, if something does.
+/// Returns whether the string is a name, if there is one.
 pub(crate) fn is_name_or_none(text: Option<&String>) -> bool
     ensures { result ≡ name_or_none (option_map (λ s. string_bytes s.now) text.entry) }
 {
@@ -132,14 +132,14 @@ pub(crate) fn is_name_or_none(text: Option<&String>) -> bool
     }
 }
 
-/// Whether the text names a dictionary.
+/// Returns whether the string names a dictionary.
 pub(crate) fn is_dictionary(name: &str) -> bool
     ensures { result ≡ is_dictionary name.now }
 {
     is_name(name) && name != "type"
 }
 
-/// A text in memory of its own.
+/// Copies a string.
 pub(crate) fn owned(alloc: Global, text: &str) -> Result<String, Unread>
     ensures text { IfOk result (λ s. string_bytes s ≡ text.now) }
     ensures memory { IfErr result (λ e. e ≡ Unread.Memory) }

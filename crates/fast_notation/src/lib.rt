@@ -1,4 +1,4 @@
-//! The TOML notation of template sets: from a text to its templates, with all faults found and references in place.
+//! The TOML notation of template sets: from a file to its templates, with all faults reported and references expanded.
 #![tactic(auto)]
 
 mod building;

@@ -13,7 +13,7 @@ use fast_tree::Operator;
 use std::alloc::Global;
 use toml::Table;
 
-/// The operator of a name in a template text.
+/// Returns the operator with this name in a template file.
 pub fn operator_named(name: &str) -> Option<Operator>
     ensures { result ≡ operator_named name.now }
 {
@@ -29,7 +29,7 @@ pub fn operator_named(name: &str) -> Option<Operator>
     }
 }
 
-/// The operator of a table, which is none where nothing is written.
+/// Returns the operator of a table, which is none if nothing is written.
 fn operator_at(table: &Table) -> Result<Operator, Unread>
     ensures operator { IfOk result (λ o. operator_of (get_member (codes "op") (table_view table.now)) ≡ Some o) }
     ensures shape { result ≡ Err Unread.Shape → operator_of (get_member (codes "op") (table_view table.now)) ≡ None }
@@ -43,7 +43,7 @@ fn operator_at(table: &Table) -> Result<Operator, Unread>
     }
 }
 
-/// Whether the name of a dictionary stands there, if something does.
+/// Returns whether the string names a dictionary, if there is one.
 fn is_dictionary_or_none(text: Option<&String>) -> bool
     ensures { result ≡ dictionary_or_none (option_map (λ s. string_bytes s.now) text.entry) }
 {
@@ -53,7 +53,7 @@ fn is_dictionary_or_none(text: Option<&String>) -> bool
     }
 }
 
-/// Whether the operator takes what is written beside it.
+/// Returns whether the operator allows the keys that are written beside it.
 fn is_in_use(written: &WrittenOperator) -> bool
     ensures { result ≡ takes written.now.operator (operator_data written.now) }
 {
@@ -68,7 +68,7 @@ fn is_in_use(written: &WrittenOperator) -> bool
     }
 }
 
-/// The operator that the four keys of a table write.
+/// Reads the operator that the four keys of a table write.
 pub(crate) fn operator_in(alloc: Global, table: &Table) -> Result<WrittenOperator, Unread>
     ensures written { IfOk result (λ w. written_of (table_view table.now) ≡ Some (operator_data w)) }
     ensures shape { result ≡ Err Unread.Shape → written_of (table_view table.now) ≡ None }
@@ -89,7 +89,7 @@ pub(crate) fn operator_in(alloc: Global, table: &Table) -> Result<WrittenOperato
     Ok(written)
 }
 
-/// The operator of the part at a key, which has none where nothing is written.
+/// Reads the operator of the part at a key, which has none if nothing is written.
 pub(crate) fn part_at(alloc: Global, table: &Table, key: &str) -> Result<WrittenOperator, Unread>
     ensures part { IfOk result (λ w. part_of operator_keys (get_member key.now (table_view table.now))
         ≡ Some (operator_data w)) }
@@ -108,7 +108,7 @@ pub(crate) fn part_at(alloc: Global, table: &Table, key: &str) -> Result<Written
     operator_in(alloc, part)
 }
 
-/// No operator.
+/// Returns no operator.
 pub(crate) fn plain() -> WrittenOperator
     ensures { operator_data result ≡ plain }
 {

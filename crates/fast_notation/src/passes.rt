@@ -1,4 +1,4 @@
-//! The first five passes over the text of a template set, in their order.
+//! The first five passes over a template file, in their order.
 
 ghost use Rattle.std.specs.Prelude.{◌≡◌, ℕ, List, nat_eq, IfOk, IfErr};
 ghost use Rattle.std.specs.HashMap.{get, get_by_text};
@@ -15,7 +15,7 @@ use crate::written::WrittenTemplate;
 use std::alloc::Global;
 use std::collections::HashMap;
 
-/// A set as it is written, with the number of each template by its name and by its identifier.
+/// A written set, with the number of each template by its name and by its identifier.
 #[derive(Drop)]
 pub(crate) struct WrittenSet {
     pub(crate) templates: Vec<WrittenTemplate>,
@@ -23,8 +23,7 @@ pub(crate) struct WrittenSet {
     pub(crate) ids: HashMap<u32, u32>,
 }
 
-/// The set that a text writes, where the first five passes find no fault: shape, names, identifiers, operators,
-/// references.
+/// Reads the written set of a file, in which the first five passes find no fault: shape, names, identifiers, operators, references.
 pub(crate) fn read_set(alloc: Global, text: &str) -> Result<WrittenSet, StaticFault>
     ensures set { IfOk result (λ s. IsWellWritten (parse_document text.now) (templates_data s.templates.items)) }
     ensures names { IfOk result (λ s. (q : List ℕ)

@@ -1,4 +1,4 @@
-//! From the text of a template set to its templates and nodes.
+//! Reads a template file into templates and nodes.
 
 ghost use Rattle.std.specs.Prelude.{◌≡◌, ◌≢◌, Some, IfOk, IfErr};
 ghost use Rattle.toml.specs.Data.{Members};
@@ -18,12 +18,12 @@ use crate::sets::CheckedSet;
 use std::alloc::Global;
 
 impl CheckedSet {
-    /// Reads a set from its TOML text: the array `template` of tables, one for each template.
+    /// Reads a set from the contents of a TOML file: the array `template` of tables, one for each template.
     ///
     /// # Errors
     ///
-    /// The fault of the first pass that finds one, at the first template at which it stands: S1, C1, C2, S2 to S5, D8,
-    /// C3, C4, C6, C5. Or that there was no memory left.
+    /// The fault of the first pass that finds one, at the first template that has it: S1, C1, C2, S2 to S5, D8, C3, C4, C6, C5. Or that an
+    /// allocation failed.
     pub fn read(alloc: Global, text: &str) -> Result<CheckedSet, StaticFault>
         ensures read { IfOk result (λ s. (document : Members) × (parse_document text.now ≡ Some document)
             × IsTree document (tree_of_set s)) }

@@ -1,4 +1,4 @@
-//! From the tables of a template text to template sets as they are written.
+//! Reads the tables of a template file into written template sets.
 
 ghost use Rattle.std.specs.Prelude.{◌≡◌, codes, option_map, Some, None, Err, IfOk, string_bytes};
 ghost use Rattle.toml.specs.Data.{get_member};
@@ -16,7 +16,7 @@ use fast_value::Kind;
 use std::alloc::Global;
 use toml::{Table, Value};
 
-/// The kind of a name.
+/// Returns the type of a name.
 fn kind_named(name: &str) -> Option<Kind>
     ensures { result ≡ kind_named name.now }
 {
@@ -33,7 +33,7 @@ fn kind_named(name: &str) -> Option<Kind>
     }
 }
 
-/// The name of a length, if it has one.
+/// Returns the name of a length, if it has one.
 fn own_name_at(alloc: Global, table: &Table) -> Result<Option<String>, Unread>
     ensures name { IfOk result (λ o. own_name_of (get_member (codes "name") (table_view table.now))
         ≡ Some (option_map string_bytes o)) }
@@ -53,7 +53,7 @@ struct WrittenLength {
     operator: WrittenOperator,
 }
 
-/// The length that a table writes.
+/// Reads the length that a table writes.
 fn length_at(alloc: Global, table: &Table) -> Result<WrittenLength, Unread>
     ensures length { IfOk result (λ l. length_of (get_member (codes "length") (table_view table.now))
         ≡ Some (option_map string_bytes l.name, operator_data l.operator)) }
@@ -76,7 +76,7 @@ fn length_at(alloc: Global, table: &Table) -> Result<WrittenLength, Unread>
     Ok(WrittenLength { name, operator })
 }
 
-/// A field of a kind.
+/// Reads a field of a type.
 fn scalar_in(alloc: Global, table: &Table, kind: Kind) -> Result<WrittenInstruction, Unread>
     ensures scalar { IfOk result (λ w. scalar_of kind (table_view table.now) ≡ Some (instruction_data w)) }
     ensures shape { result ≡ Err Unread.Shape → scalar_of kind (table_view table.now) ≡ None }
@@ -107,7 +107,7 @@ fn scalar_in(alloc: Global, table: &Table, kind: Kind) -> Result<WrittenInstruct
     })
 }
 
-/// A decimal by parts.
+/// Reads a decimal by parts.
 fn parts_in(alloc: Global, table: &Table) -> Result<WrittenInstruction, Unread>
     ensures parts { IfOk result (λ w. parts_of (table_view table.now) ≡ Some (instruction_data w)) }
     ensures shape { result ≡ Err Unread.Shape → parts_of (table_view table.now) ≡ None }
@@ -128,7 +128,7 @@ fn parts_in(alloc: Global, table: &Table) -> Result<WrittenInstruction, Unread>
     })
 }
 
-/// A group of these instructions.
+/// Reads a group of these instructions.
 fn group_in(
     alloc: Global,
     table: &Table,
@@ -152,7 +152,7 @@ fn group_in(
     })
 }
 
-/// A sequence of elements of these instructions.
+/// Reads a sequence of elements of these instructions.
 fn sequence_in(
     alloc: Global,
     table: &Table,
@@ -179,7 +179,7 @@ fn sequence_in(
     })
 }
 
-/// A reference to a template.
+/// Reads a reference to a template.
 fn reference_in(alloc: Global, table: &Table) -> Result<WrittenInstruction, Unread>
     ensures reference { IfOk result (λ w. reference_of (table_view table.now) ≡ Some (instruction_data w)) }
     ensures shape { result ≡ Err Unread.Shape → reference_of (table_view table.now) ≡ None }
@@ -191,7 +191,7 @@ fn reference_in(alloc: Global, table: &Table) -> Result<WrittenInstruction, Unre
     Ok(WrittenInstruction::Reference(name))
 }
 
-/// A field of a kind, which is a decimal by parts where it has one.
+/// Reads a field of a type, which is a decimal by parts if the table has a part.
 fn field_in(alloc: Global, table: &Table, kind: Kind) -> Result<WrittenInstruction, Unread>
     ensures field { IfOk result (λ w. field_of kind (table_view table.now) ≡ Some (instruction_data w)) }
     ensures shape { result ≡ Err Unread.Shape → field_of kind (table_view table.now) ≡ None }
@@ -202,14 +202,14 @@ fn field_in(alloc: Global, table: &Table, kind: Kind) -> Result<WrittenInstructi
     }
 }
 
-/// Whether a decimal's table has a part.
+/// Returns whether a decimal's table has a part.
 fn has_part(table: &Table) -> bool
     ensures { result ≡ has_part (table_view table.now) }
 {
     value_at(table, "exponent").is_some() || value_at(table, "mantissa").is_some()
 }
 
-/// The instructions of the items of an array.
+/// Reads the instructions of the items of an array.
 #[cycle(fields)]
 fn fields_in(alloc: Global, items: &[Value]) -> Result<Vec<WrittenInstruction>, Unread>
     ensures fields { IfOk result (λ v. all_fields (items_view items.now) ≡ Some (fields_data v.items)) }
@@ -226,7 +226,7 @@ fn fields_in(alloc: Global, items: &[Value]) -> Result<Vec<WrittenInstruction>, 
     Ok(fields)
 }
 
-/// The instructions at the key `fields` of a table, if there are some.
+/// Reads the instructions at the key `fields` of a table, if there are any.
 #[cycle(fields)]
 pub(crate) fn nested_fields(alloc: Global, table: &Table) -> Result<Vec<WrittenInstruction>, Unread>
     ensures fields { IfOk result (λ v. fields_of (table_view table.now) ≡ Some (fields_data v.items)) }
@@ -236,7 +236,7 @@ pub(crate) fn nested_fields(alloc: Global, table: &Table) -> Result<Vec<WrittenI
     fields_in(alloc, items)
 }
 
-/// The instruction of a table.
+/// Reads the instruction of a table.
 #[cycle(fields)]
 fn instruction_in(alloc: Global, value: &Value) -> Result<WrittenInstruction, Unread>
     ensures instruction { IfOk result (λ w. declared_of (view value.now) ≡ Some (instruction_data w)) }

@@ -1,4 +1,4 @@
-//! Operators where they are used, and the texts in which they stand.
+//! The uses of operators, and the templates in whose scope they are.
 
 ghost use Rattle.std.specs.Prelude.{◌≡◌, option_map, string_bytes};
 ghost use Rattle.fast_tree.specs.meaning.AsWritten.{scalar_use, exponent_use, mantissa_use, length_use};
@@ -9,14 +9,14 @@ use crate::uses::OperatorPart;
 use crate::written::WrittenOperator;
 use fast_value::Kind;
 
-/// The text of a template: its number, and the dictionary of the operators that name none.
+/// The scope of a template: its number, and the dictionary of the operators that name none.
 #[derive(Clone, Copy)]
 pub(crate) struct TextScope<'a> {
     pub(crate) template: u32,
     pub(crate) dictionary: &'a str,
 }
 
-/// An operator where it is used, with the key that it has if none is written.
+/// A use of an operator, with the key that it has if none is written.
 #[derive(Clone, Copy)]
 pub(crate) struct OperatorUse<'a> {
     pub(crate) kind: Kind,
@@ -26,7 +26,7 @@ pub(crate) struct OperatorUse<'a> {
     pub(crate) written: &'a WrittenOperator,
 }
 
-/// The use of an operator by a field.
+/// Returns the use of an operator by a field.
 pub(crate) fn scalar_use<'a>(
     name: &'a str,
     optional: bool,
@@ -45,7 +45,7 @@ pub(crate) fn scalar_use<'a>(
     }
 }
 
-/// The use of an operator by the exponent of a decimal.
+/// Returns the use of an operator by the exponent of a decimal.
 pub(crate) fn exponent_use<'a>(
     name: &'a str,
     optional: bool,
@@ -63,7 +63,7 @@ pub(crate) fn exponent_use<'a>(
     }
 }
 
-/// The use of an operator by the mantissa of a decimal.
+/// Returns the use of an operator by the mantissa of a decimal.
 pub(crate) fn mantissa_use<'a>(name: &'a str, written: &'a WrittenOperator) -> OperatorUse<'a>
     ensures use_of { use_data result ≡ mantissa_use name.now (operator_data written.now) }
     ensures exponent { result.part ≡ OperatorPart.Exponent → result.kind ≡ Kind.Int32 }
@@ -77,7 +77,7 @@ pub(crate) fn mantissa_use<'a>(name: &'a str, written: &'a WrittenOperator) -> O
     }
 }
 
-/// The use of an operator by the length of a sequence, which is a field if it has a name of its own.
+/// Returns the use of an operator by the length of a sequence, which is a field if it has a name of its own.
 pub(crate) fn length_use<'a>(
     name: &'a str,
     optional: bool,

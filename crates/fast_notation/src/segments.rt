@@ -10,7 +10,7 @@ ghost use Rattle.fast_tree.specs.meaning.Tree.{bits_of, TemplateData};
 use crate::limits::SEGMENT_LIMIT;
 use fast_tree::{Node, Shape, Template};
 
-/// The bits that the instructions of a segment use.
+/// Counts the bits that the instructions of a segment use.
 fn segment_bits(nodes: &[Node], body: &[u32]) -> usize
     requires later { NameLaterNodes nodes.now }
     requires below { AreBelow (length nodes.now) body.now }
@@ -23,7 +23,7 @@ fn segment_bits(nodes: &[Node], body: &[u32]) -> usize
     bits
 }
 
-/// Whether a segment has at most so many bits, and each one inside it at most those of a presence map.
+/// Returns whether a segment has at most `limit` bits, and each one inside it at most those of a presence map.
 #[cycle(segments)]
 fn is_narrow_segment(nodes: &[Node], body: &[u32], limit: usize) -> bool
     requires later { NameLaterNodes nodes.now }
@@ -41,7 +41,7 @@ fn is_narrow_segment(nodes: &[Node], body: &[u32], limit: usize) -> bool
     true
 }
 
-/// Whether each segment inside a node has at most the bits of a presence map.
+/// Returns whether each segment inside a node has at most the bits of a presence map.
 #[cycle(segments)]
 fn is_narrow_inside(nodes: &[Node], number: usize) -> bool
     requires later { NameLaterNodes nodes.now }
@@ -56,7 +56,7 @@ fn is_narrow_inside(nodes: &[Node], number: usize) -> bool
     }
 }
 
-/// Whether no segment of a template has more bits than a presence map. A message's own has the identifier's bit too.
+/// Returns whether no segment of a template has more bits than a presence map. A message's own has the identifier's bit too.
 fn is_narrow(nodes: &[Node], template: &Template) -> bool
     requires later { NameLaterNodes nodes.now }
     requires below { AreBelow (length nodes.now) template.now.body.items }
@@ -65,7 +65,7 @@ fn is_narrow(nodes: &[Node], template: &Template) -> bool
     is_narrow_segment(nodes, &template.body, SEGMENT_LIMIT - 1)
 }
 
-/// The first template that has a segment of too many bits, if there is one.
+/// Finds the first template that has a segment of too many bits, and returns its number as the error.
 pub(crate) fn check_segments(nodes: &[Node], templates: &[Template]) -> Result<(), u32>
     requires later { NameLaterNodes nodes.now }
     requires named { NameNodes (length nodes.now) templates.now }

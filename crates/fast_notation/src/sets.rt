@@ -1,4 +1,4 @@
-//! Sets that were read of a text.
+//! Sets that were read from a file.
 
 ghost use Rattle.std.specs.Prelude.{◌≡◌, ℕ, List, ◌≤◌, ◌<◌, ◌^◌, length, nat_eq};
 ghost use Rattle.std.specs.HashMap.{get, get_by_text};
@@ -10,11 +10,11 @@ ghost use Rattle.fast_tree.specs.device.Usable.{AreUsable};
 use fast_tree::{Node, Template};
 use std::collections::HashMap;
 
-/// A set in which no pass finds a fault: its templates, its nodes in preorder, with references in place, the number of its
-/// dictionary entries, and the number of each template by its name and by its identifier.
+/// A set in which no pass finds a fault: its templates, its nodes in preorder with references expanded, the number of its dictionary
+/// entries, and the number of each template by its name and by its identifier.
 #[derive(Debug, Drop)]
 pub struct CheckedSet {
-    /// The templates, in the order of the text.
+    /// The templates, in the order of the file.
     pub templates: Vec<Template>,
     /// The nodes of all templates.
     pub nodes: Vec<Node>,

@@ -1,4 +1,4 @@
-//! The fourth pass: whether operators suit their types, and initial values mean something.
+//! The fourth pass: operators suit their types, and initial values are values of their types.
 
 ghost use Rattle.std.specs.Prelude.{◌≡◌, ◌≢◌, ◌↔◌, IsTrue, IfOk, IfErr, OnOk, Err, All, [], option_map, string_bytes};
 ghost use Rattle.fast_value.specs.declared.kinds.Kind.{Kind};
@@ -15,7 +15,7 @@ use fast_tree::Operator;
 use fast_value::{InitialFault, Kind, Value, parse_initial};
 use std::alloc::Global;
 
-/// What an operator is used on: a scalar, the exponent or the mantissa of a decimal, or the length of a sequence.
+/// The part that an operator is used on: a scalar, the exponent or the mantissa of a decimal, or the length of a sequence.
 #[derive(Clone, Copy, PartialEq, Eq, Hash)]
 pub(crate) enum OperatorPart {
     /// A scalar, or a length with a name of its own.
@@ -28,7 +28,7 @@ pub(crate) enum OperatorPart {
     Length,
 }
 
-/// Whether an operator suits a type.
+/// Returns whether an operator suits a type.
 fn suits(operator: Operator, kind: Kind) -> bool
     ensures { result ≡ suits operator (family kind) }
 {
@@ -45,7 +45,7 @@ fn suits(operator: Operator, kind: Kind) -> bool
     }
 }
 
-/// Whether an initial value lies in the range of exponents.
+/// Returns whether an initial value lies in the range of exponents.
 fn is_exponent(value: &Value) -> bool
     ensures { IsTrue result ↔ IsWithin exponent_range (integer_of (value_data value.now)) }
 {
@@ -56,7 +56,7 @@ fn is_exponent(value: &Value) -> bool
     }
 }
 
-/// The value that the text of an initial value means.
+/// Returns the initial value that a string gives for a part of a field of this type.
 pub(crate) fn initial_in(
     alloc: Global,
     part: OperatorPart,
@@ -131,7 +131,7 @@ fn check_length(
     }
 }
 
-/// Checks the uses of operators by instructions, in the order of the text.
+/// Checks the uses of operators by instructions, in the order of the file.
 #[cycle(uses)]
 pub(crate) fn check_fields(alloc: Global, fields: &[WrittenInstruction]) -> Result<(), StaticCode>
     ensures sound { OnOk result (All IsSound (uses_in fields.now)) }

@@ -1,11 +1,11 @@
-//! Template sets as they are written, before references are put in place.
+//! Template sets as they are written, before references are expanded.
 
 ghost use Rattle.std.specs.Prelude.{◌≡◌};
 
 use fast_tree::Operator;
 use fast_value::Kind;
 
-/// An operator with its initial value, key and dictionary, each only where it is written.
+/// An operator with its initial value, key and dictionary, each only if it is written.
 #[derive(Drop)]
 pub(crate) struct WrittenOperator {
     pub(crate) operator: Operator,
@@ -37,7 +37,7 @@ pub(crate) enum WrittenInstruction {
         optional: bool,
         fields: Vec<WrittenInstruction>,
     },
-    /// A sequence, with the name of its length where that has one.
+    /// A sequence, with the name of its length if that has one.
     Sequence {
         name: String,
         optional: bool,
@@ -61,7 +61,7 @@ pub(crate) struct WrittenTemplate {
 }
 
 impl WrittenTemplate {
-    /// What a reference to the template stands for.
+    /// Returns the instructions that a reference to the template expands to.
     pub(crate) fn instructions(&self) -> &[WrittenInstruction]
         ensures { result.now ≡ self.now.fields.items }
     {

@@ -1,4 +1,4 @@
-//! The parts that building puts together: initial values, nodes and templates.
+//! The parts from which a set is built: initial values, nodes and templates.
 
 ghost use Rattle.std.specs.Prelude.{false, ◌≡◌, ◌<◌, ◌++◌, ◌∷◌, [], length, map, option_map, IfOk, OnOk, string_bytes};
 ghost use Rattle.fast_value.specs.meaning.Values.{value_data};
@@ -20,7 +20,7 @@ use fast_tree::{Node, Shape, Template};
 use fast_value::Value;
 use std::alloc::{AllocError, Global};
 
-/// The initial value of an operator, where it has one.
+/// Returns the initial value of an operator, if it has one.
 pub(crate) fn initial_of(alloc: Global, used: OperatorUse<'_>) -> Result<Option<Value>, AllocError>
     requires sound { IsSound (use_data used) }
     requires exponent { used.part ≡ OperatorPart.Exponent → used.kind ≡ Kind.Int32 }
@@ -37,7 +37,7 @@ pub(crate) fn initial_of(alloc: Global, used: OperatorUse<'_>) -> Result<Option<
     }
 }
 
-/// The name of a node that comes behind so many, whose number is put behind those of its body.
+/// Copies the name of the next node, and appends the node's number to those of its body.
 fn name_of(
     alloc: Global,
     count: usize,
@@ -52,7 +52,7 @@ fn name_of(
     String::from_str(alloc, name)
 }
 
-/// Puts a node behind the others.
+/// Appends a node.
 fn push_node(nodes: &mut Vec<Node>, node: Node) -> Result<(), AllocError>
     ensures { OnOk result (data_of nodes.new ≡ data_of nodes.old ++ node_data node ∷ []) }
 {
@@ -60,7 +60,7 @@ fn push_node(nodes: &mut Vec<Node>, node: Node) -> Result<(), AllocError>
     Ok(())
 }
 
-/// Puts a node behind the others, and its number behind those of its body.
+/// Appends a node, and its number to those of its body.
 pub(crate) fn add_node(
     alloc: Global,
     nodes: &mut Vec<Node>,
@@ -77,7 +77,7 @@ pub(crate) fn add_node(
     push_node(nodes, Node { name, shape })
 }
 
-/// The shape of a node whose body is not built yet.
+/// Returns the shape of a node whose body is not built yet.
 pub(crate) fn empty_group(alloc: Global) -> Shape
     ensures { shape_data result ≡ a_group false [] }
 {
@@ -87,7 +87,7 @@ pub(crate) fn empty_group(alloc: Global) -> Shape
     }
 }
 
-/// Gives a node its shape.
+/// Sets the shape of a node.
 pub(crate) fn set_shape(nodes: &mut [Node], number: usize, shape: Shape)
     requires { number < length nodes.old }
     ensures { map node_data nodes.new ≡ with_shape (map node_data nodes.old) number (shape_data shape) }
@@ -95,7 +95,7 @@ pub(crate) fn set_shape(nodes: &mut [Node], number: usize, shape: Shape)
     nodes[number].shape = shape;
 }
 
-/// The template that is written, with the nodes of its body.
+/// Returns the template of a written one, with the nodes of its body.
 pub(crate) fn template_of(
     alloc: Global,
     written: &WrittenTemplate,
