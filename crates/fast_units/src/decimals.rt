@@ -1,4 +1,4 @@
-//! Decimals: their two units, exponent and mantissa, and what these leave in the dictionary.
+//! Decimals: their two units, exponent and mantissa, and their effect on the dictionary.
 
 ghost use Rattle.std.specs.Prelude.{false, Some, ◌≡◌, ◌≢◌, ℕ, ◌<◌, ◌≤◌, List, [], ℤ, pos, neg_ℤ, ◌≤ℤ◌, Ok};
 ghost use Rattle.fast_value.specs.meaning.Kinds.{Dec, decimals, family, signed_range};
@@ -25,8 +25,7 @@ use fast_dict::operators::integers::{range_of, sum_in};
 use fast_tree::{FieldInstruction, Operator};
 use fast_value::{Code, Kind, Limits};
 
-/// The first unit of a decimal that stands in the stream: its exponent, or the delta of its exponent. Where there is none the
-/// decimal is absent.
+/// Reads the first unit of a decimal in the stream: its exponent, or the delta of its exponent. If that is NULL, the decimal is absent.
 #[inline(always)]
 pub fn take_exponent(
     slots: &mut Slots,
@@ -50,7 +49,7 @@ pub fn take_exponent(
     }
 }
 
-/// The exponent of a decimal, or NULL, under no delta.
+/// Reads the exponent of a decimal, or NULL, under an operator other than delta.
 fn take_exponent_item(
     slots: &mut Slots,
     pending: &mut Pending,
@@ -88,7 +87,7 @@ fn take_exponent_item(
     }
 }
 
-/// An exponent in range.
+/// Returns an exponent that lies in range.
 #[inline]
 fn exponent(exponent: i128) -> i32
     requires low { neg_ℤ (pos 63) ≤ℤ exponent }
@@ -98,7 +97,7 @@ fn exponent(exponent: i128) -> i32
     exponent as i32
 }
 
-/// The delta of a decimal's exponent, or NULL, which leaves the entry as it is and does not look at it.
+/// Reads the delta of a decimal's exponent, or NULL, which leaves the entry unchanged and does not look at it.
 fn take_exponent_delta(
     slots: &mut Slots,
     pending: &mut Pending,
@@ -141,7 +140,7 @@ fn take_exponent_delta(
     }
 }
 
-/// The second unit of a decimal, behind its exponent: the mantissa.
+/// Reads the second unit of a decimal, after its exponent: the mantissa.
 pub fn take_mantissa(
     slots: &mut Slots,
     pending: &mut Pending,
@@ -171,7 +170,7 @@ pub fn take_mantissa(
     }
 }
 
-/// A decimal.
+/// Returns the decimal of an exponent and a mantissa in range.
 #[inline]
 pub fn decimal(exponent: i32, mantissa: i128) -> Number
     requires low { (signed_range 63).low ≤ℤ mantissa }
@@ -184,7 +183,7 @@ pub fn decimal(exponent: i32, mantissa: i128) -> Number
     }
 }
 
-/// The second unit of a decimal under a delta, of which this is the exponent: the delta of the mantissa.
+/// Reads the second unit of a decimal under delta, after its exponent: the delta of the mantissa.
 pub fn take_mantissa_delta(
     slots: &mut Slots,
     pending: &mut Pending,
@@ -213,7 +212,7 @@ pub fn take_mantissa_delta(
     }
 }
 
-/// A decimal behind the delta of its mantissa, which the entry then holds.
+/// Returns the decimal after the delta of its mantissa, which the entry then holds.
 #[inline]
 fn change_mantissa(
     slots: &mut Slots,

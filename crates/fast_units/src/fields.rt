@@ -1,4 +1,4 @@
-//! Fields and their entries: where values stand, and what a field leaves of which nothing is sent.
+//! Fields and their entries: the sources of their values, and the values of fields of which nothing is sent.
 
 ghost use Rattle.std.specs.Prelude.{◌≡◌, ◌≢◌, IfSome, [], ℕ, ◌^◌, true, false, List, Some, None, Ok, option_map, pos, neg_ℤ, ◌≤ℤ◌};
 ghost use Rattle.fast_value.specs.meaning.Kinds.{integer_of, value_of_integer, value_of_text};
@@ -44,7 +44,7 @@ pub enum Number {
 }
 
 impl Number {
-    /// An integer as a value of a kind.
+    /// Returns an integer as a value of a type.
     #[inline]
     pub fn of_integer(kind: Kind, integer: i128) -> Number
         requires low { neg_ℤ (pos (2 ^ 63)) ≤ℤ integer }
@@ -57,7 +57,7 @@ impl Number {
         }
     }
 
-    /// The number as a value that is lent.
+    /// Returns the number as a borrowed value.
     #[inline]
     pub fn as_scalar(self) -> Scalar<'static>
         ensures { scalar_data result ≡ number_data self }
@@ -69,7 +69,7 @@ impl Number {
         }
     }
 
-    /// What an entry holds that keeps the number under the kind.
+    /// Returns the entry that holds the number under the type.
     #[inline(always)]
     pub fn held_under(self, kind: Kind) -> Entry
         ensures value { with_text result [] ≡ assigned kind (number_data self) }
@@ -82,7 +82,7 @@ impl Number {
         }
     }
 
-    /// Where the number stands: at hand.
+    /// Returns the source that holds the number itself.
     #[inline]
     pub fn source(self) -> ValueSource
         ensures { (f : FieldData) (d : Dictionary) (scratch piece : List ℕ)
@@ -96,7 +96,7 @@ impl Number {
     }
 }
 
-/// Where a number stands that is at hand, or NULL.
+/// Returns the source that holds a number itself, or absence for NULL.
 #[inline(always)]
 pub fn source_of(item: Option<Number>) -> ValueSource
     ensures { result ≡ source_of item }
@@ -107,7 +107,7 @@ pub fn source_of(item: Option<Number>) -> ValueSource
     }
 }
 
-/// Whether the field stands in the stream.
+/// Returns whether the field has bytes in the stream.
 #[inline]
 pub fn needs_bytes(field: &FieldInstruction, bit: bool) -> bool
     ensures needed { result ≡ needs_bytes field.now.operator bit }
@@ -120,7 +120,7 @@ pub fn needs_bytes(field: &FieldInstruction, bit: bool) -> bool
     is_needed(field.operator, bit)
 }
 
-/// Whether a field stands in the stream, by its operator.
+/// Returns whether a field has bytes in the stream, by its operator.
 #[inline]
 fn is_needed(operator: Operator, bit: bool) -> bool
     ensures { result ≡ needs_bytes operator bit }
@@ -132,7 +132,7 @@ fn is_needed(operator: Operator, bit: bool) -> bool
     }
 }
 
-/// What the field's entry holds. Without an entry it is undefined.
+/// Returns the contents of the field's entry. Without an entry it is undefined.
 #[inline(always)]
 pub fn previous<'s>(slots: &'s Slots, field: &FieldInstruction) -> Previous<'s>
     requires within { HasEntryOf slots.now field.now }
@@ -144,7 +144,7 @@ pub fn previous<'s>(slots: &'s Slots, field: &FieldInstruction) -> Previous<'s>
     }
 }
 
-/// Assigns a value to the field's entry, if it has one. It wants no memory.
+/// Assigns a value to the field's entry, if it has one. It does not allocate.
 #[inline(always)]
 pub fn assign(slots: &mut Slots, field: &FieldInstruction, value: Scalar<'_>)
     requires within { HasEntryOf slots.old field.now }
@@ -173,7 +173,7 @@ pub fn assign_empty(slots: &mut Slots, field: &FieldInstruction)
     }
 }
 
-/// Keeps a number at the field's entry, if it has one, and says where it stands.
+/// Stores a number at the field's entry, if it has one, and returns its source.
 #[inline]
 pub fn keep(slots: &mut Slots, field: &FieldInstruction, number: Number) -> ValueSource
     requires within { HasEntryOf slots.old field.now }
@@ -188,7 +188,7 @@ pub fn keep(slots: &mut Slots, field: &FieldInstruction, number: Number) -> Valu
     number.source()
 }
 
-/// The number of an entry under this kind.
+/// Returns the number of an entry under this type.
 #[inline(always)]
 pub fn number_under(kind: Kind, entry: Entry) -> Option<Number>
     ensures { IfSome result (λ n. (text : List ℕ) → with_text entry text ≡ assigned kind (number_data n)) }
@@ -205,12 +205,12 @@ pub fn number_under(kind: Kind, entry: Entry) -> Option<Number>
     }
 }
 
-/// What a field leaves of which nothing is sent.
+/// Decodes a field of which nothing is sent, and changes its entry accordingly.
 ///
 /// # Errors
 ///
-/// D4 if the previous value is of another type; of a mandatory field D5 if there is neither a previous nor an initial value,
-/// and D6 if the previous value is empty.
+/// D4 if the previous value is of another type; of a mandatory field D5 if there is neither a previous nor an initial value, and D6 if the
+/// previous value is empty.
 #[inline(never)]
 pub fn unsent(slots: &mut Slots, field: &FieldInstruction, bit: bool) -> Result<ValueSource, Code>
     requires serves { ServesField slots.old field.now }
@@ -234,7 +234,7 @@ pub fn unsent(slots: &mut Slots, field: &FieldInstruction, bit: bool) -> Result<
     }
 }
 
-/// The initial value, if there is one, is what the entry then holds.
+/// Stores the initial value, if there is one, at the field's entry.
 fn start(slots: &mut Slots, field: &FieldInstruction)
     requires serves { ServesField slots.old field.now }
     ensures entry { slots_dictionary slots.new ≡ write_at (field_data field.now).entry
@@ -247,7 +247,7 @@ fn start(slots: &mut Slots, field: &FieldInstruction)
     }
 }
 
-/// One more than what the entry holds, which it then holds; absent, if it holds nothing.
+/// Increments the value of the field's entry, and returns its source: absent, if the entry holds no value.
 fn increase(slots: &mut Slots, field: &FieldInstruction) -> ValueSource
     requires serves { ServesField slots.old field.now }
     ensures settled { (scratch piece : List ℕ) → IsSettled
@@ -264,7 +264,7 @@ fn increase(slots: &mut Slots, field: &FieldInstruction) -> ValueSource
     }
 }
 
-/// One more, and behind the greatest value of the kind the least.
+/// Returns one more than the value; after the greatest value of the type comes the least.
 #[inline]
 fn next_number(kind: Kind, value: Scalar<'_>) -> Number
     ensures { number_data result
@@ -273,7 +273,7 @@ fn next_number(kind: Kind, value: Scalar<'_>) -> Number
     Number::of_integer(kind, integer_of(next_integer(kind, value)))
 }
 
-/// The value at a source, lent.
+/// Borrows the value at a source.
 #[inline(always)]
 pub fn value_at<'x>(
     slots: &'x Slots,
@@ -298,7 +298,7 @@ pub fn value_at<'x>(
     }
 }
 
-/// A text as a value of a kind of texts.
+/// Returns a string as a value of a string type.
 #[inline]
 pub fn text_value(kind: Kind, text: &[u8]) -> Scalar<'_>
     ensures { scalar_data result ≡ value_of_text kind text.now }

@@ -1,6 +1,6 @@
-//! Texts of which some bytes are in hand, and whose others stand in the piece: the commonest, which nothing keeps.
+//! Strings of which some bytes are buffered, and the others are in the piece: the commonest ones, which no entry holds.
 //!
-//! `None` stands for all else, faults included: nothing has changed then, and the general way finds out.
+//! `None` stands for all others, faults included: nothing has changed then, and the general path decodes them.
 
 ghost use Rattle.std.specs.Prelude.{◌≡◌, ◌<◌, ◌≤◌, [], length, IfSome, IfNone};
 ghost use Rattle.fast_value.specs.declared.settings.Limits.{Limits};
@@ -22,7 +22,7 @@ use fast_tree::{FieldInstruction, Operator};
 use fast_value::Kind;
 use fast_wire::find_stop;
 
-/// Completes the bytes of a vector without operator, and tells how many of the rest are its own. It stands in the scratch then.
+/// Completes the bytes of a vector without operator in the scratch, and returns the number of bytes of the rest that belong to it.
 #[inline(always)]
 pub fn held_vector(
     scratch: &mut Scratch,
@@ -55,8 +55,8 @@ pub fn held_vector(
     Some(missing)
 }
 
-/// Completes an ASCII text that is neither kept nor joined to another, of at most `room` characters, of which some are in hand, and tells how
-/// many bytes of the rest are its own. It stands in the scratch then.
+/// Completes an ASCII string of at most `room` characters in the scratch, which is neither kept nor joined to another and of which some
+/// characters are buffered, and returns the number of bytes of the rest that belong to it.
 #[inline(always)]
 pub fn held_ascii(
     scratch: &mut Scratch,

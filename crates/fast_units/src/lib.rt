@@ -1,4 +1,7 @@
-//! The units of FAST streams and the fields that stand in them, from the bytes of a piece to a value.
+//! The units of FAST streams and the fields that consist of them, from the bytes of a piece to a value.
+//!
+//! In this crate a *string* is an ASCII string, a Unicode string or a byte vector; a *vector* is one of the last two, whose bytes follow
+//! their size.
 #![tactic(auto)]
 
 pub mod decimals;

@@ -1,4 +1,4 @@
-//! Fields of integers: what their unit gives, and what it leaves in the dictionary; and what decimals share with them.
+//! Fields of integers: the values of their units, and their effect on the dictionary; and the code that decimals share with them.
 
 ghost use Rattle.std.specs.Prelude.{Some, ◌≡◌, ◌≢◌, ℕ, ◌<◌, true, List, [], Ok};
 ghost use Rattle.fast_value.specs.meaning.Kinds.{integers, texts, family};
@@ -21,7 +21,7 @@ use fast_dict::operators::integers::{integer_of, range_of, sum_in};
 use fast_tree::{FieldInstruction, Operator};
 use fast_value::{Code, Kind};
 
-/// All that an entity of ten bytes holds, also after the nullable form has taken its one away.
+/// All integers that an entity of ten bytes holds, also after the nullable form has subtracted its one.
 pub(crate) const DELTA: IntegerRange = IntegerRange::Signed(
     -590_295_810_358_705_651_712,
     590_295_810_358_705_651_711,
@@ -33,7 +33,7 @@ pub(crate) const MANTISSA: IntegerRange = IntegerRange::Signed(
     9_223_372_036_854_775_807,
 );
 
-/// The integers of a kind of integers, and the exponents of decimals.
+/// Returns the integers of an integer type, or the exponents of decimals.
 #[inline]
 pub(crate) fn range_on_wire(kind: Kind) -> IntegerRange
     ensures { range_data result ≡ range_of kind }
@@ -47,7 +47,7 @@ pub(crate) fn range_on_wire(kind: Kind) -> IntegerRange
     }
 }
 
-/// A number that is sent, or NULL, without an operator and under default, copy and increment: copy and increment keep it at the
+/// Decodes a number that is sent, or NULL, without an operator and under default, copy and increment: copy and increment store it at the
 /// field's entry, the others have none.
 #[inline(always)]
 pub(crate) fn received(
@@ -72,7 +72,7 @@ pub(crate) fn received(
     }
 }
 
-/// The integer that a delta is added to.
+/// Returns the integer that a delta is added to.
 #[inline(always)]
 fn base_integer(slots: &Slots, field: &FieldInstruction) -> Result<i128, Code>
     requires within { HasEntryOf slots.now field.now }
@@ -81,7 +81,7 @@ fn base_integer(slots: &Slots, field: &FieldInstruction) -> Result<i128, Code>
     Ok(integer_of(delta_base(field, previous(slots, field))?))
 }
 
-/// An integer behind its delta, which the entry then holds.
+/// Adds a delta to the base of an integer field. The entry then holds the sum.
 #[inline(always)]
 fn change_integer(
     slots: &mut Slots,
@@ -99,7 +99,7 @@ fn change_integer(
     Ok(keep(slots, field, Number::of_integer(field.kind, sum)))
 }
 
-/// What is decided behind so many bytes.
+/// Returns the result that is decided by this number of bytes.
 #[inline(always)]
 pub(crate) fn settled(answer: Result<ValueSource, Code>, bytes: usize) -> Progress<ValueSource>
     ensures { result ≡ progress_of answer bytes }
@@ -110,9 +110,9 @@ pub(crate) fn settled(answer: Result<ValueSource, Code>, bytes: usize) -> Progre
     }
 }
 
-/// The one unit of an integer field that stands in the stream.
+/// Reads the one unit of an integer field that is in the stream.
 ///
-/// Nothing changes before the unit is whole, but for the bytes in hand.
+/// Nothing changes before the unit is complete, except the buffered bytes.
 #[inline(always)]
 pub fn take_integer(
     slots: &mut Slots,
@@ -136,7 +136,7 @@ pub fn take_integer(
     }
 }
 
-/// An integer, or NULL, under no delta.
+/// Reads an integer, or NULL, under an operator other than delta.
 #[inline(always)]
 fn take_integer_item(
     slots: &mut Slots,
@@ -167,7 +167,7 @@ fn take_integer_item(
     }
 }
 
-/// The delta of an integer, or NULL, which leaves the entry as it is and does not look at it.
+/// Reads the delta of an integer, or NULL, which leaves the entry unchanged and does not look at it.
 #[inline(always)]
 fn take_integer_delta(
     slots: &mut Slots,

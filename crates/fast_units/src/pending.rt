@@ -1,4 +1,4 @@
-//! The bytes of an integer that a piece has cut, and how those of the next pieces complete it.
+//! The buffered bytes of an integer that a piece has split, which the bytes of the next pieces complete.
 
 ghost use Rattle.std.specs.Prelude.{◌≡◌, ◌⊎◌, ◌+◌, ◌<◌, ◌≤◌, ◌==◌, true, false, [], ◌++◌, length, take, Some, pos, IfOk, IfErr, IfSome, IfNone};
 ghost use Rattle.fast_wire.specs.meaning.Entities.{HaveNoStop, IsEntity};
@@ -13,7 +13,7 @@ use fast_wire::{
     read_unsigned,
 };
 
-/// The bytes in hand of an integer that isn't whole, or none: they have no stop bit, and there is room for one more.
+/// The buffered bytes of an incomplete integer, or none: they have no stop bit, and there is room for one more.
 #[derive(Drop)]
 pub struct Pending {
     bytes: Entity,
@@ -22,7 +22,7 @@ pub struct Pending {
 }
 
 impl Pending {
-    /// No byte is in hand.
+    /// Makes a buffer without bytes.
     #[inline]
     pub fn new() -> Pending
         ensures { result.bytes ≡ [] }
@@ -32,7 +32,7 @@ impl Pending {
         }
     }
 
-    /// Whether no byte is in hand.
+    /// Returns whether no byte is buffered.
     #[inline]
     pub fn is_empty(&self) -> bool
         ensures { result ≡ (length self.now.bytes == 0) }
@@ -40,7 +40,7 @@ impl Pending {
         self.bytes.is_empty()
     }
 
-    /// Forgets the bytes.
+    /// Discards the bytes.
     #[inline]
     pub fn clear(&mut self)
         ensures { self.new.bytes ≡ [] }
@@ -48,7 +48,7 @@ impl Pending {
         self.bytes.clear();
     }
 
-    /// Keeps all of the rest, if none of its bytes is the integer's last one.
+    /// Buffers all of the rest, if none of its bytes is the integer's last one. Returns whether it did.
     #[inline(always)]
     pub fn keeps(&mut self, rest: &[u8]) -> bool
         ensures kept { result ≡ true → self.new.bytes ≡ self.old.bytes ++ rest.now }
@@ -61,7 +61,7 @@ impl Pending {
         true
     }
 
-    /// How many bytes are in hand.
+    /// Returns the number of bytes buffered.
     #[inline]
     pub fn len(&self) -> usize
         ensures { result ≡ length self.now.bytes }
@@ -69,7 +69,8 @@ impl Pending {
         self.bytes.len()
     }
 
-    /// Eight bytes: those in hand, and behind them as many of the rest as there is place for, which are counted. What is in hand stays so.
+    /// Returns eight bytes, the buffered ones followed by as many of the rest as there is room for, and the number of the latter. The
+    /// buffer does not change.
     #[inline(always)]
     pub fn joined(&self, rest: &[u8]) -> Option<([u8; 8], usize)>
         ensures within { IfSome result (λ r. r.1 ≤ length rest.now) }
@@ -89,7 +90,7 @@ impl Pending {
         Some((cells, count))
     }
 
-    /// The integer, or NULL where it may be, byte by byte.
+    /// Completes the integer, or NULL if `nullable`, byte by byte.
     #[cold]
     #[inline(never)]
     pub fn complete_integer(
@@ -121,7 +122,7 @@ impl Pending {
         }
     }
 
-    /// The mandatory integer from 0 to `top`, byte by byte.
+    /// Completes the mandatory integer from 0 to `top`, byte by byte.
     #[cold]
     #[inline(never)]
     pub fn complete_unsigned(&mut self, rest: &[u8], strict: bool, top: u64) -> Progress<u64>
@@ -147,7 +148,7 @@ impl Pending {
     }
 }
 
-/// Takes bytes until the entity is whole.
+/// Appends bytes until the entity is complete.
 fn gather(entity: &mut Entity, rest: &[u8]) -> Progress<()>
     requires no_stop { HaveNoStop entity.old }
     requires short { length entity.old < 10 }
@@ -163,7 +164,7 @@ fn gather(entity: &mut Entity, rest: &[u8]) -> Progress<()>
     Progress::Cut
 }
 
-/// A whole entity as an integer in the range, or NULL where it may be.
+/// Reads a complete entity as an integer in the range, or NULL if `nullable`.
 fn read_integer(
     w: &[u8],
     strict: bool,

@@ -1,14 +1,14 @@
-//! How far the bytes of a piece have taken what is read.
+//! The progress of a unit after the bytes of a piece.
 
 use fast_value::Code;
 
-/// What the bytes in hand and those of a piece make of a unit.
+/// The result of reading a unit from the buffered bytes and those of a piece.
 #[derive(Clone, Copy)]
 pub enum Progress<T> {
-    /// So many bytes of the piece make it whole, and this is what it gives.
+    /// The unit is complete: its value, and the number of bytes of the piece that belong to it.
     Whole(T, usize),
-    /// So many bytes of the piece decide this fault.
+    /// A fault, and the number of bytes of the piece that decide it.
     Wrong(Code, usize),
-    /// All bytes of the piece are taken, and more have to come.
+    /// All bytes of the piece are consumed, and more have to follow.
     Cut,
 }

@@ -1,4 +1,4 @@
-//! The units of fields that are neither lengths nor parts of decimals, by which unit is in hand.
+//! The units of fields that are neither lengths nor parts of decimals, chosen by the unit that is partial.
 
 ghost use Rattle.std.specs.Prelude.{◌≡◌, ◌≢◌, ◌<◌, ℕ, List, [], ◌++◌};
 ghost use Rattle.fast_value.specs.meaning.Kinds.{family, integers};
@@ -26,7 +26,7 @@ use fast_dict::Slots;
 use fast_tree::{FieldInstruction, Operator};
 use fast_value::{Kind, Limits};
 
-/// The only unit of a field of integers.
+/// Reads the only unit of a field of integers.
 #[inline(always)]
 pub fn take_only(
     slots: &mut Slots,
@@ -47,7 +47,7 @@ pub fn take_only(
     settled(take_integer(slots, pending, field, rest, limits.strict))
 }
 
-/// The first unit of a field that begins with an integer.
+/// Reads the first unit of a field that begins with an integer.
 #[inline(always)]
 pub fn take_first(
     slots: &mut Slots,
@@ -85,7 +85,7 @@ pub fn take_first(
     }
 }
 
-/// The ASCII text of a field, which is its only unit.
+/// Reads the ASCII string of a field, which is its only unit.
 #[inline(always)]
 pub fn take_first_text(
     slots: &mut Slots,
@@ -114,7 +114,7 @@ pub fn take_first_text(
     settled(take_text(slots, scratch, joined, field, rest, limits))
 }
 
-/// A later unit, which is an integer.
+/// Reads a later unit, which is an integer.
 #[inline(always)]
 pub fn take_number(
     slots: &mut Slots,
@@ -158,7 +158,7 @@ pub fn take_number(
     }
 }
 
-/// A later unit, which is an ASCII text or a run of bytes.
+/// Reads a later unit, which is an ASCII string or a run of bytes.
 #[inline(always)]
 pub fn take_bytes(
     slots: &mut Slots,
@@ -212,7 +212,7 @@ pub fn take_bytes(
     }
 }
 
-/// A unit that was the field's last.
+/// Returns the step of a unit that was the field's last.
 #[inline(always)]
 fn settled(progress: Progress<ValueSource>) -> Progress<FieldStep>
     ensures { result ≡ settled progress }

@@ -1,11 +1,11 @@
-//! Bytes of a text that no piece has whole.
+//! A buffer for strings that are split across pieces.
 
 ghost use Rattle.std.specs.Prelude.{◌≡◌, ◌+◌, ◌<◌, ◌≤◌, ◌==◌, [], ◌∷◌, ◌++◌, length, take, IfOk};
 
 use std::alloc::{AllocError, Global};
 use std::marker::Model;
 
-/// The bytes of a text as they come, and room for more. All its memory is taken when it is made.
+/// The buffered bytes of a string, with room for more. It allocates memory only when it is made.
 #[derive(Drop)]
 pub struct Scratch {
     cells: Vec<u8>,
@@ -24,11 +24,11 @@ impl Model for Scratch {
 }
 
 impl Scratch {
-    /// No byte yet, and room for so many.
+    /// Makes an empty buffer for `capacity` bytes.
     ///
     /// # Errors
     ///
-    /// Memory was refused.
+    /// An allocation failed.
     pub fn new(alloc: Global, capacity: usize) -> Result<Scratch, AllocError>
         ensures text { IfOk result (λ s. s.text ≡ []) }
         ensures capacity { IfOk result (λ s. s.capacity ≡ capacity) }
@@ -37,7 +37,7 @@ impl Scratch {
         Ok(Scratch { cells, len: 0 })
     }
 
-    /// The bytes, in order.
+    /// Returns the bytes, in order.
     #[inline]
     pub fn as_slice(&self) -> &[u8]
         ensures { result.now ≡ self.now.text }
@@ -45,7 +45,7 @@ impl Scratch {
         &self.cells[..self.len]
     }
 
-    /// The number of bytes.
+    /// Returns the number of bytes.
     #[inline]
     pub fn len(&self) -> usize
         ensures len { result ≡ length self.now.text }
@@ -54,7 +54,7 @@ impl Scratch {
         self.len
     }
 
-    /// Whether no byte has come.
+    /// Returns whether there are no bytes.
     #[inline]
     pub fn is_empty(&self) -> bool
         ensures { result ≡ (length self.now.text == 0) }
@@ -62,7 +62,7 @@ impl Scratch {
         self.len == 0
     }
 
-    /// Forgets the bytes.
+    /// Discards the bytes.
     #[inline]
     pub fn clear(&mut self)
         ensures text { self.new.text ≡ [] }
@@ -71,7 +71,7 @@ impl Scratch {
         self.len = 0;
     }
 
-    /// Takes more bytes.
+    /// Appends bytes.
     #[inline]
     pub fn append(&mut self, bytes: &[u8])
         requires { length self.old.text + length bytes.now ≤ self.old.capacity }
@@ -83,7 +83,7 @@ impl Scratch {
         self.len = end;
     }
 
-    /// Takes more bytes, which may well be a single one: that is written in place.
+    /// Appends bytes, often a single one, which is written in place.
     #[inline(always)]
     pub(crate) fn keep(&mut self, bytes: &[u8])
         requires { length self.old.text + length bytes.now ≤ self.old.capacity }
@@ -97,7 +97,8 @@ impl Scratch {
         }
     }
 
-    /// Takes the first bytes of a block. All 16 bytes of the block are written, which is one move, and those behind are not counted.
+    /// Appends the first `count` bytes of a block. All 16 bytes of the block are written, which is one move, and those after the first ones
+    /// are not counted.
     #[inline(always)]
     pub fn append_front(&mut self, block: &[u8], count: usize)
         requires count { count ≤ 16 }
@@ -111,7 +112,7 @@ impl Scratch {
         self.truncate(end);
     }
 
-    /// Forgets all bytes but the first `len`.
+    /// Discards all bytes but the first `len`.
     #[inline]
     pub(crate) fn truncate(&mut self, len: usize)
         requires { len ≤ length self.old.text }
@@ -121,7 +122,7 @@ impl Scratch {
         self.len = len;
     }
 
-    /// Takes one more byte.
+    /// Appends a byte.
     #[inline]
     pub fn push(&mut self, byte: u8)
         requires { length self.old.text < self.old.capacity }

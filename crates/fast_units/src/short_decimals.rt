@@ -1,6 +1,6 @@
-//! Decimals under delta in the quick way: both of their units at once, where each is a short entity.
+//! The fast path of decimals under delta: both units at once, if each is a short entity.
 //!
-//! `None` stands for all else, faults included: nothing has changed then, and the general way finds out.
+//! `None` stands for all others, faults included: nothing has changed then, and the general path decodes them.
 
 ghost use Rattle.std.specs.Prelude.{◌≡◌, ℕ, List, [], take, Some, Ok, IfSome, IfNone};
 ghost use Rattle.fast_wire.specs.device.Words.{IsShortEntity};
@@ -28,16 +28,16 @@ use fast_fronts::{ShortEntity, short_entity};
 use fast_tree::{FieldInstruction, Operator};
 use fast_value::{Code, Kind};
 
-/// A decimal that was taken.
+/// A decimal that was read, with its length.
 #[derive(Clone, Copy)]
 pub struct ShortDecimal {
     /// The decimal.
     pub number: Number,
-    /// The bytes of both units.
+    /// The number of bytes of both units.
     pub bytes: usize,
 }
 
-/// The exponent behind its delta.
+/// Returns the exponent after its delta.
 #[inline(always)]
 fn short_exponent(
     slots: &Slots,
@@ -63,7 +63,7 @@ fn short_exponent(
     }
 }
 
-/// The decimal behind the delta of its mantissa, which the entry then holds.
+/// Returns the decimal after the delta of its mantissa, which the entry then holds.
 #[inline(always)]
 fn changed_mantissa(
     slots: &mut Slots,
@@ -92,7 +92,7 @@ fn changed_mantissa(
     }
 }
 
-/// The decimal of the exponent and of the mantissa behind its delta.
+/// Returns the decimal of the exponent and of the mantissa after its delta.
 #[inline(always)]
 fn short_mantissa(
     slots: &mut Slots,
@@ -119,7 +119,7 @@ fn short_mantissa(
     }
 }
 
-/// A decimal under delta, if the entry holds one, and both units are short.
+/// Reads a decimal under delta, if the entry holds one and both units are short.
 #[inline(always)]
 pub fn delta_decimal(
     slots: &mut Slots,

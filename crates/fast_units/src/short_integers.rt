@@ -1,7 +1,7 @@
-//! Fields of integers in the quick way: what a short entity stands for, and what it leaves in the dictionary. Kind, operator
-//! and presence are parameters, as the caller has told them apart, so that the field is looked at for its entry alone.
+//! The fast path of integer fields: the value of a short entity, and its effect on the dictionary. Type, operator and presence are
+//! parameters, since the caller has distinguished them, so that the field is read for its entry alone.
 //!
-//! `None` stands for all else, faults included: nothing has changed then, and the general way finds out.
+//! `None` stands for all others, faults included: nothing has changed then, and the general path decodes them.
 
 ghost use Rattle.std.specs.Prelude.{◌≡◌, ◌≢◌, ◌<◌, true, ℕ, List, [], ℤ, pos, Option, Some, Ok, IfSome, IfNone};
 ghost use Rattle.fast_fronts.specs.device.Fronts.{IsFirstInt};
@@ -34,7 +34,7 @@ const LEAST_DELTA: i128 = -590_295_810_358_705_651_712;
 /// The greatest delta that an entity of ten bytes holds.
 const GREATEST_DELTA: i128 = 590_295_810_358_705_651_711;
 
-/// The integer of an entity, or NULL where it may be, for a kind of unsigned integers.
+/// Returns the integer of an entity, or NULL if `optional`, for an unsigned type.
 #[inline]
 fn unsigned_number(
     kind: Kind,
@@ -61,7 +61,7 @@ fn unsigned_number(
     Some(Some(Number::Unsigned(number)))
 }
 
-/// The same for a kind of signed integers.
+/// Returns the integer of an entity, or NULL if `optional`, for a signed type.
 #[inline(always)]
 fn signed_number(
     kind: Kind,
@@ -89,7 +89,7 @@ fn signed_number(
     Some(Some(Number::Signed(number)))
 }
 
-/// Keeps an integer at the field's entry, if it has one.
+/// Stores an integer at the field's entry, if it has one.
 #[inline(always)]
 pub fn keep_integer(slots: &mut Slots, field: &FieldInstruction, kind: Kind, number: Number)
     requires kind { kind ≡ field.now.kind }
@@ -104,7 +104,8 @@ pub fn keep_integer(slots: &mut Slots, field: &FieldInstruction, kind: Kind, num
     }
 }
 
-/// Under no delta: copy and increment keep an integer that is sent, or NULL, at the field's entry, and the others have none.
+/// Decodes an integer that is sent, or NULL, under an operator other than delta: copy and increment store it at the field's entry, and the
+/// others have none.
 #[inline(always)]
 fn keep_item(
     slots: &mut Slots,
@@ -132,7 +133,7 @@ fn keep_item(
     }
 }
 
-/// An unsigned integer, or NULL, under no delta.
+/// Reads an unsigned integer, or NULL, under an operator other than delta.
 #[inline(always)]
 pub fn unsigned_item(
     slots: &mut Slots,
@@ -166,7 +167,7 @@ pub fn unsigned_item(
     Some(item)
 }
 
-/// A signed integer, or NULL, under no delta.
+/// Reads a signed integer, or NULL, under an operator other than delta.
 #[inline(always)]
 pub fn signed_item(
     slots: &mut Slots,
@@ -201,7 +202,7 @@ pub fn signed_item(
     Some(item)
 }
 
-/// The delta that an entity is, or NULL where it may be.
+/// Returns the delta of an entity, or NULL if `optional`.
 #[inline(always)]
 pub fn quick_change(
     optional: bool,
@@ -219,7 +220,7 @@ pub fn quick_change(
     Some(Some(delta))
 }
 
-/// An integer behind its delta, which the entry then holds: where the entry holds one of the field's own kind, and the sum is one.
+/// Adds a delta to the entry's integer, which the entry then holds: if it holds one of the field's own type, and the sum is one.
 #[inline(always)]
 fn changed(slots: &mut Slots, field: &FieldInstruction, kind: Kind, delta: i64) -> Option<Number>
     requires kind { kind ≡ field.now.kind }
@@ -243,7 +244,7 @@ fn changed(slots: &mut Slots, field: &FieldInstruction, kind: Kind, delta: i64) 
     }
 }
 
-/// An integer under delta, or NULL.
+/// Reads an integer under delta, or NULL.
 #[inline(always)]
 pub fn delta_item(
     slots: &mut Slots,

@@ -1,6 +1,6 @@
-//! Where the value of a field stands once the field is whole.
+//! The source of a field's value once the field is complete.
 
-/// Where a value stands. A number is at hand; a text is lent from where it was read or is kept.
+/// The source of a value. A number is in the source itself; a string is borrowed from where it was read or is kept.
 #[derive(Clone, Copy)]
 pub enum ValueSource {
     /// There is no value.
@@ -20,8 +20,8 @@ pub enum ValueSource {
     Entry,
     /// The initial value of the field.
     Initial,
-    /// The text in the scratch.
+    /// The string in the scratch.
     Scratch,
-    /// The bytes that were read last, all of which stand in the piece.
+    /// The bytes that were read last, all of which are in the piece.
     Piece,
 }

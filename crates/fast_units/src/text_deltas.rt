@@ -1,4 +1,4 @@
-//! Deltas of texts: the subtraction length, and then the part, an ASCII text or a vector's size and its bytes.
+//! Deltas of strings: the subtraction length, and then the part, an ASCII string or a vector's size and its bytes.
 
 ghost use Rattle.std.specs.Prelude.{◌≡◌, ◌≢◌, ◌-◌, ◌<◌, ◌++◌, ℕ, List, [], length, false, Ok, Some, pos, IfOk};
 ghost use Rattle.fast_wire.specs.meaning.Integers.{IsWithin, signed_range};
@@ -28,7 +28,7 @@ use fast_dict::operators::sized;
 use fast_tree::{FieldInstruction, Operator};
 use fast_value::{Code, Kind, Limits};
 
-/// Takes bytes of the subtraction length of a delta: the first unit of its field.
+/// Reads bytes of the subtraction length of a delta: the first unit of its field.
 pub fn take_subtraction(
     slots: &mut Slots,
     pending: &mut Pending,
@@ -67,7 +67,7 @@ pub fn take_subtraction(
     }
 }
 
-/// A subtraction length, of which it is known that it is an int32.
+/// Returns a subtraction length that is known to be an int32.
 #[inline]
 fn length_of(integer: i128) -> i32
     requires { IsWithin (signed_range 31) integer }
@@ -76,7 +76,7 @@ fn length_of(integer: i128) -> i32
     integer as i32
 }
 
-/// What follows the subtraction length of a delta.
+/// Returns the step after the subtraction length of a delta.
 fn part_next(slots: &Slots, field: &FieldInstruction, subtraction: i32) -> Result<FieldStep, Code>
     requires serves { ServesField slots.now field.now }
     requires text { family field.now.kind ≡ texts }
@@ -91,7 +91,7 @@ fn part_next(slots: &Slots, field: &FieldInstruction, subtraction: i32) -> Resul
     Ok(FieldStep::Next(Stage::Part(subtraction)))
 }
 
-/// Takes bytes of the part of an ASCII delta, behind the subtraction length.
+/// Reads bytes of the part of an ASCII delta, after the subtraction length.
 pub fn take_part(
     slots: &mut Slots,
     scratch: &mut Scratch,
@@ -131,7 +131,7 @@ pub fn take_part(
     }
 }
 
-/// Takes bytes of the size of a vector delta's part, behind the subtraction length. An empty part has no bytes behind it.
+/// Reads bytes of the size of a vector delta's part, after the subtraction length. An empty part has no bytes after it.
 pub fn take_part_size(
     slots: &mut Slots,
     pending: &mut Pending,
@@ -169,7 +169,7 @@ pub fn take_part_size(
     }
 }
 
-/// What follows the size of a vector delta's part.
+/// Returns the step after the size of a vector delta's part.
 fn part_vector_next(
     slots: &mut Slots,
     joined: &mut Scratch,
@@ -201,7 +201,7 @@ fn part_vector_next(
     settled(finish_part(slots, joined, field, subtraction, &[]))
 }
 
-/// Takes bytes of a vector delta's part, behind its size.
+/// Reads bytes of a vector delta's part, after its size.
 pub fn take_part_vector(
     slots: &mut Slots,
     scratch: &mut Scratch,

@@ -1,7 +1,6 @@
-//! What a field of texts leaves, once its text or NULL is whole: its value and the entry that may keep it.
+//! The result of a string field once its string or NULL is complete: its value, and the entry that may keep it.
 //!
-//! What is joined of two parts is joined in a buffer of its own first: what an entry lends cannot be written back while it
-//! is lent.
+//! Two parts are joined in a separate buffer first: bytes that are borrowed from an entry cannot be written back while they are borrowed.
 
 ghost use Rattle.std.specs.Prelude.{◌≡◌, ◌≢◌, ◌+◌, ◌-◌, ◌<◌, ◌≤◌, ◌++◌, ℕ, List, length, true, Ok, Err, Some, MatchResult};
 ghost use Rattle.fast_value.specs.meaning.Kinds.{ScalarData, texts, family, text_of, value_of_text};
@@ -25,7 +24,7 @@ use fast_dict::operators::{Kept, checked_text, null_empties, subtract, tail_base
 use fast_tree::{FieldInstruction, Operator};
 use fast_value::{Code, Scalar};
 
-/// NULL was sent: the field is absent.
+/// Decodes NULL: the field is absent.
 pub fn finish_absent(slots: &mut Slots, field: &FieldInstruction) -> ValueSource
     requires serves { ServesField slots.old field.now }
     requires sent { field.now.operator ≢ Operator.Constant }
@@ -40,7 +39,7 @@ pub fn finish_absent(slots: &mut Slots, field: &FieldInstruction) -> ValueSource
     ValueSource::Absent
 }
 
-/// The text is the field's value, which its entry then holds.
+/// Decodes a string that is the field's value, which its entry then holds.
 #[inline(always)]
 fn keep(slots: &mut Slots, field: &FieldInstruction, text: &[u8]) -> Result<ValueSource, Code>
     requires serves { ServesField slots.old field.now }
@@ -56,7 +55,7 @@ fn keep(slots: &mut Slots, field: &FieldInstruction, text: &[u8]) -> Result<Valu
     Ok(ValueSource::Entry)
 }
 
-/// Joins a tail to what it keeps of its base.
+/// Joins a tail to the bytes that it keeps of its base.
 fn join_tail(
     slots: &Slots,
     joined: &mut Scratch,
@@ -82,7 +81,7 @@ fn join_tail(
     Ok(())
 }
 
-/// What a subtraction length keeps of the field's base.
+/// Returns the bytes of the field's base that a subtraction length keeps.
 pub fn kept<'a>(
     slots: &'a Slots,
     field: &'a FieldInstruction,
@@ -95,7 +94,7 @@ pub fn kept<'a>(
     subtract(field, previous(slots, field), i128::from(subtraction))
 }
 
-/// What is kept and the part, in their order.
+/// Returns the bytes kept and the part, in their order.
 fn sides<'a>(kept: Kept<'a>, part: &'a [u8]) -> (&'a [u8], &'a [u8])
     ensures text { result.0.now ++ result.1.now ≡ joined_text (kept_data kept.entry) part.now }
     ensures size { length result.0.now + length result.1.now ≡ kept_length (kept_data kept.entry) + length part.now }
@@ -106,7 +105,7 @@ fn sides<'a>(kept: Kept<'a>, part: &'a [u8]) -> (&'a [u8], &'a [u8])
     }
 }
 
-/// Joins the part of a delta to what its subtraction length keeps.
+/// Joins the part of a delta to the bytes that its subtraction length keeps.
 fn join_part(
     slots: &Slots,
     joined: &mut Scratch,
@@ -135,7 +134,7 @@ fn join_part(
     Ok(())
 }
 
-/// A tail was sent: what it is joined to is the field's value, which its entry then holds.
+/// Decodes a tail: the joined string is the field's value, which its entry then holds.
 #[inline(never)]
 fn finish_tail(
     slots: &mut Slots,
@@ -159,7 +158,7 @@ fn finish_tail(
     keep(slots, field, joined.as_slice())
 }
 
-/// A vector was sent, which stands at the place unless the entry keeps it.
+/// Decodes a vector, whose value has the source `place` unless the entry keeps it.
 pub fn finish_text(
     slots: &mut Slots,
     joined: &mut Scratch,
@@ -191,8 +190,8 @@ pub fn finish_text(
     }
 }
 
-/// An ASCII text was sent, which stands at the place unless it is a tail. There is nothing to check, and what the entry keeps need
-/// not be fetched from it.
+/// Decodes an ASCII string, whose value has the source `place` unless it is a tail. Nothing has to be checked, and a string that the entry
+/// keeps need not be read from it.
 #[inline(always)]
 pub fn finish_ascii(
     slots: &mut Slots,
@@ -225,7 +224,7 @@ pub fn finish_ascii(
     }
 }
 
-/// The part of a delta was sent.
+/// Decodes the part of a delta.
 pub fn finish_part(
     slots: &mut Slots,
     joined: &mut Scratch,
@@ -250,7 +249,7 @@ pub fn finish_part(
     keep(slots, field, joined.as_slice())
 }
 
-/// The most bytes that the part of a delta may have.
+/// Returns the most bytes that the part of a delta may have.
 pub fn part_room(
     slots: &Slots,
     field: &FieldInstruction,
@@ -262,7 +261,7 @@ pub fn part_room(
         subtraction ≡ Ok kept → result ≡ max_text - kept_length kept }
     ensures most { result ≤ max_text }
 {
-    // the same subtraction did well when its length was read
+    // the same subtraction succeeded when its length was read
     match kept(slots, field, subtraction) {
         Ok(kept) => kept.room(max_text),
         Err(_) => 0,

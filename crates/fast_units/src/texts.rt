@@ -1,7 +1,7 @@
-//! Fields of texts that stand in the stream: ASCII and Unicode strings and byte vectors, whole and as tails.
+//! String fields in the stream: ASCII and Unicode strings and byte vectors, sent complete and as tails.
 //!
-//! A unit at a time: an ASCII text, or the size of a vector and then its bytes. Of a unit that a piece cuts the bytes are in hand, in
-//! the pending integer or in the scratch, and nothing else changes.
+//! A unit at a time: an ASCII string, or the size of a vector and then its bytes. If a piece splits a unit, its bytes are buffered in the
+//! pending integer or in the scratch, and nothing else changes.
 
 ghost use Rattle.std.specs.Prelude.{◌≡◌, ◌≢◌, ◌<◌, ◌++◌, ℕ, List, [], length, false, true, Ok, Some, pos, IfOk};
 ghost use Rattle.fast_wire.specs.meaning.Integers.{IsWithin, unsigned_range};
@@ -29,10 +29,10 @@ use fast_dict::operators::{is_utf8, sized};
 use fast_tree::{FieldInstruction, Operator};
 use fast_value::{Code, Kind, Limits};
 
-/// The greatest size of a vector that its bytes can say.
+/// The greatest size of a vector that can be encoded.
 pub const TOP_SIZE: u64 = 4_294_967_295;
 
-/// An answer behind so many bytes.
+/// Returns the result that is decided by this number of bytes.
 #[inline]
 pub(crate) fn answered<T>(answer: Result<T, Code>, bytes: usize) -> Progress<T>
     ensures { result ≡ answered answer bytes }
@@ -43,7 +43,7 @@ pub(crate) fn answered<T>(answer: Result<T, Code>, bytes: usize) -> Progress<T>
     }
 }
 
-/// The last answer of a field as that of a unit.
+/// Returns the step of a field's last unit.
 #[inline(always)]
 pub(crate) fn settled(answer: Result<ValueSource, Code>) -> Result<FieldStep, Code>
     ensures { result ≡ settled answer }
@@ -51,7 +51,7 @@ pub(crate) fn settled(answer: Result<ValueSource, Code>) -> Result<FieldStep, Co
     answer.map(FieldStep::Settled)
 }
 
-/// A size, of which it is known that it is a uInt32.
+/// Returns a size that is known to be a uInt32.
 #[inline]
 pub(crate) fn size_of(integer: i128) -> u32
     requires { IsWithin (unsigned_range 32) integer }
@@ -60,7 +60,7 @@ pub(crate) fn size_of(integer: i128) -> u32
     integer as u32
 }
 
-/// Whether a text is one of the kind: one of Unicode is UTF-8.
+/// Returns whether the bytes are a string of the type: a Unicode string is UTF-8.
 #[inline(always)]
 pub fn is_text_of(kind: Kind, text: &[u8]) -> bool
     ensures { result ≡ true → checked_text kind text.now ≡ Ok (value_of_text kind text.now) }
@@ -71,7 +71,7 @@ pub fn is_text_of(kind: Kind, text: &[u8]) -> bool
     }
 }
 
-/// Takes bytes of an ASCII text that is no delta: the first unit of its field, and the last.
+/// Reads bytes of an ASCII string that is not a delta: the first unit of its field, and the last.
 pub fn take_text(
     slots: &mut Slots,
     scratch: &mut Scratch,
@@ -111,7 +111,7 @@ pub fn take_text(
     }
 }
 
-/// Takes bytes of the size of a vector that is no delta: the first unit of its field. An empty vector has no bytes behind it.
+/// Reads bytes of the size of a vector that is not a delta: the first unit of its field. An empty vector has no bytes after it.
 pub fn take_size(
     slots: &mut Slots,
     pending: &mut Pending,
@@ -158,7 +158,7 @@ pub fn take_size(
     }
 }
 
-/// What follows the size of a vector.
+/// Returns the step after the size of a vector.
 fn vector_next(
     slots: &mut Slots,
     joined: &mut Scratch,
@@ -187,7 +187,7 @@ fn vector_next(
     settled(finish_text(slots, joined, field, &[], ValueSource::Scratch))
 }
 
-/// Takes bytes of a vector that is no delta, behind its size.
+/// Reads bytes of a vector that is not a delta, after its size.
 pub fn take_vector(
     slots: &mut Slots,
     scratch: &mut Scratch,

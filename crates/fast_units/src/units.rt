@@ -1,5 +1,5 @@
-//! The units of fields: an integer, an ASCII text, a run of bytes. Of a unit that a piece cuts the bytes are kept, and nothing
-//! else changes before it is whole.
+//! The units of fields: an integer, an ASCII string, a run of bytes. If a piece splits a unit, its bytes are buffered, and nothing else
+//! changes before it is complete.
 
 ghost use Rattle.std.specs.Prelude.{◌≡◌, ℕ, ◌<◌, ◌≤◌, Bool, true, false, [], ◌∷◌, ◌++◌, length, ℤ, Option, Some, pos, option_map, IfSome, IfNone};
 ghost use Rattle.fast_wire.specs.meaning.Entities.{HaveNoStop};
@@ -23,7 +23,7 @@ use fast_fronts::{
 use fast_value::Code;
 use fast_wire::{WireFault, find_stop};
 
-/// The integers that an entity may stand for, and whether it is read in two's complement.
+/// The range of integers that an entity may encode, and whether it is read in two's complement.
 #[derive(Clone, Copy)]
 pub enum IntegerRange {
     /// The integers from 0 to this one.
@@ -32,8 +32,8 @@ pub enum IntegerRange {
     Signed(i128, i128),
 }
 
-/// The integer, or NULL where it may be, that begins with the bytes in hand and goes on with the rest. An integer outside the
-/// range is the fault that is named.
+/// Reads the integer, or NULL if `nullable`, that begins with the buffered bytes and goes on with the rest. An integer outside the range is
+/// the fault `outside`.
 #[inline(always)]
 pub fn next_integer(
     pending: &mut Pending,
@@ -60,7 +60,7 @@ pub fn next_integer(
     pending.complete_integer(rest, strict, range, nullable, outside)
 }
 
-/// The mandatory integer from 0 to `top` that begins with the bytes in hand and goes on with the rest.
+/// Reads the mandatory integer from 0 to `top` that begins with the buffered bytes and goes on with the rest.
 #[inline(always)]
 pub fn next_unsigned(pending: &mut Pending, rest: &[u8], strict: bool, top: u64) -> Progress<u64>
     ensures unit { IsUnit (reader_of strict (integer (unsigned_up_to top) false Code.D2 give)) (λ x. Some (pos x))
@@ -80,8 +80,8 @@ pub fn next_unsigned(pending: &mut Pending, rest: &[u8], strict: bool, top: u64)
     pending.complete_unsigned(rest, strict, top)
 }
 
-/// The ASCII text of at most `room` characters, or NULL where it may be, that begins with the bytes in the scratch and goes on
-/// with the rest. A text that is whole stands in the scratch: then the answer is `true`, and `false` for NULL.
+/// Reads the ASCII string of at most `room` characters, or NULL if `nullable`, that begins with the bytes in the scratch and goes on with
+/// the rest. The result is `true` for a complete string, which is then in the scratch, and `false` for NULL.
 #[inline(always)]
 pub fn next_ascii(scratch: &mut Scratch, rest: &[u8], room: usize, nullable: bool) -> Progress<bool>
     requires open { ascii_phrase nullable room scratch.old.text [] cut }
@@ -104,7 +104,7 @@ pub fn next_ascii(scratch: &mut Scratch, rest: &[u8], room: usize, nullable: boo
     characters(scratch, rest, room)
 }
 
-/// Whether one of the bytes has a stop bit. A single byte, as of a stream that comes byte by byte, is looked at in place.
+/// Returns whether one of the bytes has a stop bit. A single byte, as of a stream that arrives byte by byte, is looked at in place.
 #[inline(always)]
 pub fn has_stop(bytes: &[u8]) -> bool
     ensures { result ≡ false → HaveNoStop bytes.now }
@@ -115,7 +115,8 @@ pub fn has_stop(bytes: &[u8]) -> bool
     find_stop(bytes).is_some()
 }
 
-/// Keeps all of the rest of a text of at most `room` characters, if it begins with a character and goes on behind the rest.
+/// Buffers all of the rest of a string of at most `room` characters, if it begins with a character and goes on after the rest. Returns
+/// whether it did.
 #[inline(always)]
 pub fn keeps_characters(scratch: &mut Scratch, rest: &[u8], room: usize) -> bool
     requires fits { room ≤ scratch.old.capacity }
@@ -139,7 +140,7 @@ pub fn keeps_characters(scratch: &mut Scratch, rest: &[u8], room: usize) -> bool
     true
 }
 
-/// Keeps all of the rest of a run of `size` bytes, if the run goes on behind it.
+/// Buffers all of the rest of a run of `size` bytes, if the run goes on after it. Returns whether it did.
 #[inline(always)]
 pub fn keeps_run(scratch: &mut Scratch, rest: &[u8], size: usize) -> bool
     requires more { length scratch.old.text < size }
@@ -156,7 +157,7 @@ pub fn keeps_run(scratch: &mut Scratch, rest: &[u8], size: usize) -> bool
     true
 }
 
-/// Where the bytes of a run stand that is whole.
+/// The location of the bytes of a complete run.
 #[derive(Clone, Copy)]
 pub enum Run {
     /// In the piece.
@@ -165,7 +166,7 @@ pub enum Run {
     Scratch,
 }
 
-/// The `size` bytes that begin with those in the scratch and go on with the rest.
+/// Reads the `size` bytes that begin with those in the scratch and go on with the rest.
 #[inline]
 pub fn next_raw(scratch: &mut Scratch, rest: &[u8], size: usize) -> Progress<Run>
     requires more { length scratch.old.text < size }
@@ -188,7 +189,7 @@ pub fn next_raw(scratch: &mut Scratch, rest: &[u8], size: usize) -> Progress<Run
     Progress::Whole(Run::Scratch, missing)
 }
 
-/// The first entity as an integer in the range, or NULL where it may be.
+/// Reads the first entity as an integer in the range, or NULL if `nullable`.
 #[inline(always)]
 fn first_integer(
     bytes: &[u8],
@@ -216,7 +217,7 @@ fn first_integer(
     }
 }
 
-/// The same front, where the integer is one among all.
+/// Returns the result for a mandatory unsigned integer as one for any integer.
 #[inline]
 fn mandatory_unsigned(first: First<u64>) -> First<Option<i128>>
     ensures { result ≡ first_mapped (λ x. Some (pos x)) first }
@@ -228,7 +229,7 @@ fn mandatory_unsigned(first: First<u64>) -> First<Option<i128>>
     }
 }
 
-/// The same front, where the integer is one among all.
+/// Returns the result for a nullable unsigned integer as one for any integer.
 #[inline]
 fn nullable_unsigned(first: First<Option<u64>>) -> First<Option<i128>>
     ensures { result ≡ first_mapped (λ x. option_map pos x) first }
@@ -241,7 +242,7 @@ fn nullable_unsigned(first: First<Option<u64>>) -> First<Option<i128>>
     }
 }
 
-/// The same front, where the integer is one among all.
+/// Returns the result for a mandatory signed integer as one for any integer.
 #[inline]
 fn mandatory_signed(first: First<i128>) -> First<Option<i128>>
     ensures { result ≡ first_mapped (λ x. Some x) first }
@@ -253,7 +254,8 @@ fn mandatory_signed(first: First<i128>) -> First<Option<i128>>
     }
 }
 
-/// The fault that these bytes decide. The last of ten bytes without a stop bit tells them from an integer outside its range.
+/// Returns the fault that these bytes decide. The last of ten bytes without a stop bit distinguishes them from an integer outside its
+/// range.
 #[cold]
 #[inline(never)]
 fn stream_fault(fault: WireFault, bytes: &[u8], outside: Code) -> Code
@@ -268,7 +270,7 @@ fn stream_fault(fault: WireFault, bytes: &[u8], outside: Code) -> Code
     }
 }
 
-/// A text of which no byte has come and whose first is zero. Only the empty text begins so, and only where NULL may be.
+/// Reads a string of which no byte has been read and whose first is zero. Only the empty string begins so, and only if `nullable`.
 #[cold]
 #[inline(never)]
 fn zero_first(scratch: &mut Scratch, rest: &[u8], nullable: bool) -> Progress<bool>
@@ -291,7 +293,7 @@ fn zero_first(scratch: &mut Scratch, rest: &[u8], nullable: bool) -> Progress<bo
     }
 }
 
-/// A text behind a zero, where NULL may be: the empty one, or none.
+/// Reads the rest of a nullable string that began with a zero byte: it is the empty string, or else R9.
 #[cold]
 #[inline(never)]
 fn behind_zero(scratch: &mut Scratch, rest: &[u8]) -> Progress<bool>
@@ -309,7 +311,7 @@ fn behind_zero(scratch: &mut Scratch, rest: &[u8]) -> Progress<bool>
     }
 }
 
-/// A text of which no byte has come.
+/// Reads a string of which no byte has been read.
 #[inline(always)]
 fn first_ascii(scratch: &mut Scratch, rest: &[u8], room: usize, nullable: bool) -> Progress<bool>
     requires none { scratch.old.text ≡ [] }
@@ -329,8 +331,8 @@ fn first_ascii(scratch: &mut Scratch, rest: &[u8], room: usize, nullable: bool) 
     }
 }
 
-/// A text of which no byte has come, which begins with a character and ends within a block of 16 bytes. The block is moved as a
-/// whole, whatever the length.
+/// Reads a string of which no byte has been read, which begins with a character and ends within a block of 16 bytes. The block is moved as
+/// a whole, for any length.
 #[inline(always)]
 fn short_text(scratch: &mut Scratch, rest: &[u8], room: usize) -> Option<usize>
     requires none { scratch.old.text ≡ [] }
@@ -352,7 +354,7 @@ fn short_text(scratch: &mut Scratch, rest: &[u8], room: usize) -> Option<usize>
     Some(last + 1)
 }
 
-/// A text that begins with a character. The byte behind the room is a fault, whatever it is.
+/// Reads a string that begins with a character. The byte after the room is a fault, for any value of it.
 #[inline(never)]
 fn characters(scratch: &mut Scratch, rest: &[u8], room: usize) -> Progress<bool>
     requires open { HaveNoStop scratch.old.text }
