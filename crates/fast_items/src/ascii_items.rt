@@ -1,7 +1,7 @@
-//! ASCII texts in the quick loop: fields whose text stands whole in the piece, and fields of which nothing is sent. What a node's code
-//! tells of the field is handed in, and folds where it is constant.
+//! ASCII strings in the loop's arms: fields whose string is in the piece completely, and fields of which nothing is sent. The arguments
+//! that a node's code implies are constants at the calls, which fold by them.
 //!
-//! `None` stands for all else, faults included: nothing has changed then, and the general way finds out.
+//! `None` stands for all others, faults included: nothing has changed then, and the general path decodes them.
 
 ghost use Rattle.std.specs.Prelude.{◌≡◌, ◌<◌, ◌≤◌, ℕ, Bool, true, false, List, Some, None, length, take, option_map, IfSome, IfNone};
 ghost use Rattle.fast_value.specs.meaning.Values.{scalar_data};
@@ -23,7 +23,7 @@ use fast_value::{Kind, Scalar};
 use fast_wire::stop_in_block;
 use std::simd::prelude::*;
 
-/// The 16 bytes in front, without their stop bits.
+/// Returns the 16 bytes in front, without their stop bits.
 #[inline(always)]
 fn stripped(rest: &[u8]) -> [u8; 16]
     requires { 16 ≤ length rest.now }
@@ -32,7 +32,7 @@ fn stripped(rest: &[u8]) -> [u8; 16]
     (u8x16::from_slice(rest) & u8x16::splat(0x7f)).to_array()
 }
 
-/// The number of characters of a text that ends within 16 bytes.
+/// Returns the number of characters of a string that ends within 16 bytes.
 #[inline(always)]
 fn block_length(rest: &[u8]) -> Option<usize>
     requires begins { BeginsWithCharacter rest.now }
@@ -48,7 +48,7 @@ fn block_length(rest: &[u8]) -> Option<usize>
     Some(last + 1)
 }
 
-/// The same, whatever the text begins with: NULL and what begins with zero are none.
+/// Returns the number of characters of a string that ends within 16 bytes and begins with a character: not NULL, and no zero in front.
 #[inline(always)]
 fn short_length(rest: &[u8]) -> Option<usize>
     ensures { IfSome result (λ n. IsShortText rest.now n) }
@@ -61,7 +61,7 @@ fn short_length(rest: &[u8]) -> Option<usize>
     }
 }
 
-/// Where a text stands that was sent.
+/// Returns the source of a string that was sent.
 #[inline(always)]
 fn text_source(operator: Operator) -> ValueSource
     ensures { result ≡ text_source operator }
@@ -72,7 +72,7 @@ fn text_source(operator: Operator) -> ValueSource
     }
 }
 
-/// A text of so many bytes.
+/// Returns the result for a string of this number of bytes.
 #[inline(always)]
 pub fn text_taken(operator: Operator, bytes: usize) -> TakenText
     ensures { result ≡ text_taken operator bytes }
@@ -84,7 +84,8 @@ pub fn text_taken(operator: Operator, bytes: usize) -> TakenText
     }
 }
 
-/// Puts a short text, the first characters of a block, where it stays: into the scratch, or into the slot of the entry that keeps it.
+/// Stores a short string, the first characters of a block: into the scratch, or into the slot of the entry that keeps it. Returns whether
+/// it did.
 #[inline(always)]
 fn put_short(
     slots: &mut Slots,
@@ -123,7 +124,8 @@ fn put_short(
     }
 }
 
-/// The bytes of a short text that was sent. A tail is left out where the slot has no room for a block behind what it keeps.
+/// Reads a short string that was sent, and returns its number of bytes. A tail is not read if the slot has no room for a block after the
+/// bytes that it keeps.
 #[inline(always)]
 fn sent_short(
     slots: &mut Slots,
@@ -151,7 +153,7 @@ fn sent_short(
     Some(count)
 }
 
-/// NULL is the value. Under copy and tail the entry is then empty.
+/// Stores NULL: under copy and tail the entry is then empty.
 #[inline(always)]
 fn put_null(slots: &mut Slots, entry: u32, operator: Operator) -> bool
     requires within { IsEntryFor slots.old operator entry }
@@ -170,7 +172,7 @@ fn put_null(slots: &mut Slots, entry: u32, operator: Operator) -> bool
     }
 }
 
-/// NULL, if it was sent, where it may be.
+/// Reads NULL in an optional field, if it was sent.
 #[inline(always)]
 fn sent_null(
     slots: &mut Slots,
@@ -201,8 +203,8 @@ fn sent_null(
     }
 }
 
-/// An ASCII text that was sent, if it is a short one or NULL: it then stands in the scratch, or at the entry that keeps it. Under tail
-/// the entry holds one of its own kind.
+/// Reads an ASCII string that was sent, if it is a short one or NULL: it is then in the scratch, or at the entry that keeps it. Under tail
+/// the entry holds one of its own type.
 #[inline(always)]
 pub fn sent_at_once(
     slots: &mut Slots,
@@ -232,7 +234,7 @@ pub fn sent_at_once(
     None
 }
 
-/// Copy and tail where nothing is sent: the ASCII text that the entry holds, or absent where it is empty.
+/// Decodes an unsent field under copy or tail: the ASCII string that the entry holds, or absent if it is empty.
 #[inline(always)]
 pub fn unsent_ascii(slots: &Slots, entry: u32, optional: bool) -> Option<ValueSource>
     requires within { entry < length (slots_dictionary slots.now) }
@@ -250,7 +252,7 @@ pub fn unsent_ascii(slots: &Slots, entry: u32, optional: bool) -> Option<ValueSo
     }
 }
 
-/// The value of a field of ASCII texts, lent from the entry or the scratch.
+/// Borrows the value of a field of ASCII strings from the entry or the scratch.
 #[inline(always)]
 pub fn ascii_at<'x>(
     slots: &'x Slots,

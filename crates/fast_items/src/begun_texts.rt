@@ -1,7 +1,7 @@
-//! Fields of texts that begin in the piece and go on behind it: the units before the last are read, and of the last only how many of its
-//! bytes there may be. So the bytes that are there can be kept at once.
+//! String fields that begin in the piece and go on after it: the units before the last are read, and of the last only the most bytes that
+//! it may have, so that the bytes that are there can be buffered at once.
 //!
-//! `None` stands for all else: for a text that ends in the piece, for faults, and for a unit before the last that is cut. Nothing has
+//! `None` stands for all others: for a string that ends in the piece, for faults, and for a unit before the last that is split. Nothing has
 //! changed in either case.
 
 ghost use Rattle.std.specs.Prelude.{◌≡◌, ◌≢◌, ◌-◌, ◌<◌, ◌≤◌, ℕ, Bool, [], length, true, IfSome};
@@ -21,7 +21,7 @@ use fast_units::stages::Stage;
 use fast_units::units::has_stop;
 use fast_value::Kind;
 
-/// Whether all of the rest is the front of an ASCII text of at most `room` characters, which begins with a character.
+/// Returns whether all of the rest is a prefix of an ASCII string of at most `room` characters, which begins with a character.
 #[inline(always)]
 pub fn is_text_front(rest: &[u8], room: usize) -> bool
     ensures open { result ≡ true → (nullable : Bool) → ascii_phrase nullable room rest.now [] cut }
@@ -34,7 +34,7 @@ pub fn is_text_front(rest: &[u8], room: usize) -> bool
     }
 }
 
-/// Begins a vector that is no delta, of at most `room` bytes.
+/// Begins a vector that is not a delta, of at most `room` bytes.
 #[inline(always)]
 pub fn begun_vector(
     kind: Kind,
@@ -63,7 +63,7 @@ pub fn begun_vector(
     })
 }
 
-/// Begins a delta of a text, at an entry that holds a text of its kind.
+/// Begins a string delta, at an entry that holds a string of its type.
 #[inline(always)]
 pub fn begun_delta(
     slots: &Slots,

@@ -1,10 +1,8 @@
-//! Decimals of one field, both of whose units stand in the piece whole: an exponent of one byte, or its delta, and the
-//! mantissa behind it.
+//! Decimals of one field, both of whose units are in the piece completely: an exponent of one byte, or its delta, followed by the mantissa.
 //!
-//! They are inlined at their calls, with numbers and slices alone. Presence is an argument: a constant there, by which they
-//! fold.
+//! They are inlined at their calls, with numbers and slices alone. Presence is an argument: a constant there, by which they fold.
 //!
-//! `None` stands for all else, faults included: nothing has changed then, and the general way finds out.
+//! `None` stands for all others, faults included: nothing has changed then, and the general path decodes them.
 
 ghost use Rattle.std.specs.Prelude.{◌≡◌, ◌<◌, ◌+ℤ◌, ◌≤ℤ◌, Bool, false, [], ℤ, pos, neg_ℤ, Some, Ok, IfSome, IfNone, length};
 ghost use Rattle.fast_fronts.specs.device.Fronts.{IsFirstInt};
@@ -30,7 +28,7 @@ use fast_units::fields::Number;
 use fast_units::progress::Progress;
 use fast_value::{Code, Kind};
 
-/// An exponent in range.
+/// Returns an exponent that lies in range.
 #[inline(always)]
 pub(crate) fn exponent_in(exponent: i64) -> i32
     requires low { neg_ℤ (pos 63) ≤ℤ exponent }
@@ -40,7 +38,7 @@ pub(crate) fn exponent_in(exponent: i64) -> i32
     exponent as i32
 }
 
-/// An exponent of one byte, or NULL where it may be.
+/// Reads an exponent of one byte, or NULL if `optional`.
 #[inline(always)]
 pub(crate) fn short_exponent(rest: &[u8], optional: bool) -> Option<Option<i32>>
     ensures { IfSome result (λ r. (strict : Bool)
@@ -58,7 +56,7 @@ pub(crate) fn short_exponent(rest: &[u8], optional: bool) -> Option<Option<i32>>
     }
 }
 
-/// A mantissa and its length.
+/// Reads a mantissa, and returns it with its length.
 #[inline(always)]
 pub(crate) fn whole_mantissa(rest: &[u8], strict: bool) -> Option<(i64, usize)>
     ensures { IfSome result (λ r. IsFirstInt (λ y. Some y) strict (signed_range 63) false (Whole r.0 r.1) rest.now) }
@@ -69,7 +67,7 @@ pub(crate) fn whole_mantissa(rest: &[u8], strict: bool) -> Option<(i64, usize)>
     }
 }
 
-/// A decimal as it is, or NULL where it may be.
+/// Reads a decimal that is not a delta, or NULL if `optional`.
 #[inline(always)]
 fn whole_decimal(rest: &[u8], optional: bool, strict: bool) -> Option<TakenItem>
     ensures { IfSome result (λ r. IsUnit (reader_of strict (integer exponent_range optional Code.R1 decimal_from))
@@ -91,7 +89,7 @@ fn whole_decimal(rest: &[u8], optional: bool, strict: bool) -> Option<TakenItem>
     }
 }
 
-/// The decimal that the entry holds, if it is one of the kind of decimals.
+/// Returns the decimal that the entry holds, if its type is `Decimal`.
 #[inline(always)]
 fn held_decimal(slots: &Slots, entry: u32) -> Option<(i32, i64)>
     requires within { entry < length (slots_dictionary slots.now) }
@@ -104,7 +102,7 @@ fn held_decimal(slots: &Slots, entry: u32) -> Option<(i32, i64)>
     }
 }
 
-/// A decimal under copy, which the entry then holds, or NULL, which makes it empty.
+/// Reads a decimal under copy, which the entry then holds, or NULL, which makes it empty.
 #[inline(always)]
 pub fn copied_decimal(
     slots: &mut Slots,
@@ -127,7 +125,7 @@ pub fn copied_decimal(
     Some(taken)
 }
 
-/// The exponent behind its delta.
+/// Returns the exponent after its delta.
 #[inline(always)]
 fn changed_exponent(exponent: i32, delta: i64) -> Option<i32>
     ensures { IfSome result (λ e. ranged exponent_range Code.R1 (exponent +ℤ delta) ≡ Ok e) }
@@ -139,7 +137,7 @@ fn changed_exponent(exponent: i32, delta: i64) -> Option<i32>
     Some(exponent_in(i64::from(exponent) + delta))
 }
 
-/// The mantissa behind its delta, and the length of that.
+/// Returns the mantissa after its delta, and the length of the delta.
 #[inline(always)]
 fn changed_mantissa(mantissa: i64, rest: &[u8], strict: bool) -> Option<(i64, usize)>
     ensures { IfSome result (λ r. (j : ℤ) × IsFirstInt (λ y. y) strict delta_range false (Whole (Some j) r.1) rest.now
@@ -154,7 +152,7 @@ fn changed_mantissa(mantissa: i64, rest: &[u8], strict: bool) -> Option<(i64, us
     }
 }
 
-/// A decimal under delta, which the entry then holds in the place of another, or NULL, which leaves the entry as it is.
+/// Reads a decimal under delta, which then replaces the one at the entry, or NULL, which leaves the entry unchanged.
 #[inline(always)]
 pub fn changed_decimal(
     slots: &mut Slots,
@@ -189,7 +187,7 @@ pub fn changed_decimal(
     }
 }
 
-/// A decimal without an operator, or NULL.
+/// Reads a decimal without an operator, or NULL.
 #[inline(always)]
 pub fn plain_decimal(
     slots: &Slots,

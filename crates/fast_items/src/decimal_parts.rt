@@ -1,7 +1,7 @@
-//! Exponents and mantissas of decimals by parts, which stand in the piece whole, or of which nothing is sent. They are
-//! looked at first and kept later: a mantissa that is not taken leaves the exponent's entry as it is.
+//! Exponents and mantissas of decimals by parts, which are in the piece completely, or of which nothing is sent. They are read first and
+//! stored later: if the mantissa is not read, the exponent's entry is unchanged.
 //!
-//! `None` stands for all else, faults included: the general way finds out. In an answer, `None` is absent.
+//! `None` stands for all others, faults included: the general path decodes them. `Some(None)` is absent.
 
 ghost use Rattle.std.specs.Prelude.{◌≡◌, ◌≢◌, ◌<◌, Bool, true, false, [], length, Some, IfSome, option_map};
 ghost use Rattle.fast_value.specs.meaning.Kinds.{I, IsWithin, exponent_range};
@@ -22,7 +22,7 @@ use fast_units::fields::{Number, assign_empty, needs_bytes, number_under};
 use fast_units::short_integers::keep_integer;
 use fast_value::{Kind, Value};
 
-/// What the field's entry holds, if that is a signed integer of the kind, or nothing.
+/// Returns the contents of the field's entry, if that is a signed integer of the type, or empty.
 #[inline(always)]
 fn held_part(slots: &Slots, field: &FieldInstruction, kind: Kind) -> Option<Option<i64>>
     requires within { HasEntryOf slots.now field.now }
@@ -37,7 +37,7 @@ fn held_part(slots: &Slots, field: &FieldInstruction, kind: Kind) -> Option<Opti
     }
 }
 
-/// The initial value, if that is a signed integer, or none.
+/// Returns the initial value, if that is a signed integer, or none.
 #[inline(always)]
 fn initial_part(field: &FieldInstruction) -> Option<Option<i64>>
     ensures { IfSome result (λ r. (field_data field.now).initial ≡ option_map number_data (part_item r)) }
@@ -49,7 +49,7 @@ fn initial_part(field: &FieldInstruction) -> Option<Option<i64>>
     }
 }
 
-/// A part of which nothing is sent: a constant, under default the initial value, under copy what the entry holds.
+/// Decodes a part of which nothing is sent: a constant, under default the initial value, under copy the value of the entry.
 #[inline(always)]
 fn known_part(slots: &Slots, field: &FieldInstruction, kind: Kind, bit: bool) -> Option<Option<i64>>
     requires no_bytes { needs_bytes field.now.operator bit ≡ false }
@@ -70,7 +70,7 @@ fn known_part(slots: &Slots, field: &FieldInstruction, kind: Kind, bit: bool) ->
     }
 }
 
-/// An exponent of one byte that is sent, or NULL.
+/// Reads an exponent of one byte that is sent, or NULL.
 #[inline(always)]
 fn sent_exponent(slots: &Slots, field: &FieldInstruction, rest: &[u8]) -> Option<Option<i32>>
     requires kind { field.now.kind ≡ Kind.Int32 }
@@ -86,7 +86,7 @@ fn sent_exponent(slots: &Slots, field: &FieldInstruction, rest: &[u8]) -> Option
     }
 }
 
-/// An exponent of which nothing is sent.
+/// Decodes an exponent of which nothing is sent.
 #[inline(always)]
 fn known_exponent(slots: &Slots, field: &FieldInstruction, bit: bool) -> Option<Option<i32>>
     requires no_bytes { needs_bytes field.now.operator bit ≡ false }
@@ -106,8 +106,8 @@ fn known_exponent(slots: &Slots, field: &FieldInstruction, bit: bool) -> Option<
     }
 }
 
-/// An exponent and the bytes that it takes, one or none: in its range, or absent. The bit is its presence bit, set if it
-/// has none.
+/// Decodes an exponent, in its range or absent, and returns it with its number of bytes, one or none. The bit is its presence bit, set if
+/// it has none.
 #[inline(always)]
 pub fn exponent_part(
     slots: &Slots,
@@ -128,8 +128,8 @@ pub fn exponent_part(
     Some((known, 0))
 }
 
-/// What an exponent's entry holds, if that is a number of its kind, or nothing where the exponent may be absent. The number
-/// is looked for first, which is one test of the tag.
+/// Returns the contents of an exponent's entry, if that is a number of its type, or empty if the exponent is optional. The number is looked
+/// for first, which is one test of the tag.
 #[inline(always)]
 fn held_exponent(slots: &Slots, field: &FieldInstruction, optional: bool) -> Option<Option<i64>>
     requires within { HasEntryOf slots.now field.now }
@@ -149,7 +149,7 @@ fn held_exponent(slots: &Slots, field: &FieldInstruction, optional: bool) -> Opt
     }
 }
 
-/// An exponent under default or copy of which nothing is sent.
+/// Decodes an exponent under default or copy of which nothing is sent.
 #[inline(always)]
 fn unsent_exponent(
     slots: &Slots,
@@ -180,7 +180,7 @@ fn unsent_exponent(
     }
 }
 
-/// An exponent under default or copy and the bytes that it takes, as in [`exponent_part`]. Operator and presence are
+/// Decodes an exponent under default or copy, and returns it with its number of bytes, as [`exponent_part`] does. Operator and presence are
 /// arguments: constants at the calls.
 #[inline(always)]
 pub fn usual_exponent(
@@ -207,7 +207,7 @@ pub fn usual_exponent(
     Some((known, 0))
 }
 
-/// A mandatory mantissa that is sent, and the bytes that it takes. Under delta the entry has to hold one.
+/// Reads a mandatory mantissa that is sent, and returns it with its number of bytes. Under delta the entry has to hold one.
 #[inline(always)]
 fn sent_mantissa(
     slots: &Slots,
@@ -236,7 +236,7 @@ fn sent_mantissa(
     }
 }
 
-/// A mantissa that is there, and the bytes that it takes. The bit is its presence bit, set if it has none. It is called out
+/// Decodes a mandatory mantissa, and returns it with its number of bytes. The bit is its presence bit, set if it has none. It is called out
 /// of line: its body is longer than the build inlines.
 #[cold]
 #[inline(never)]
@@ -261,7 +261,7 @@ pub fn mantissa_part(
     }
 }
 
-/// Whether what an exponent keeps that took these bytes, if any, leaves the mantissa's entry as it is.
+/// Returns whether storing an exponent of this number of bytes, if any, leaves the mantissa's entry unchanged.
 #[inline(always)]
 pub fn leaves_mantissa(
     exponent: &FieldInstruction,
@@ -281,7 +281,7 @@ pub fn leaves_mantissa(
     }
 }
 
-/// Keeps a part that took these bytes, or NULL. Where nothing is sent, the entry stays as it is.
+/// Stores a part of this number of bytes, or NULL. If nothing is sent, the entry is unchanged.
 #[inline(always)]
 pub fn keep_part(
     slots: &mut Slots,
@@ -305,7 +305,7 @@ pub fn keep_part(
     }
 }
 
-/// Keeps an exponent that took these bytes, or NULL. Where nothing is sent, the entry stays as it is.
+/// Stores an exponent of this number of bytes, or NULL. If nothing is sent, the entry is unchanged.
 #[inline(always)]
 pub fn keep_exponent(slots: &mut Slots, field: &FieldInstruction, number: Option<i32>, bytes: usize)
     requires kind { field.now.kind ≡ Kind.Int32 }
@@ -322,7 +322,7 @@ pub fn keep_exponent(slots: &mut Slots, field: &FieldInstruction, number: Option
     }
 }
 
-/// What an entry holds behind an exponent, or NULL.
+/// Returns the entry after an exponent, or NULL.
 #[inline(always)]
 fn exponent_held(number: Option<i32>) -> Entry
     ensures held { with_text result [] ≡ item_held Kind.Int32 (part_item number) }
@@ -334,7 +334,7 @@ fn exponent_held(number: Option<i32>) -> Entry
     }
 }
 
-/// A mandatory mantissa behind its delta, and the bytes that this takes, by its entry, which has to hold one.
+/// Reads the delta of a mandatory mantissa, and returns the mantissa after it with its number of bytes. The entry has to hold one.
 #[inline(always)]
 pub fn changed_part(slots: &Slots, entry: u32, rest: &[u8], strict: bool) -> Option<(i64, usize)>
     requires within { entry < length (slots_dictionary slots.now) }
@@ -351,7 +351,7 @@ pub fn changed_part(slots: &Slots, entry: u32, rest: &[u8], strict: bool) -> Opt
     }
 }
 
-/// Keeps a mantissa at its entry.
+/// Stores a mantissa at its entry.
 #[inline(always)]
 pub fn keep_mantissa(slots: &mut Slots, entry: u32, number: i64)
     requires within { entry < length (slots_dictionary slots.old) }

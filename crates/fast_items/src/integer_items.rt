@@ -1,7 +1,7 @@
-//! Fields of integers that stand in the piece whole. Entry, kind, operator and presence are arguments: constants at the
-//! calls, which fold by them.
+//! Integer fields that are in the piece completely. Entry, type, operator and presence are arguments: constants at the calls, which fold by
+//! them.
 //!
-//! `None` stands for all else, faults included: nothing has changed then, and the general way finds out.
+//! `None` stands for all others, faults included: nothing has changed then, and the general path decodes them.
 
 ghost use Rattle.std.specs.Prelude.{◌≡◌, ◌≢◌, ◌<◌, ◌^◌, IsTrue, ℕ, length, ℤ, pos, ◌+ℤ◌, Some, Ok, IfSome, IfNone, option_map};
 ghost use Rattle.fast_wire.specs.meaning.Integers.{IsWithin, signed_range, unsigned_up_to, signed_between};
@@ -21,7 +21,7 @@ use fast_tree::Operator;
 use fast_units::fields::{Number, number_under};
 use fast_value::{Code, Kind};
 
-/// Keeps a number at the entry, under the kind.
+/// Stores a number at the entry, under the type.
 #[inline(always)]
 pub fn keep_at(slots: &mut Slots, entry: u32, kind: Kind, number: Number)
     requires within { entry < length (slots_dictionary slots.old) }
@@ -32,7 +32,7 @@ pub fn keep_at(slots: &mut Slots, entry: u32, kind: Kind, number: Number)
     slots.set_number(entry as usize, number.held_under(kind));
 }
 
-/// The same as [`keep_at`], for an entry that holds an integer under the kind: the number alone is written then.
+/// Stores a number as [`keep_at`] does, at an entry that holds an integer under the type: only the number is written.
 #[inline(always)]
 pub fn keep_changed_at(slots: &mut Slots, entry: u32, kind: Kind, number: Number)
     requires within { entry < length (slots_dictionary slots.old) }
@@ -43,7 +43,7 @@ pub fn keep_changed_at(slots: &mut Slots, entry: u32, kind: Kind, number: Number
     slots.change_number(entry as usize, number.held_under(kind));
 }
 
-/// Keeps a number that is sent at the entry, or makes this empty behind NULL, if the operator keeps a value.
+/// Stores a number that is sent at the entry, or empties it after NULL, if the operator keeps a value.
 #[inline(always)]
 fn keep_item_at(slots: &mut Slots, entry: u32, kind: Kind, operator: Operator, item: Option<Number>)
     requires within { IsEntryFor slots.old operator entry }
@@ -59,7 +59,7 @@ fn keep_item_at(slots: &mut Slots, entry: u32, kind: Kind, operator: Operator, i
     }
 }
 
-/// An unsigned integer, or NULL, as an item.
+/// Returns an unsigned integer, or NULL, as an item.
 #[inline(always)]
 fn unsigned_number(number: Option<u64>) -> Option<Number>
     ensures { (kind : Kind) → ((n : ℕ) → value_of_integer kind (pos n) ≡ U n)
@@ -71,7 +71,7 @@ fn unsigned_number(number: Option<u64>) -> Option<Number>
     }
 }
 
-/// A signed integer, or NULL, as an item.
+/// Returns a signed integer, or NULL, as an item.
 #[inline(always)]
 fn signed_number(number: Option<i64>) -> Option<Number>
     ensures { (kind : Kind) → ((x : ℤ) → value_of_integer kind x ≡ I x)
@@ -83,7 +83,7 @@ fn signed_number(number: Option<i64>) -> Option<Number>
     }
 }
 
-/// An unsigned integer, or NULL, under no delta: copy and increment keep it.
+/// Reads an unsigned integer, or NULL, under an operator other than delta: copy and increment store it.
 #[inline(always)]
 pub fn sent_unsigned(
     slots: &mut Slots,
@@ -111,7 +111,7 @@ pub fn sent_unsigned(
     Some(TakenItem { item, bytes })
 }
 
-/// A signed integer, or NULL, under no delta: copy and increment keep it.
+/// Reads a signed integer, or NULL, under an operator other than delta: copy and increment store it.
 #[inline(always)]
 pub fn sent_signed(
     slots: &mut Slots,
@@ -140,7 +140,7 @@ pub fn sent_signed(
     Some(TakenItem { item, bytes })
 }
 
-/// An integer of 32 bits behind a delta, if that is one. Where both are, nothing has wrapped.
+/// Adds a delta to an unsigned integer of 32 bits, if the sum is one too. If both have 32 bits, nothing has wrapped.
 #[inline(always)]
 fn unsigned_sum_32(base: u64, delta: i64) -> Option<u64>
     ensures sum { IfSome result (λ n. pos n ≡ pos base +ℤ delta) }
@@ -153,7 +153,7 @@ fn unsigned_sum_32(base: u64, delta: i64) -> Option<u64>
     Some(sum)
 }
 
-/// The same of 64 bits: where nothing wraps, the sum is less exactly for a delta below zero.
+/// Adds a delta to an unsigned integer of 64 bits, if the sum is one too. If nothing wraps, the sum is less exactly for a delta below zero.
 #[inline(always)]
 fn unsigned_sum_64(base: u64, delta: i64) -> Option<u64>
     ensures { IfSome result (λ n. pos n ≡ pos base +ℤ delta) }
@@ -166,7 +166,7 @@ fn unsigned_sum_64(base: u64, delta: i64) -> Option<u64>
     }
 }
 
-/// The same of signed integers of 32 bits.
+/// Adds a delta to a signed integer of 32 bits, if the sum is one too.
 #[inline(always)]
 fn signed_sum_32(base: i64, delta: i64) -> Option<i64>
     ensures sum { IfSome result (λ x. x ≡ base +ℤ delta) }
@@ -179,7 +179,7 @@ fn signed_sum_32(base: i64, delta: i64) -> Option<i64>
     Some(sum)
 }
 
-/// Whether a number has 32 bits.
+/// Returns whether a number has 32 bits.
 #[inline(always)]
 fn is_32_bits(number: i64) -> bool
     ensures { IsTrue result → IsWithin (signed_range 31) number }
@@ -187,7 +187,7 @@ fn is_32_bits(number: i64) -> bool
     -2_147_483_648 <= number && number <= 2_147_483_647
 }
 
-/// An integer behind its delta: where it is one of the kind, and so is the sum.
+/// Adds a delta to an integer, if it is one of the type, and so is the sum.
 #[inline(always)]
 fn sum_of(kind: Kind, number: Number, delta: i64) -> Option<Number>
     ensures { IfSome result (λ n. (x : ℤ)
@@ -215,7 +215,7 @@ fn sum_of(kind: Kind, number: Number, delta: i64) -> Option<Number>
     }
 }
 
-/// The entry's number behind a delta, which the entry then holds: where it holds one of the kind, and the sum is one.
+/// Adds a delta to the entry's number, and stores the sum there: if the entry holds a number of the type, and the sum is one.
 #[inline(always)]
 fn change_at(slots: &mut Slots, entry: u32, kind: Kind, delta: i64) -> Option<Number>
     requires within { entry < length (slots_dictionary slots.old) }
@@ -229,7 +229,7 @@ fn change_at(slots: &mut Slots, entry: u32, kind: Kind, delta: i64) -> Option<Nu
     Some(sum)
 }
 
-/// An integer under delta, or NULL, which changes nothing.
+/// Reads an integer under delta, or NULL, which changes nothing.
 #[inline(always)]
 pub fn sent_delta(
     slots: &mut Slots,

@@ -1,6 +1,6 @@
-//! Parts of deltas, joined to the texts that entries hold: at the end in the slot, at the front by a buffer.
+//! Parts of deltas, joined to the strings that entries hold: at the end in the slot, at the front through a buffer.
 //!
-//! `None` stands for all else, faults included: nothing has changed then.
+//! `None` stands for all others, faults included: nothing has changed then.
 
 ghost use Rattle.std.specs.Prelude.{◌≡◌, ℕ, List, ◌++◌, ◌∷◌, [], ◌<◌, ◌≤◌, ◌≤ℤ◌, ◌<ℤ◌, length, drop, pos, negsuc, true, Some, Ok, IfSome, IfNone, IsTrue};
 ghost use Rattle.fast_value.specs.meaning.Kinds.{family, texts, value_of_text};
@@ -15,7 +15,7 @@ use fast_units::scratch::Scratch;
 use fast_units::texts::is_text_of;
 use fast_value::Kind;
 
-/// How many bytes a subtraction length drops: at the end, or at the front where it is negative.
+/// Returns the number of bytes that a subtraction length removes: at the end, or at the front if it is negative.
 #[inline(always)]
 fn dropped_by(subtraction: i64) -> usize
     ensures end { pos 0 ≤ℤ subtraction → subtraction ≡ pos result }
@@ -27,7 +27,7 @@ fn dropped_by(subtraction: i64) -> usize
     (-1 - subtraction) as usize
 }
 
-/// Whether what is kept of a text and a part behind it are texts of the kind, and so both together.
+/// Returns whether the bytes kept of a string and the part after them are strings of the type, and so both together.
 #[inline(always)]
 fn are_texts_of(kind: Kind, kept: &[u8], part: &[u8]) -> bool
     ensures { result ≡ true → checked_text kind (kept.now ++ part.now)
@@ -36,7 +36,7 @@ fn are_texts_of(kind: Kind, kept: &[u8], part: &[u8]) -> bool
     is_text_of(kind, kept) && is_text_of(kind, part)
 }
 
-/// Puts the part behind the entry's text, of which the last bytes are dropped.
+/// Appends the part to the entry's string, of which the last bytes are removed.
 #[inline(always)]
 fn append_part(
     slots: &mut Slots,
@@ -66,7 +66,7 @@ fn append_part(
     Some(())
 }
 
-/// What the entry's text keeps behind its first bytes, if it is one of the kind.
+/// Returns the entry's string without its first bytes, if it is one of the type.
 #[inline(always)]
 fn kept_behind(slots: &Slots, entry: usize, kind: Kind, dropped: usize) -> Option<&[u8]>
     requires { entry < length (slots_dictionary slots.now) }
@@ -83,7 +83,7 @@ fn kept_behind(slots: &Slots, entry: usize, kind: Kind, dropped: usize) -> Optio
     Some(&base[dropped..])
 }
 
-/// How many bytes a part may have beside what the subtraction length keeps of the entry's text.
+/// Returns the most bytes that a part may have beside the bytes that the subtraction length keeps of the entry's string.
 #[inline(always)]
 pub(crate) fn kept_room(
     slots: &Slots,
@@ -104,7 +104,7 @@ pub(crate) fn kept_room(
     Some(room - (base.len() - dropped))
 }
 
-/// Puts the part before the entry's text, of which the first bytes are dropped.
+/// Prepends the part to the entry's string, of which the first bytes are removed.
 #[inline(never)]
 fn prepend_part(
     slots: &mut Slots,
@@ -136,7 +136,7 @@ fn prepend_part(
     Some(())
 }
 
-/// Puts an ASCII part before the entry's text, likewise.
+/// Prepends an ASCII part to the entry's string, of which the first bytes are removed.
 #[inline(never)]
 fn prepend_ascii(
     slots: &mut Slots,
@@ -172,7 +172,7 @@ fn prepend_ascii(
     Some(())
 }
 
-/// Puts an ASCII part behind the entry's text, of which the last bytes are dropped.
+/// Appends an ASCII part to the entry's string, of which the last bytes are removed.
 #[inline(always)]
 fn append_ascii(
     slots: &mut Slots,
@@ -202,7 +202,7 @@ fn append_ascii(
     Some(())
 }
 
-/// Puts a tail in the place of the last bytes of the entry's text, one for one. A longer tail is all of the text.
+/// Replaces the last bytes of the entry's string by a tail, one for one. A longer tail is all of the string.
 #[inline(always)]
 pub(crate) fn put_tail(slots: &mut Slots, entry: usize, kind: Kind, part: &[u8]) -> Option<()>
     requires there { entry < length (slots_dictionary slots.old) }
@@ -222,7 +222,7 @@ pub(crate) fn put_tail(slots: &mut Slots, entry: usize, kind: Kind, part: &[u8])
     Some(())
 }
 
-/// Joins the part of a vector to the entry's text, on the side and behind the bytes that the subtraction length says.
+/// Joins the part of a vector to the entry's string, on the side that the subtraction length says, after it removes bytes there.
 #[inline(always)]
 pub(crate) fn join_vector(
     slots: &mut Slots,
@@ -252,7 +252,8 @@ pub(crate) fn join_vector(
     Some(())
 }
 
-/// Joins an ASCII part, of which this is the last character, likewise.
+/// Joins an ASCII part, `front` followed by its last character, to the entry's string, on the side that the subtraction length says, after
+/// it removes bytes there.
 #[inline(always)]
 pub(crate) fn join_ascii(
     slots: &mut Slots,

@@ -1,4 +1,4 @@
-//! Values of fields of texts, lent from the piece or from the entries that keep them, and fields of which nothing is sent. Entry and kind
+//! Values of string fields, borrowed from the piece or from the entries that keep them, and fields of which nothing is sent. Entry and type
 //! are arguments: constants at the calls, which fold by them.
 
 ghost use Rattle.std.specs.Prelude.{◌≡◌, ◌<◌, ℕ, Bool, true, List, length, Some, option_map, IfSome};
@@ -18,7 +18,7 @@ use fast_units::fields::text_value;
 use fast_units::source::ValueSource;
 use fast_value::{Kind, Scalar};
 
-/// The value of a field of this kind, lent from these bytes of the piece.
+/// Borrows the value of a field of this type from these bytes of the piece.
 #[inline(always)]
 pub fn lent_at(kind: Kind, piece: &[u8], source: ValueSource) -> Option<Scalar<'_>>
     requires { IsLentSource source }
@@ -31,7 +31,7 @@ pub fn lent_at(kind: Kind, piece: &[u8], source: ValueSource) -> Option<Scalar<'
     }
 }
 
-/// The value that the entry holds, whatever it is.
+/// Borrows the value that the entry holds, of any type.
 #[cold]
 #[inline(never)]
 fn value_held(slots: &Slots, entry: usize) -> Option<Scalar<'_>>
@@ -44,7 +44,7 @@ fn value_held(slots: &Slots, entry: usize) -> Option<Scalar<'_>>
     }
 }
 
-/// The value that the entry holds, which is a text of this kind in most cases.
+/// Borrows the value that the entry holds, which is a string of this type in most cases.
 #[inline(always)]
 fn text_held(slots: &Slots, entry: usize, kind: Kind) -> Option<Scalar<'_>>
     requires { entry < length (slots_dictionary slots.now) }
@@ -56,7 +56,7 @@ fn text_held(slots: &Slots, entry: usize, kind: Kind) -> Option<Scalar<'_>>
     }
 }
 
-/// The value of a field of this kind, lent from the entry that keeps it.
+/// Borrows the value of a field of this type from the entry that keeps it.
 #[inline(always)]
 pub fn kept_at(slots: &Slots, entry: u32, kind: Kind, source: ValueSource) -> Option<Scalar<'_>>
     requires there { entry < length (slots_dictionary slots.now) }
@@ -71,7 +71,7 @@ pub fn kept_at(slots: &Slots, entry: u32, kind: Kind, source: ValueSource) -> Op
     }
 }
 
-/// Copy and tail where nothing is sent: the text of the kind that the entry holds, or absent where it is empty.
+/// Decodes an unsent field under copy or tail: the string of the type that the entry holds, or absent if it is empty.
 #[inline(always)]
 pub fn unsent_text(slots: &Slots, entry: u32, kind: Kind, optional: bool) -> Option<ValueSource>
     requires there { entry < length (slots_dictionary slots.now) }

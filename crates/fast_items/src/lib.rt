@@ -1,5 +1,5 @@
-//! Fields of which all units stand whole in the piece, or all but the last, as the arms of the loop take them: from the bytes to a value and the
-//! dictionary behind it.
+//! Fields of which all units, or all but the last, are in the piece completely, as the arms of the loop read them: from the bytes to a
+//! value and the dictionary after it.
 #![tactic(auto)]
 
 pub mod ascii_items;

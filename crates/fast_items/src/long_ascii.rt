@@ -1,4 +1,4 @@
-//! ASCII texts of the quick loop that are taken out of line: those that are no short ones, longer than a block, near the end of the
+//! ASCII strings of the loop's arms that are read out of line: those that are not short ones, but longer than a block, near the end of the
 //! piece, or empty; and tails whose entry holds nothing.
 
 ghost use Rattle.std.specs.Prelude.{◌≡◌, ◌+◌, ◌^◌, ◌<◌, ◌≤◌, ◌++◌, ℕ, Bool, true, false, List, [], length, Some, None, IfSome, IfNone};
@@ -19,7 +19,7 @@ use fast_units::scratch::Scratch;
 use fast_value::Kind;
 use fast_wire::find_stop;
 
-/// Takes a text and the character behind it, if there is one.
+/// Appends a string, `front` followed by its last character, if there is one.
 fn append_text(scratch: &mut Scratch, front: &[u8], last: Option<u8>)
     requires { length scratch.old.text + length (with_last front.now last) ≤ scratch.old.capacity }
     ensures text { scratch.new.text ≡ scratch.old.text ++ with_last front.now last }
@@ -31,7 +31,7 @@ fn append_text(scratch: &mut Scratch, front: &[u8], last: Option<u8>)
     }
 }
 
-/// Their number.
+/// Returns the number of characters of a string, `front` followed by its last character, if there is one.
 fn size_of(front: &[u8], last: Option<u8>) -> usize
     requires { length (with_last front.now last) < 2 ^ 64 }
     ensures { result ≡ length (with_last front.now last) }
@@ -42,7 +42,7 @@ fn size_of(front: &[u8], last: Option<u8>) -> usize
     }
 }
 
-/// The entry keeps the text, which then stands in the scratch too. `false`: it takes no text, and nothing has changed.
+/// Stores the string at the entry and in the scratch. Returns `false`, with nothing changed, if the entry cannot hold a string.
 fn copy_long(
     slots: &mut Slots,
     scratch: &mut Scratch,
@@ -69,7 +69,8 @@ fn copy_long(
     true
 }
 
-/// The same of a tail, joined to the ASCII text that the entry holds. `false`: it holds none of its own kind.
+/// Joins a tail to the ASCII string that the entry holds, and stores the result at the entry and in the scratch. Returns `false`, with
+/// nothing changed, if the entry holds none of its own type.
 fn tail_long(
     slots: &mut Slots,
     scratch: &mut Scratch,
@@ -100,7 +101,7 @@ fn tail_long(
     true
 }
 
-/// Puts a text, of any length, where it stays: into the scratch, or into the slot of the entry that keeps it.
+/// Stores a string, of any length: into the scratch, or into the slot of the entry that keeps it.
 fn put_text(
     slots: &mut Slots,
     scratch: &mut Scratch,
@@ -130,8 +131,8 @@ fn put_text(
     }
 }
 
-/// A text that begins with a character, of any length, if it stands whole in the piece: what is in front of its last character, and
-/// that character.
+/// Returns a string that begins with a character, of any length, if it is in the piece completely: the characters in front of its last one,
+/// and that one.
 #[inline(always)]
 fn whole_characters(rest: &[u8], max_text: usize) -> Option<(&[u8], u8)>
     requires begins { BeginsWithCharacter rest.now }
@@ -144,7 +145,7 @@ fn whole_characters(rest: &[u8], max_text: usize) -> Option<(&[u8], u8)>
     Some((&here[..last], here[last] - 0x80))
 }
 
-/// The bytes of a text that begins with a character, of any length.
+/// Reads a string that begins with a character, of any length, and returns its number of bytes.
 fn sent_characters(
     slots: &mut Slots,
     scratch: &mut Scratch,
@@ -172,7 +173,8 @@ fn sent_characters(
     Some(front.len() + 1)
 }
 
-/// The bytes of a text that stands whole in the piece. NULL is none, and so is what begins with zero.
+/// Reads a string that is in the piece completely, and returns its number of bytes. NULL is not read here, nor is a string that begins with
+/// zero.
 #[inline(never)]
 pub fn sent_long(
     slots: &mut Slots,
@@ -210,7 +212,7 @@ pub fn sent_long(
     }
 }
 
-/// Whether the entry holds no value: it is undefined, or empty.
+/// Returns whether the entry holds no value: it is undefined, or empty.
 fn holds_nothing(slots: &Slots, entry: usize) -> bool
     requires { entry < length (slots_dictionary slots.now) }
     ensures { result ≡ true → HoldsNothing (previous_at (Some entry) (slots_dictionary slots.now)) }
@@ -221,7 +223,7 @@ fn holds_nothing(slots: &Slots, entry: usize) -> bool
     }
 }
 
-/// Whether the first byte, if there is one, is neither a zero nor a bare stop bit.
+/// Returns whether the first byte, if there is one, is neither a zero nor a bare stop bit.
 fn begins_with_character(rest: &[u8]) -> bool
     ensures { result ≡ true → BeginsWithCharacter rest.now }
 {
@@ -233,8 +235,8 @@ fn begins_with_character(rest: &[u8]) -> bool
     }
 }
 
-/// The bytes of a tail of characters that stands whole in the piece, of a field without initial value, at an entry that holds nothing.
-/// There is no text for the tail to be joined to: it is all of the value, which the entry then holds.
+/// Reads a tail of characters that is in the piece completely, of a field without initial value, at an entry that holds nothing, and
+/// returns its number of bytes. The tail is joined to nothing: it is all of the value, which the entry then holds.
 #[cold]
 #[inline(never)]
 pub fn sent_first_tail(

@@ -1,7 +1,7 @@
-//! Deltas of texts of which all units stand whole in the piece: the subtraction length and the part at one go. The entry has to hold
-//! a text of the field's kind. It changes in its slot.
+//! String deltas of which all units are in the piece completely: the subtraction length and the part at once. The entry has to hold a
+//! string of the field's type. It changes in its slot.
 //!
-//! `None` stands for all else, faults included: nothing has changed then, and the general way finds out.
+//! `None` stands for all others, faults included: nothing has changed then, and the general path decodes them.
 
 ghost use Rattle.std.specs.Prelude.{◌≡◌, ◌+◌, ◌<◌, ◌≤◌, [], ℕ, List, length, take, drop, slice_index, option_map, pos, true, false, Some, IfSome, IfNone};
 ghost use Rattle.fast_wire.specs.meaning.Integers.{signed_range, unsigned_range};
@@ -25,7 +25,7 @@ use fast_units::source::ValueSource;
 use fast_value::{Kind, Limits};
 use fast_wire::find_stop;
 
-/// A subtraction length, or NULL where it may be, and the bytes that it takes.
+/// Reads a subtraction length, or NULL if `nullable`, and returns it with its number of bytes.
 #[inline(always)]
 pub(crate) fn whole_subtraction(
     rest: &[u8],
@@ -37,7 +37,7 @@ pub(crate) fn whole_subtraction(
     whole_signed(rest, nullable, strict, -2_147_483_648, 2_147_483_647)
 }
 
-/// The place of the last character of an ASCII text of at most `room` characters, which begins with a character.
+/// Returns the offset of the last character of an ASCII string of at most `room` characters, which begins with a character.
 #[inline(always)]
 fn last_character(rest: &[u8], room: usize) -> Option<usize>
     ensures begins { IfSome result (λ _. BeginsWithCharacter rest.now) }
@@ -56,7 +56,7 @@ fn last_character(rest: &[u8], room: usize) -> Option<usize>
     }
 }
 
-/// Joins an ASCII part that stands whole, and tells the bytes that it takes.
+/// Joins an ASCII part that is there completely, and returns its number of bytes.
 #[inline(always)]
 fn ascii_part(
     slots: &mut Slots,
@@ -91,7 +91,7 @@ fn ascii_part(
     Some(last + 1)
 }
 
-/// Joins the part of a vector that stands whole, its size and its bytes, and tells the bytes that both take.
+/// Joins the part of a vector that is there completely, its size and its bytes, and returns the number of bytes of both.
 #[inline(always)]
 fn vector_part(
     slots: &mut Slots,
@@ -122,7 +122,7 @@ fn vector_part(
     Some(len + part.len())
 }
 
-/// Takes the part of a delta, and tells the bytes that it takes.
+/// Reads the part of a delta, and returns its number of bytes.
 #[inline(always)]
 fn sent_part(
     slots: &mut Slots,
@@ -158,7 +158,7 @@ fn sent_part(
     }
 }
 
-/// Takes a delta of a text, or NULL, at an entry that holds a text of its kind. The entry then holds the text.
+/// Reads a string delta, or NULL, at an entry that holds a string of its type. The entry then holds the new string.
 #[inline(never)]
 pub fn sent_delta(
     slots: &mut Slots,

@@ -1,34 +1,34 @@
-//! Fields that are taken from the piece whole, all their units at once, and texts that begin in it and don't end there.
+//! Fields that are read from the piece at once, with all their units, and strings that begin in it and do not end there.
 
 use fast_units::fields::Number;
 use fast_units::source::ValueSource;
 use fast_units::stages::Stage;
 
-/// A number that stands whole in the piece, or NULL, and the bytes that it takes.
+/// A number that is in the piece completely, or NULL, with its number of bytes.
 #[derive(Clone, Copy)]
 pub struct TakenItem {
-    /// The number, or none for NULL.
+    /// The number, or `None` for NULL.
     pub item: Option<Number>,
-    /// The bytes that it takes.
+    /// The number of bytes of the field.
     pub bytes: usize,
 }
 
-/// A text that stands whole in the piece, or NULL, and the bytes that the field takes.
+/// A string that is in the piece completely, or NULL, with the number of bytes of the field.
 #[derive(Clone, Copy)]
 pub struct TakenText {
-    /// Where the value stands.
+    /// The source of the value.
     pub source: ValueSource,
-    /// Where a text begins in the bytes that the field takes, if it is lent from them.
+    /// The offset of the string in the bytes of the field, if it is borrowed from them.
     pub from: usize,
-    /// The bytes that the field takes.
+    /// The number of bytes of the field.
     pub bytes: usize,
 }
 
-/// A text that begins in the piece and goes on behind it: its units before the last are whole, and the last is cut.
+/// A string that begins in the piece and goes on after it: its units before the last are complete, and the last is split.
 #[derive(Clone, Copy)]
 pub struct BegunText {
     /// The last unit.
     pub stage: Stage,
-    /// Where it begins in the bytes of the field. All that are there from here on are its own.
+    /// The offset of the last unit in the bytes of the field. All bytes from here on belong to it.
     pub from: usize,
 }

@@ -1,8 +1,6 @@
-//! Fields of integers of which nothing is sent. Entry, kind, operator and presence are arguments: constants at the calls,
-//! which fold by them.
+//! Integer fields of which nothing is sent. Entry, type, operator and presence are arguments: constants at the calls, which fold by them.
 //!
-//! `None` stands for all else, faults included: nothing has changed then, and the general way finds out. In an answer,
-//! `None` is absent.
+//! `None` stands for all others, faults included: nothing has changed then, and the general path decodes them. `Some(None)` is absent.
 
 ghost use Rattle.std.specs.Prelude.{◌≡◌, ◌⊎◌, ◌<◌, true, ℕ, List, length, Some, None, IfSome, IfNone};
 ghost use Rattle.fast_value.specs.meaning.Kinds.{integer_of, value_of_integer};
@@ -20,7 +18,7 @@ use fast_tree::{FieldInstruction, Operator};
 use fast_units::fields::{Number, number_under};
 use fast_value::{Kind, Value};
 
-/// The number that an entry holds, if it is one of the kind; or absent, if the field may be and the entry is empty.
+/// Returns the number that an entry holds, if it is one of the type; or absent, if the field is optional and the entry is empty.
 #[inline(always)]
 fn held_item(kind: Kind, optional: bool, entry: Entry) -> Option<Option<Number>>
     ensures held { IfSome result (λ r. (text : List ℕ) → with_text entry text ≡ item_held kind r) }
@@ -35,7 +33,7 @@ fn held_item(kind: Kind, optional: bool, entry: Entry) -> Option<Option<Number>>
     }
 }
 
-/// Copy: what the entry holds, decimals included.
+/// Decodes an unsent field under copy: the contents of the entry, decimals included.
 #[inline(always)]
 pub fn copied_at(slots: &Slots, entry: u32, kind: Kind, optional: bool) -> Option<Option<Number>>
     requires within { entry < length (slots_dictionary slots.now) }
@@ -44,7 +42,7 @@ pub fn copied_at(slots: &Slots, entry: u32, kind: Kind, optional: bool) -> Optio
     held_item(kind, optional, slots.held(entry as usize))
 }
 
-/// One more than a number, where that is not the greatest of its kind: behind that one the general way finds the least.
+/// Returns one more than a number, if that is not the greatest of its type: the general path returns the least after it.
 #[inline(always)]
 fn next_number(kind: Kind, number: Number) -> Option<Number>
     ensures { IfSome result (λ n. number_data n
@@ -59,8 +57,8 @@ fn next_number(kind: Kind, number: Number) -> Option<Number>
     }
 }
 
-/// The item of a field of which nothing is sent, under copy and increment: where its entry holds a number of its kind,
-/// that or one more, which the entry then holds; absent where the entry is empty and the field may be.
+/// Decodes an unsent field under copy or increment: if its entry holds a number of its type, that number or one more, which the entry then
+/// holds; absent if the entry is empty and the field optional.
 #[inline(always)]
 fn kept_item(
     slots: &mut Slots,
@@ -89,7 +87,7 @@ fn kept_item(
     }
 }
 
-/// The same under any operator: `None` under others.
+/// Decodes an unsent field under copy or increment. Returns `None` under other operators.
 #[inline(always)]
 pub fn unsent_integer(
     slots: &mut Slots,
@@ -109,8 +107,8 @@ pub fn unsent_integer(
     }
 }
 
-/// The item of a field under default of which nothing is sent: its initial value, if it is an integer of the kind's form;
-/// absent without one, if the field may be.
+/// Decodes an unsent field under default: its initial value, if it is an integer of the type's form; absent without one, if the field is
+/// optional.
 #[inline(always)]
 pub fn defaulted_integer(
     field: &FieldInstruction,

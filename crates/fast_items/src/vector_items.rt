@@ -1,6 +1,6 @@
-//! Fields of Unicode strings and byte vectors of which all units stand whole in the piece: the size and the bytes at one go.
+//! Fields of Unicode strings and byte vectors of which all units are in the piece completely: the size and the bytes at once.
 //!
-//! `None` stands for all else, faults included: nothing has changed then, and the general way finds out.
+//! `None` stands for all others, faults included: nothing has changed then, and the general path decodes them.
 
 ghost use Rattle.std.specs.Prelude.{◌≡◌, ◌≢◌, ◌<◌, ◌≤◌, ℕ, length, take, false, Some, option_map, pos, IfSome, IfNone};
 ghost use Rattle.fast_wire.specs.meaning.Integers.{unsigned_range};
@@ -21,7 +21,7 @@ use fast_units::source::ValueSource;
 use fast_units::texts::{TOP_SIZE, is_text_of};
 use fast_value::{Kind, Limits};
 
-/// The size of a vector, or NULL where it may be, and the bytes that it takes.
+/// Reads the size of a vector, or NULL if `nullable`, and returns it with its number of bytes.
 #[inline(always)]
 pub(crate) fn whole_size(rest: &[u8], nullable: bool, strict: bool) -> Option<(Option<u64>, usize)>
     ensures { IfSome result (λ r. IsFirstInt (λ y. option_map pos y) strict (unsigned_range 32) nullable
@@ -30,7 +30,7 @@ pub(crate) fn whole_size(rest: &[u8], nullable: bool, strict: bool) -> Option<(O
     whole_unsigned(rest, nullable, strict, TOP_SIZE)
 }
 
-/// So many bytes, if there is room for them and they are there.
+/// Returns the next `size` bytes, if there is room for them and they are there.
 #[inline(always)]
 pub(crate) fn whole_run(rest: &[u8], size: u64, room: usize) -> Option<&[u8]>
     ensures room { IfSome result (λ _. size ≤ room) }
@@ -43,7 +43,7 @@ pub(crate) fn whole_run(rest: &[u8], size: u64, room: usize) -> Option<&[u8]>
     Some(&rest[..size as usize])
 }
 
-/// Takes a vector that is not kept, or NULL. It is lent from the piece.
+/// Reads a vector that is not kept, or NULL. It is borrowed from the piece.
 #[inline(always)]
 pub fn sent_vector(
     kind: Kind,
@@ -81,7 +81,7 @@ pub fn sent_vector(
     })
 }
 
-/// Takes a tail of a vector, or NULL, at an entry that holds a text of its kind. The entry then holds the text.
+/// Reads a tail of a vector, or NULL, at an entry that holds a string of its type. The entry then holds the new string.
 #[inline(always)]
 pub fn sent_tail(
     slots: &mut Slots,
