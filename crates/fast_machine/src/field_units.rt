@@ -1,4 +1,4 @@
-//! Units of fields in the general way: integers, texts and runs of bytes.
+//! Units of fields on the general path: integers, strings and runs of bytes.
 
 ghost use Rattle.std.specs.Prelude.{◌≡◌, ◌≢◌, ◌⊎◌, ◌<◌, ◌≤◌, true, false, ℕ, [], length, length as list_length, Some, Ok};
 ghost use Rattle.fast_template.specs.meaning.Flat.{field_data};
@@ -25,7 +25,7 @@ use fast_units::stages::{FieldStep, Stage};
 use fast_value::{Kind, Limits};
 
 impl<'t> Machine<'t> {
-    /// Takes bytes of the first unit of the next instruction, an integer.
+    /// Reads bytes of the first unit of the next instruction, an integer.
     pub fn take_first_integer<S: Sink>(
         &mut self,
         templates: &'t Templates,
@@ -67,7 +67,7 @@ impl<'t> Machine<'t> {
         }
     }
 
-    /// Takes bytes of the exponent of the next instruction, a decimal by parts.
+    /// Reads bytes of the exponent of the next instruction, a decimal by parts.
     #[inline(always)]
     fn take_exponent<S: Sink>(
         &mut self,
@@ -109,7 +109,7 @@ impl<'t> Machine<'t> {
         }
     }
 
-    /// Takes bytes of the length of the next instruction, a sequence.
+    /// Reads bytes of the length of the next instruction, a sequence.
     fn take_length<S: Sink>(
         &mut self,
         templates: &'t Templates,
@@ -151,7 +151,7 @@ impl<'t> Machine<'t> {
         }
     }
 
-    /// Takes bytes of the mantissa of the next instruction, a decimal by parts.
+    /// Reads bytes of the mantissa of the next instruction, a decimal by parts.
     pub fn take_mantissa<S: Sink>(
         &mut self,
         templates: &'t Templates,
@@ -189,7 +189,7 @@ impl<'t> Machine<'t> {
         }
     }
 
-    /// Takes bytes of a text or of a later unit of the next instruction, a field.
+    /// Reads bytes of a string or of a later unit of the next instruction, a field.
     pub fn take_later_unit<S: Sink>(
         &mut self,
         templates: &'t Templates,
@@ -214,7 +214,7 @@ impl<'t> Machine<'t> {
         self.scalar_taken(templates, limits, number, field, progress, rest, sink)
     }
 
-    /// Takes bytes of a text or of a later unit of a field.
+    /// Reads bytes of a string or of a later unit of a field.
     #[inline(always)]
     fn take_scalar(
         &mut self,
@@ -263,7 +263,7 @@ impl<'t> Machine<'t> {
         }
     }
 
-    /// What a unit of the next instruction, a field, has come to.
+    /// Ends a unit of the next instruction, a field, by the progress that was made.
     #[inline(always)]
     pub fn scalar_taken<S: Sink>(
         &mut self,
@@ -299,7 +299,7 @@ impl<'t> Machine<'t> {
         }
     }
 
-    /// A unit of the next instruction, a field, is whole.
+    /// Goes on after a complete unit of the next instruction, a field.
     #[inline(always)]
     fn step_on<S: Sink>(
         &mut self,

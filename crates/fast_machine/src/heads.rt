@@ -39,7 +39,7 @@ use fast_units::source::ValueSource;
 use fast_value::{Code, Limits, Scalar};
 use fast_wire::map_overlong;
 
-/// Whether a map has more bytes than a segment of so many bits can use, in strict mode.
+/// Returns whether a map has more bytes than a segment of `bits` bits can use, in strict mode.
 #[inline]
 pub fn is_too_wide(strict: bool, map_len: usize, bits: usize) -> bool
     ensures { result ≡ (strict && not (nat_le map_len (bytes_for bits))) }
@@ -47,7 +47,7 @@ pub fn is_too_wide(strict: bool, map_len: usize, bits: usize) -> bool
     strict && map_len > bits.div_ceil(7).max(1)
 }
 
-/// Whether the last of more than seven bits of a map are zero, in strict mode.
+/// Returns whether the last of more than seven bits of a map are zero, in strict mode.
 #[inline]
 pub fn is_overlong(strict: bool, map: &[u8]) -> bool
     requires entity { IsEntity map.now }
@@ -57,7 +57,7 @@ pub fn is_overlong(strict: bool, map: &[u8]) -> bool
     strict && map_overlong(map)
 }
 
-/// Whether a template has an identifier.
+/// Returns whether a template has an identifier.
 #[inline]
 pub fn has_id(template: &Template, id: u128) -> bool
     ensures { IsTrue result ↔ (template.now.id ≡ Some id) }
@@ -68,7 +68,7 @@ pub fn has_id(template: &Template, id: u128) -> bool
     }
 }
 
-/// The identifier that a value stands for.
+/// Returns the identifier that a value stands for.
 #[inline]
 fn id_of(value: Option<Scalar<'_>>) -> Option<u128>
     ensures { result ≡ option_map (λ v. nat_abs (integer_of v)) (option_map scalar_data value.entry) }
@@ -79,7 +79,7 @@ fn id_of(value: Option<Scalar<'_>>) -> Option<u128>
     }
 }
 
-/// The start of the template with an identifier, which is most likely the latest one.
+/// Returns the start of the template with this identifier, which is most likely the latest one.
 #[inline]
 fn template_of<'t>(
     templates: &'t Templates,
@@ -101,8 +101,8 @@ fn template_of<'t>(
     template_with(templates, id as u32, latest)
 }
 
-/// The number of the template with an identifier, by a walk through all templates. Where the identifier has more than 32 bits no template
-/// has it: the walk says so without a promise of the set.
+/// Returns the number of the template with this identifier, by a walk through all templates. An identifier of more than 32 bits belongs to
+/// no template: the walk returns so without a premise on the set.
 #[inline]
 pub fn walk_to(templates: &Templates, id: u128) -> Option<u32>
     ensures some { IfSome result
@@ -119,7 +119,7 @@ pub fn walk_to(templates: &Templates, id: u128) -> Option<u32>
     None
 }
 
-/// Forgets all entries but the identifier's, if the template says so.
+/// Resets all entries but the identifier's, if the template says so.
 #[inline]
 pub fn reset_if(slots: &mut Slots, resets: bool)
     ensures entries { slots_dictionary slots.new
@@ -132,7 +132,7 @@ pub fn reset_if(slots: &mut Slots, resets: bool)
 }
 
 impl<'t> Machine<'t> {
-    /// Takes bytes of the presence map of a message.
+    /// Reads bytes of the presence map of a message.
     pub fn take_map<S: Sink>(
         &mut self,
         templates: &'t Templates,
@@ -157,7 +157,7 @@ impl<'t> Machine<'t> {
         }
     }
 
-    /// The presence map of a message is whole.
+    /// Goes on after the complete presence map of a message.
     fn mapped<S: Sink>(
         &mut self,
         templates: &'t Templates,
@@ -184,7 +184,7 @@ impl<'t> Machine<'t> {
         }
     }
 
-    /// The template identifier is known, sent or copied.
+    /// Goes on after the template identifier, sent or copied.
     fn identified<S: Sink>(
         &mut self,
         templates: &'t Templates,
@@ -214,7 +214,7 @@ impl<'t> Machine<'t> {
         self.start_message(templates, limits, start, sink)
     }
 
-    /// The first event of a message of a template, behind which its instructions are to come.
+    /// Emits the first event of a message of a template, whose instructions follow.
     #[inline(always)]
     pub fn start_message<S: Sink>(
         &mut self,
@@ -249,7 +249,7 @@ impl<'t> Machine<'t> {
         Ok(Turn::Handed)
     }
 
-    /// Takes bytes of the template identifier.
+    /// Reads bytes of the template identifier.
     pub fn take_identifier<S: Sink>(
         &mut self,
         templates: &'t Templates,
@@ -281,7 +281,7 @@ impl<'t> Machine<'t> {
         }
     }
 
-    /// Takes bytes of the presence map of a group or an element.
+    /// Reads bytes of the presence map of a group or an element.
     pub fn take_segment_map<S: Sink>(
         &mut self,
         templates: &'t Templates,
@@ -307,7 +307,8 @@ impl<'t> Machine<'t> {
         }
     }
 
-    /// The presence map of a group or an element is whole. Nothing is handed over; the sink is there for what the clauses say of the turn.
+    /// Goes on after the complete presence map of a group or an element. Nothing is emitted; the sink is an argument for the clauses on the
+    /// turn.
     fn segment_mapped<S: Sink>(
         &mut self,
         templates: &'t Templates,

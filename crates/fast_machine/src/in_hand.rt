@@ -1,15 +1,15 @@
-//! What a decoder has in hand, for whoever says where a stream is at fault.
+//! The part of a stream that a decoder waits for, to report where a stream is at fault.
 
 ghost use Rattle.std.specs.Prelude.{◌≡◌};
 
 use crate::machine::{Machine, Waiting};
 
-/// What of a stream a decoder has in hand.
+/// The part of a stream that a decoder waits for.
 #[derive(Clone, Copy, Debug, PartialEq, Eq)]
 pub enum Due {
     /// No instruction: a message is to begin, or the innermost segment has none left.
     Nothing,
-    /// The presence map of the group or the element that has begun last.
+    /// The presence map of the group or the element that began last.
     SegmentMap,
     /// The instruction of this node.
     Instruction(u32),
@@ -18,7 +18,7 @@ pub enum Due {
 impl Machine<'_> {
     ghost use Rattle.fast_machine.specs.device.AtHand.{stopped_at, awaited};
 
-    /// The instruction that is next, if one is left of the innermost segment.
+    /// Returns the next instruction, if one is left of the innermost segment.
     pub fn stopped_at(&self) -> Due
         ensures { result ≡ stopped_at self.now }
     {
@@ -28,7 +28,7 @@ impl Machine<'_> {
         }
     }
 
-    /// What the machine waits for.
+    /// Returns the part of the stream that the machine waits for.
     pub fn awaited(&self) -> Due
         ensures { result ≡ awaited self.now }
     {

@@ -1,4 +1,4 @@
-//! What a decoder works out once, when it is made: its dictionary.
+//! The dictionary of a decoder, laid out once, when the decoder is made.
 
 ghost use Rattle.std.specs.Prelude.{◌≡◌, ◌⊎◌, ◌↔◌, ℕ, ◌<◌, length, slice_index_or, false, Some, IsTrue, IfOk};
 ghost use Rattle.fast_value.specs.meaning.Kinds.{family, texts, text_of};
@@ -17,7 +17,7 @@ use fast_template::{FieldInstruction, Node, Shape, Templates};
 use fast_value::{Kind, Value};
 use std::alloc::{AllocError, Global};
 
-/// The length of a text, 0 of a number.
+/// Returns the length of a string or byte vector, 0 of a number.
 fn text_len(value: &Value) -> usize
     ensures { result ≡ length (text_of (value_data value.now)) }
 {
@@ -27,14 +27,14 @@ fn text_len(value: &Value) -> usize
     }
 }
 
-/// Whether the initial value of the field is a text longer than `max_text`.
+/// Returns whether the initial value of the field is a string or byte vector longer than `max_text`.
 fn is_long(field: &FieldInstruction, max_text: usize) -> bool
     ensures { IsTrue result ↔ IsLongText max_text (field_data field.now).initial }
 {
     matches!(&field.initial, Some(value) if text_len(value) > max_text)
 }
 
-/// Whether an initial value within the node is a text longer than `max_text`.
+/// Returns whether an initial value within the node is a string or byte vector longer than `max_text`.
 fn has_long_field(node: &Node, max_text: usize) -> bool
     ensures { IsTrue result ↔ AnyField (λ f. IsLongText max_text f.initial) (shape_data node.now.shape) }
 {
@@ -47,7 +47,7 @@ fn has_long_field(node: &Node, max_text: usize) -> bool
     }
 }
 
-/// Whether an initial value of the set is a text longer than `max_text`.
+/// Returns whether an initial value of the set is a string or byte vector longer than `max_text`.
 pub fn has_long_initial(templates: &Templates, max_text: usize) -> bool
     ensures { IsTrue result ↔ HasLongInitial max_text (nodes_of templates.now) }
 {
@@ -59,7 +59,7 @@ pub fn has_long_initial(templates: &Templates, max_text: usize) -> bool
     false
 }
 
-/// Whether values of the kind are texts.
+/// Returns whether values of the type are strings or byte vectors.
 fn is_text_kind(kind: Kind) -> bool
     ensures { IsTrue result ↔ (family kind ≡ texts) }
 {
@@ -69,7 +69,7 @@ fn is_text_kind(kind: Kind) -> bool
     }
 }
 
-/// Whether the value is a text.
+/// Returns whether the value is a string or byte vector.
 fn is_text(value: &Value) -> bool
     ensures { IsTrue result ↔ IsText (value_data value.now) }
 {
@@ -79,14 +79,14 @@ fn is_text(value: &Value) -> bool
     }
 }
 
-/// Whether the field may put a text at its entry.
+/// Returns whether the field may store a string or byte vector at its entry.
 fn may_hold_text(field: &FieldInstruction) -> bool
     ensures { IsTrue result ↔ MayHoldText (field_data field.now) }
 {
     is_text_kind(field.kind) || matches!(&field.initial, Some(value) if is_text(value))
 }
 
-/// Marks the entry of the field, if the field may put a text there.
+/// Marks the entry of the field, if the field may store a string or byte vector there.
 fn mark_field(marks: &mut [bool], field: &FieldInstruction)
     requires { (e : ℕ) → field.now.entry ≡ Some e → e < length marks.old }
     ensures long { length marks.new ≡ length marks.old }
@@ -101,7 +101,7 @@ fn mark_field(marks: &mut [bool], field: &FieldInstruction)
     }
 }
 
-/// Marks the entries of the fields within the node that may put a text there.
+/// Marks the entries of the fields within the node that may store a string or byte vector there.
 fn mark_node(marks: &mut [bool], node: &Node)
     requires { IsUsableShape (length marks.old) (shape_data node.now.shape) }
     ensures long { length marks.new ≡ length marks.old }
@@ -120,12 +120,12 @@ fn mark_node(marks: &mut [bool], node: &Node)
     }
 }
 
-/// Which entries of the dictionary take a text: those of fields of a text kind, and those of fields with an initial value
-/// that is a text.
+/// Marks the entries of the dictionary that can hold a string or byte vector: those of fields of such a type, and those of fields with such
+/// an initial value.
 ///
 /// # Errors
 ///
-/// Memory was refused.
+/// An allocation failed.
 pub fn text_marks(alloc: Global, templates: &Templates) -> Result<Vec<bool>, AllocError>
     ensures long { IfOk result (λ v. length v.items ≡ (tree_of templates.now).entries) }
     ensures marked { IfOk result
@@ -138,11 +138,11 @@ pub fn text_marks(alloc: Global, templates: &Templates) -> Result<Vec<bool>, All
     Ok(marks)
 }
 
-/// The dictionary of a decoder: room for a text of at most `max_text` bytes at each entry that takes one.
+/// Makes the dictionary of a decoder: with room for a string or byte vector of at most `max_text` bytes at each entry that can hold one.
 ///
 /// # Errors
 ///
-/// Memory was refused.
+/// An allocation failed.
 pub fn make_slots(
     alloc: Global,
     templates: &Templates,

@@ -1,4 +1,4 @@
-//! The machine of the decoder: it takes a unit of a message after the other, and hands the events over that it decides.
+//! The machine of the decoder: it reads the units of a message one after the other, and emits the events that they decide.
 #![tactic(auto)]
 
 mod field_units;

@@ -1,4 +1,4 @@
-//! A machine before the first message, and what can be asked of it between two pieces.
+//! A machine before the first message, and its queries between two pieces.
 
 ghost use Rattle.std.specs.Prelude.{◌≡◌, ◌<◌, ◌≤◌, false, IfOk, Some, None, Ok};
 ghost use Rattle.fast_template.specs.meaning.Flat.{nodes_of};
@@ -21,11 +21,11 @@ use fast_value::{Kind, Limits};
 use std::alloc::{AllocError, Global};
 
 impl<'t> Machine<'t> {
-    /// A machine before the first message of streams of the set.
+    /// Makes a machine before the first message of streams of the set.
     ///
     /// # Errors
     ///
-    /// Memory was refused.
+    /// An allocation failed.
     pub fn new(
         alloc: Global,
         templates: &'t Templates,
@@ -56,7 +56,7 @@ impl<'t> Machine<'t> {
         })
     }
 
-    /// Forgets all that was read.
+    /// Discards all that was read.
     pub fn reset(&mut self)
         ensures fresh { (set : Set) (l : Limits) → IsSupplied set l self.old → IsFresh set self.new }
         ensures supplied { (set : Set) (l : Limits) → IsSupplied set l self.old → IsSupplied set l self.new }
@@ -69,7 +69,7 @@ impl<'t> Machine<'t> {
         self.turns = Turns::none();
     }
 
-    /// Begins to count turns.
+    /// Restarts the count of turns.
     #[inline]
     pub fn begin_turns(&mut self)
         ensures same { self.new ≡ record self.old { turns = self.new.turns } }
@@ -78,7 +78,7 @@ impl<'t> Machine<'t> {
         self.turns = Turns::none();
     }
 
-    /// Whether no message is begun.
+    /// Returns whether no message has begun.
     pub fn is_idle(&self) -> bool
         ensures { result ≡ is_idle self.now }
     {

@@ -1,4 +1,4 @@
-//! Decimals by parts without a byte: an exponent or a mantissa that is not sent.
+//! Decimals by parts of which no byte is read: an exponent or a mantissa that is not sent.
 
 ghost use Rattle.std.specs.Prelude.{◌≡◌, ◌≢◌, ◌<◌, ℕ, [], Bool, Ok, drop, length, OnOk, Some, None};
 ghost use Rattle.fast_value.specs.meaning.Kinds.{exponent_range};
@@ -28,7 +28,7 @@ use fast_units::fields::{needs_bytes, unsent, value_at};
 use fast_units::source::ValueSource;
 use fast_value::{Code, Limits, Scalar};
 
-/// An exponent, if it lies in the range of exponents.
+/// Returns an exponent, if it lies in the range of exponents.
 #[inline]
 fn exponent_in_range(value: i128) -> Result<i32, Code>
     ensures { result ≡ ranged exponent_range Code.R1 value }
@@ -39,7 +39,7 @@ fn exponent_in_range(value: i128) -> Result<i32, Code>
     Ok(value as i32)
 }
 
-/// The signed number of a value, 0 if it has none.
+/// Returns the signed number of a value, 0 if it has none.
 #[inline]
 fn signed_of(value: Scalar<'_>) -> i64
     ensures { result ≡ signed_of (scalar_data value.entry) }
@@ -55,7 +55,7 @@ fn signed_of(value: Scalar<'_>) -> i64
 }
 
 impl<'t> Machine<'t> {
-    /// A decimal by parts is next: the machine waits for its exponent, or nothing is sent of the exponent.
+    /// Begins a decimal by parts: the machine waits for its exponent, or nothing is sent of the exponent.
     #[inline(always)]
     pub fn begin_decimal<S: Sink>(
         &mut self,
@@ -92,7 +92,7 @@ impl<'t> Machine<'t> {
         }
     }
 
-    /// The exponent of the next decimal by parts is known. Without one there is no mantissa either.
+    /// Goes on after the exponent of the next decimal by parts. Without an exponent there is no mantissa either.
     #[inline(always)]
     pub fn exponent_known<S: Sink>(
         &mut self,
@@ -136,7 +136,8 @@ impl<'t> Machine<'t> {
         }
     }
 
-    /// The exponent of the next decimal by parts is known and there: the machine waits for the mantissa, or nothing is sent of it.
+    /// Goes on after the exponent of the next decimal by parts, which is present: the machine waits for the mantissa, or nothing is sent of
+    /// it.
     #[inline(always)]
     fn begin_mantissa<S: Sink>(
         &mut self,
@@ -173,7 +174,7 @@ impl<'t> Machine<'t> {
         }
     }
 
-    /// Goes past the next decimal by parts, whose mantissa is known, and hands the decimal over.
+    /// Moves past the next decimal by parts, whose mantissa is known, and emits the decimal.
     #[inline(always)]
     pub fn finish_decimal<S: Sink>(
         &mut self,

@@ -1,4 +1,4 @@
-//! Decimals by parts in the quick way: their mantissas.
+//! The fast path of decimals by parts: their mantissas.
 
 ghost use Rattle.std.specs.Prelude.{◌≡◌, ◌≢◌, ◌+◌, ℕ, true, List, [], length, Ok, IfSome, IfNone};
 ghost use Rattle.fast_wire.specs.device.Words.{IsShortEntity};
@@ -26,7 +26,7 @@ use fast_units::progress::Progress;
 use fast_units::short_integers::{delta_item, signed_item};
 use fast_value::{Kind, Limits};
 
-/// A mandatory mantissa that stands in the stream without an operator or under delta.
+/// Reads a mandatory mantissa in the stream, without an operator or under delta.
 #[inline(always)]
 fn mantissa_item(
     slots: &mut Slots,
@@ -70,7 +70,7 @@ fn mantissa_item(
 }
 
 impl<'t> Machine<'t> {
-    /// Takes the mantissa of the next instruction, a decimal by parts with this exponent.
+    /// Reads the mantissa of the next instruction, a decimal by parts with this exponent.
     #[inline(never)]
     pub fn take_short_mantissa<S: Sink>(
         &mut self,

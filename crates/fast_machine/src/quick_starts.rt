@@ -1,4 +1,4 @@
-//! The quick way of presence maps of one byte, and of the identifiers behind them.
+//! The fast path of presence maps of one byte, and of the identifiers after them.
 
 ghost use Rattle.std.specs.Prelude.{◌≡◌, ◌≢◌, ◌+◌, ◌<◌, ◌≤◌, ℕ, [], length, slice_get, slice_index, Ok, Some, IfSome, IfNone};
 ghost use Rattle.fast_value.specs.declared.kinds.Kind.{Kind};
@@ -24,8 +24,8 @@ use fast_template::Templates;
 use fast_value::Limits;
 
 impl<'t> Machine<'t> {
-    /// Takes the presence map of a group or an element, if it is one byte: of one byte none is too many. It hands nothing over; set,
-    /// limits and sink are there for what the clauses say of the turn.
+    /// Reads the presence map of a group or an element, if it is one byte: a map of one byte is never overlong. It emits nothing; set,
+    /// limits and sink are arguments for the clauses on the turn.
     #[inline(always)]
     pub fn open_quickly<S: Sink>(
         &mut self,
@@ -54,8 +54,8 @@ impl<'t> Machine<'t> {
         })
     }
 
-    /// The start of the latest template, if it has the identifier that the identifier's entry holds. The set is there for what the
-    /// clauses say.
+    /// Returns the start of the latest template, if it has the identifier that the identifier's entry holds. The set is an argument for the
+    /// clauses.
     #[inline(always)]
     pub fn latest_again(&self, templates: &'t Templates) -> Option<&'t Start>
         requires some { 0 < length (slots_dictionary self.now.slots) }
@@ -74,8 +74,9 @@ impl<'t> Machine<'t> {
         Some(start)
     }
 
-    /// How many bytes lead to the instructions of the message that the piece goes on with, whose map is one byte, and has the first bit
-    /// set, and the start of its template: if the identifier stands whole in the piece and is a template's, which is the latest one then.
+    /// Reads the head of the message that the piece goes on with, whose map is one byte with the first bit set: returns its number of bytes
+    /// and the start of its template, if the identifier is in the piece completely and a template has it. That template is the latest one
+    /// then.
     #[inline(always)]
     pub fn sent_message(
         &mut self,
@@ -104,7 +105,7 @@ impl<'t> Machine<'t> {
         Some((1 + len, start))
     }
 
-    /// The start of the latest template, if the piece goes on with a message of it whose map is one byte, and has the first bit clear.
+    /// Returns the start of the latest template, if the piece goes on with a message of it whose map is one byte with the first bit clear.
     #[inline(always)]
     pub fn message_again(
         &self,
@@ -129,8 +130,8 @@ impl<'t> Machine<'t> {
         None
     }
 
-    /// How many bytes lead to the instructions of the message that the piece goes on with, whose map is one byte, and has the first bit
-    /// set, and the start of its template, if the identifier behind the map is a template's.
+    /// Reads the head of the message that the piece goes on with, if its map is one byte with the first bit set: returns its number of
+    /// bytes and the start of its template, if a template has the identifier after the map.
     #[inline(always)]
     pub fn next_message(
         &mut self,
@@ -159,10 +160,10 @@ impl<'t> Machine<'t> {
     }
 }
 
-/// Among so few templates a walk is the shortest way to one.
+/// The greatest number of templates among which a walk is the fastest way to find one.
 const FEW: u32 = 8;
 
-/// The start of the template with an identifier, which is most likely the latest one.
+/// Returns the start of the template with this identifier, which is most likely the latest one.
 #[inline(always)]
 pub fn template_with<'t>(
     templates: &'t Templates,
@@ -180,7 +181,7 @@ pub fn template_with<'t>(
     }
 }
 
-/// The same where it is none that is more likely than others.
+/// Returns the start of the template with this identifier, if no template is more likely than others.
 #[cold]
 #[inline(never)]
 fn other_template(templates: &Templates, id: u32) -> Option<&Start>
@@ -192,7 +193,7 @@ fn other_template(templates: &Templates, id: u32) -> Option<&Start>
     Some(templates.start_of(number))
 }
 
-/// The number of the template with an identifier.
+/// Returns the number of the template with this identifier.
 #[inline]
 fn number_with(templates: &Templates, id: u32) -> Option<u32>
     ensures some { IfSome result (λ i. (t : Template) × (slice_get (templates_of templates.now) i ≡ Some t)

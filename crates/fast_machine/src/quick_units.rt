@@ -1,5 +1,5 @@
-//! The quick way behind a turn, and where a piece begins: units that stand whole in the piece and are of common forms. All else is left
-//! to the general way; the quick way has changed nothing then.
+//! The fast path after a turn, and at the start of a piece: units that are in the piece completely and are of common forms. All others are
+//! left to the general path; the fast path has changed nothing then.
 
 ghost use Rattle.std.specs.Prelude.{◌≡◌, ◌≢◌, ◌+◌, ◌<◌, ℕ, List, length, Ok, IfSome, IfNone};
 ghost use Rattle.fast_tree.specs.meaning.Tree.{FieldData, uses_bit};
@@ -20,17 +20,17 @@ use fast_units::source::ValueSource;
 use fast_units::stages::{FieldStep, Stage};
 use fast_value::Limits;
 
-/// A unit that was taken, or as much of it as there is, and the turn behind it.
+/// A unit, or the part of it that is there, and the turn after it.
 #[derive(Clone, Copy, Debug)]
 pub struct UnitTaken {
-    /// The bytes that were taken.
+    /// The number of bytes that were read.
     pub bytes: usize,
-    /// How the turn ended. Behind a unit that is cut the machine waits.
+    /// The end of the turn. After a unit that is split the machine waits.
     pub turn: Result<Turn, FaultCode>,
 }
 
 impl<'t> Machine<'t> {
-    /// Waits for the first unit of the next instruction. Most often the machine does so already, and nothing is written then.
+    /// Waits for the first unit of the next instruction. The machine most often does so already, and nothing is written then.
     #[inline(always)]
     pub fn wait_for_field(&mut self)
         ensures { self.new ≡ record self.old { waiting = Waiting.Field } }
@@ -41,8 +41,8 @@ impl<'t> Machine<'t> {
         }
     }
 
-    /// Behind the entity of the next instruction, a field of integers, whose number or NULL the dictionary has kept: hands a number
-    /// over, and goes past the field.
+    /// Goes on after the entity of the next instruction, an integer field, whose number or NULL the dictionary has stored: emits a number,
+    /// and moves past the field.
     #[inline(always)]
     pub fn sent<S: Sink>(
         &mut self,
@@ -68,7 +68,7 @@ impl<'t> Machine<'t> {
         UnitTaken { bytes, turn }
     }
 
-    /// Takes the unit that the machine waits for, if it is one for the quick way.
+    /// Reads the unit that the machine waits for, if the fast path has a case for it.
     #[inline(always)]
     pub fn take_whole<S: Sink>(
         &mut self,
@@ -108,7 +108,7 @@ impl<'t> Machine<'t> {
         }
     }
 
-    /// Takes the bytes of a vector without operator of which some are in hand, if all others are there.
+    /// Completes a vector without operator of which some bytes are buffered, if all others are there.
     #[inline(always)]
     fn take_held_vector<S: Sink>(
         &mut self,
@@ -138,8 +138,8 @@ impl<'t> Machine<'t> {
         Some(self.scalar_taken(templates, limits, number, field, progress, rest, sink))
     }
 
-    /// Takes the characters of an ASCII text of which some are in hand, if the last one is there, and the text is neither kept nor joined to
-    /// another.
+    /// Completes an ASCII string of which some characters are buffered, if the last one is there, and the string is neither kept nor joined
+    /// to another.
     #[inline(never)]
     fn take_held_ascii<S: Sink>(
         &mut self,

@@ -1,5 +1,5 @@
-//! The quick way of fields that are numbers, where a piece begins or ends, and the loop's arms have too few bytes for one: integers, of which
-//! some bytes may be in hand, and whole decimals under delta, both units at once.
+//! The fast path of fields that are numbers, at the start or the end of a piece, where too few bytes are left for the loop's arms:
+//! integers, of which some bytes may be buffered, and decimals under delta, both units at once.
 
 ghost use Rattle.std.specs.Prelude.{◌≡◌, ◌≢◌, ◌⊎◌, ◌+◌, ◌<◌, true, false, ℕ, List, [], Ok, IfSome, IfNone};
 ghost use Rattle.fast_wire.specs.meaning.Maps.{first_bit};
@@ -28,7 +28,7 @@ use fast_units::short_decimals::delta_decimal;
 use fast_units::short_integers::{delta_item, signed_item, unsigned_item};
 use fast_value::{Kind, Limits};
 
-/// What an integer field comes to that stands in the stream as this entity.
+/// Returns the value of an integer field that is this entity in the stream.
 #[inline(always)]
 fn integer_item(
     slots: &mut Slots,
@@ -87,7 +87,7 @@ fn integer_item(
 }
 
 impl<'t> Machine<'t> {
-    /// Whether the next instruction, this field, uses a presence bit, if it stands in the stream.
+    /// Returns whether the next instruction, this field, uses a presence bit, if it is in the stream.
     #[inline(always)]
     fn bit_of_sent(&self, field: &FieldInstruction) -> Option<bool>
         ensures uses { IfSome result (λ has_bit. has_bit ≡ uses_bit (field_data field.now)) }
@@ -107,7 +107,7 @@ impl<'t> Machine<'t> {
         Some(has_bit)
     }
 
-    /// The same as [`Machine::take_short_number`] where a byte is left, and else nothing.
+    /// Reads the next instruction as [`Machine::take_short_number`] does, if a byte is left.
     #[inline(always)]
     pub fn take_last_number<S: Sink>(
         &mut self,
@@ -131,8 +131,7 @@ impl<'t> Machine<'t> {
         self.take_short_number(templates, limits, rest, sink)
     }
 
-    /// Takes the next instruction, if it is an integer that stands in the stream, or a whole decimal under delta, of which both units are
-    /// taken.
+    /// Reads the next instruction, if it is an integer in the stream, or a decimal under delta of which both units are there.
     #[inline(never)]
     pub fn take_short_number<S: Sink>(
         &mut self,
@@ -175,8 +174,8 @@ impl<'t> Machine<'t> {
         }
     }
 
-    /// Takes the next instruction, an integer of which some bytes are in hand, if it ends within eight bytes. The bytes in hand and those
-    /// behind them are put together apart from the machine, so that nothing has changed where it isn't taken.
+    /// Reads the next instruction, an integer of which some bytes are buffered, if it ends within eight bytes. The buffered bytes and those
+    /// after them are joined outside the machine, so that nothing has changed if it is not read.
     #[inline(never)]
     pub fn take_held_number<S: Sink>(
         &mut self,

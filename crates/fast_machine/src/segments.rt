@@ -1,5 +1,5 @@
-//! Where the segments of groups and elements begin and end. The answer is how many bits the instructions of the segment use that now
-//! begins, and 0 where none does.
+//! The starts and ends of the segments of groups and elements. The result is the number of bits that the instructions of the segment use
+//! that now begins, and 0 if none does.
 
 ghost use Rattle.std.specs.Prelude.{◌≡◌, ◌⊎◌, ◌+◌, ◌<◌, ◌≤◌, ℕ, suc, [], Bool, length};
 ghost use Rattle.std.specs.Prelude.{IfErr, MatchResult};
@@ -27,7 +27,7 @@ use fast_stream::{Event, FaultCode, Sink};
 use fast_template::Templates;
 use fast_value::Limits;
 
-/// Hands over that an element ends and that the next one begins.
+/// Emits that an element ends and that the next one begins.
 #[inline(always)]
 fn hand_next<S: Sink>(sink: &mut S) -> Result<(), FaultCode>
     ensures { MatchResult result
@@ -40,7 +40,7 @@ fn hand_next<S: Sink>(sink: &mut S) -> Result<(), FaultCode>
 }
 
 impl<'t> Machine<'t> {
-    /// The next instruction, a group, begins. Its bit is used, if it has one.
+    /// Begins the next instruction, a group. Its bit is used, if it has one.
     #[inline(always)]
     pub fn enter_group<S: Sink>(
         &mut self,
@@ -78,8 +78,8 @@ impl<'t> Machine<'t> {
         Ok(width)
     }
 
-    /// So many elements of a sequence are still to come: the next one begins, or the sequence is whole. An element that
-    /// begins is a turn of its own.
+    /// Begins the next element of a sequence, of which a number is still to come, or ends the sequence if none is. An element that begins
+    /// is a turn of its own.
     #[inline(always)]
     pub fn begin_element<S: Sink>(
         &mut self,
@@ -122,9 +122,8 @@ impl<'t> Machine<'t> {
         Ok(width)
     }
 
-    /// The innermost segment, a group or an element, is whole. Behind an element the next one begins, if there is one:
-    /// then the frame around it stays. The place where the segment ends is there for what the clauses say: the cursor
-    /// leaves it, and need not be there.
+    /// Ends the innermost segment, a group or an element. After an element the next one begins, if there is one: then the frame around it
+    /// stays. The position at which the segment ends is an argument for the clauses: the cursor leaves it, and need not be there.
     #[inline(always)]
     pub fn leave_segment<S: Sink>(
         &mut self,
@@ -153,7 +152,7 @@ impl<'t> Machine<'t> {
         Ok(width)
     }
 
-    /// The same, by the way of the segment around it.
+    /// Ends the innermost segment, a group or the last element of a sequence, and goes on with the segment around it.
     #[inline(always)]
     fn close_segment<S: Sink>(
         &mut self,

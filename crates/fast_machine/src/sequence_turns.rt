@@ -1,4 +1,4 @@
-//! Sequences without a byte: a length that is not sent, the start of an element, and the limits on elements.
+//! Sequences of which no byte is read: a length that is not sent, the start of an element, and the limits on elements.
 
 ghost use Rattle.std.specs.Prelude.{◌≡◌, ◌≢◌, ◌+◌, ◌<◌, ◌≤◌, ℕ, suc, [], Ok, drop, length, length as list_length, IfOk, Some};
 ghost use Rattle.fast_value.specs.meaning.Limits.{bounds};
@@ -24,7 +24,7 @@ use fast_units::fields::{needs_bytes, unsent, value_at};
 use fast_units::source::ValueSource;
 use fast_value::{Code, Limits};
 
-/// The elements that a length claims, if they are within the limit of one sequence, and then within that of the message.
+/// Returns the number of elements that a length claims, if it is within the limit of one sequence, and then within that of the message.
 #[inline]
 pub fn count_within(limits: Limits, counted: u32, claimed: u128) -> Result<u32, Code>
     requires { counted ≤ limits.max_total }
@@ -42,7 +42,7 @@ pub fn count_within(limits: Limits, counted: u32, claimed: u128) -> Result<u32, 
 }
 
 impl<'t> Machine<'t> {
-    /// A sequence is next: the machine waits for its length, or nothing is sent of the length.
+    /// Begins a sequence: the machine waits for its length, or nothing is sent of the length.
     #[inline(always)]
     pub fn begin_sequence<S: Sink>(
         &mut self,
@@ -78,7 +78,7 @@ impl<'t> Machine<'t> {
         }
     }
 
-    /// The length of the next sequence is known. Without one there is no sequence.
+    /// Goes on after the length of the next sequence. Without a length there is no sequence.
     #[inline(always)]
     pub fn length_known<S: Sink>(
         &mut self,
@@ -126,7 +126,7 @@ impl<'t> Machine<'t> {
         }
     }
 
-    /// So many elements of a sequence are still to come: the next one begins, or the sequence is whole.
+    /// Begins the next element of a sequence, of which a number is still to come, or ends the sequence if none is.
     #[inline(always)]
     fn next_element<S: Sink>(
         &mut self,

@@ -1,4 +1,4 @@
-//! Values go to the sink: a field that has one now, or none.
+//! Emits the value of a field that is decided, if it has one.
 
 ghost use Rattle.std.specs.Prelude.{◌≡◌, ◌≢◌, ◌<◌, ℕ, [], Bool, Ok, length, OnOk, MatchResult, Some, None, option_map, if◌then◌else◌};
 ghost use Rattle.fast_wire.specs.meaning.Maps.{later_bits};
@@ -27,7 +27,7 @@ use fast_units::fields::{Number, value_at};
 use fast_units::source::ValueSource;
 use fast_value::Scalar;
 
-/// Hands an event over.
+/// Emits an event.
 #[inline(always)]
 pub fn hand<S: Sink>(sink: &mut S, event: Event<'_>) -> Result<(), FaultCode>
     ensures { MatchResult result (λ _. S.takes sink.old (event_data event.entry) sink.new)
@@ -40,7 +40,7 @@ pub fn hand<S: Sink>(sink: &mut S, event: Event<'_>) -> Result<(), FaultCode>
 }
 
 impl<'t> Machine<'t> {
-    /// The bit of a field: set, if it uses none.
+    /// Returns the presence bit of a field: set, if it uses none.
     #[inline(always)]
     pub fn presence(&self, field: &FieldInstruction) -> bool
         requires { IsMapWhole self.now.cursor.map }
@@ -49,7 +49,7 @@ impl<'t> Machine<'t> {
         !field.uses_bit() || self.cursor.bit()
     }
 
-    /// Goes past the next instruction, whose field has a value now or none, and hands the value over.
+    /// Moves past the next instruction, a field that is decided, and emits its value, if it has one.
     #[inline(always)]
     pub fn finish<S: Sink>(
         &mut self,
@@ -89,8 +89,8 @@ impl<'t> Machine<'t> {
         Ok(turn)
     }
 
-    /// Goes past the next instruction, a field of integers whose number is at hand, or NULL, and hands the number over. Of the field
-    /// it is enough to know whether it uses a presence bit.
+    /// Moves past the next instruction, an integer field whose number or NULL is known, and emits the number. Of the field only the use of
+    /// a presence bit has to be known.
     #[inline(always)]
     pub fn finish_item<S: Sink>(
         &mut self,
@@ -127,7 +127,7 @@ impl<'t> Machine<'t> {
         Ok(turn)
     }
 
-    /// The value of a field, lent.
+    /// Borrows the value of a field.
     #[inline(always)]
     pub fn value_of<'x>(
         &'x self,
@@ -142,7 +142,7 @@ impl<'t> Machine<'t> {
         value_at(&self.slots, field, self.text.as_slice(), &[], source)
     }
 
-    /// The integer that is a field's value, if it has one.
+    /// Returns the integer that is a field's value, if it has one.
     #[inline(always)]
     pub fn integer_at(&self, field: &FieldInstruction, source: ValueSource) -> Option<i128>
         requires entry { (e : ℕ) → (field_data field.now).entry ≡ Some e

@@ -1,4 +1,4 @@
-//! Steps in the general way: a turn of the machine, and the unit that it waits for, if that is one for the quick way.
+//! Steps on the general path: a turn of the machine, and the unit that it waits for, if the fast path has a case for it.
 
 ghost use Rattle.std.specs.Prelude.{◌≡◌, ◌≢◌, ◌<◌, ℕ, true, false, Ok, Err};
 ghost use Rattle.fast_machine.specs.declared.machine.Waiting.{Waiting};
@@ -18,7 +18,7 @@ use fast_units::fields::needs_bytes;
 use fast_value::Limits;
 
 impl UnitTaken {
-    /// So many bytes, behind which the machine goes on.
+    /// Returns the result for a unit of this number of bytes, after which the machine goes on.
     #[inline(always)]
     pub fn gone_on(bytes: usize) -> UnitTaken
         ensures bytes { result.bytes ≡ bytes }
@@ -30,7 +30,7 @@ impl UnitTaken {
         }
     }
 
-    /// Whether the machine goes on, and why not.
+    /// Returns whether the machine goes on, or the fault at which it stopped.
     #[inline(always)]
     pub fn outcome(&self) -> Result<(), FaultCode>
         ensures ok { (t : Turn) → self.now.turn ≡ Ok t → result ≡ Ok tt }
@@ -42,7 +42,7 @@ impl UnitTaken {
         }
     }
 
-    /// Whether the machine waits for a byte.
+    /// Returns whether the machine waits for a byte.
     #[inline(always)]
     pub fn waits(&self) -> bool
         ensures yes { result ≡ true → self.now.turn ≡ Ok Turn.Waits }
@@ -54,7 +54,7 @@ impl UnitTaken {
         }
     }
 
-    /// Whether the machine goes on without a byte.
+    /// Returns whether the machine goes on without a byte.
     #[inline(always)]
     pub fn goes_on(&self) -> bool
         ensures on { result ≡ true → (t : Turn) × (self.now.turn ≡ Ok t) × (t ≢ Turn.Waits) }
@@ -71,8 +71,8 @@ impl UnitTaken {
 }
 
 impl<'t> Machine<'t> {
-    /// Whether the next instruction is a field that stands in the stream: the machine then waits for its first unit. Nothing is handed
-    /// over; the sink is there for what the clauses say of the step.
+    /// Returns whether the next instruction is a field that is in the stream: the machine then waits for its first unit. Nothing is
+    /// emitted; the sink is an argument for the clauses on the step.
     #[inline(always)]
     pub fn waits_at_once<S: Sink>(
         &mut self,
@@ -102,7 +102,7 @@ impl<'t> Machine<'t> {
         true
     }
 
-    /// A step by a turn of the machine, and the unit that it waits for behind that, or as much of it as there is.
+    /// Makes a turn of the machine, and reads the unit that it waits for after that, or the part of it that is there.
     #[inline(always)]
     pub fn step_by_turn<S: Sink>(
         &mut self,
@@ -135,7 +135,7 @@ impl<'t> Machine<'t> {
         }
     }
 
-    /// Takes the unit that the machine waits for behind a turn, or as much of it as there is.
+    /// Reads the unit that the machine waits for after a turn, or the part of it that is there.
     #[inline(always)]
     pub fn take_behind<S: Sink>(
         &mut self,
@@ -160,7 +160,7 @@ impl<'t> Machine<'t> {
         self.take_slowly(templates, limits, rest, sink)
     }
 
-    /// The same of a unit that is not for the quick way.
+    /// Reads the unit that the machine waits for after a turn, or the part of it that is there, if the fast path has no case for it.
     #[inline(always)]
     pub fn take_slowly<S: Sink>(
         &mut self,
@@ -194,7 +194,7 @@ impl<'t> Machine<'t> {
             return unit;
         }
         if unit.waits() && unit.bytes < rest.len() {
-            // the next unit of the same field, most often the bytes of a vector behind their number
+            // the next unit of the same field, most often the bytes of a vector after their number
             if self.gathers(templates, limits, &rest[unit.bytes..]) {
                 return UnitTaken::cut(rest);
             }

@@ -1,4 +1,4 @@
-//! What a machine does with a unit: it keeps its bytes until they are all there, and takes it with what it decides.
+//! Reads the units of a machine: buffers the bytes of each until they are all there, and then makes the changes that it decides.
 
 ghost use Rattle.std.specs.Prelude.{◌≡◌, ◌+◌, ◌<◌, true, false, ℕ, length, Err, Some, None, Ok};
 ghost use Rattle.fast_value.specs.declared.settings.Limits.{Limits};
@@ -18,7 +18,7 @@ use fast_units::units::{keeps_characters, keeps_run};
 use fast_value::{Code, Limits};
 
 impl UnitTaken {
-    /// All bytes of the rest, and the unit is cut.
+    /// Returns the result for a unit that is split: all bytes of the rest are read.
     #[inline]
     pub fn cut(rest: &[u8]) -> UnitTaken
         ensures bytes { result.bytes ≡ length rest.now }
@@ -30,7 +30,7 @@ impl UnitTaken {
         }
     }
 
-    /// So many bytes, of which the last decides a fault.
+    /// Returns the result for a fault that the last of this number of bytes decides.
     #[inline]
     pub fn wrong(code: Code, bytes: usize) -> UnitTaken
         ensures bytes { result.bytes ≡ bytes }
@@ -44,8 +44,8 @@ impl UnitTaken {
 }
 
 impl<'t> Machine<'t> {
-    /// Keeps all of the rest in hand, if none of its bytes is the last one of the unit that the machine waits for: no more is to be done for
-    /// it then. Where it answers `false` nothing has changed, and one of them may be.
+    /// Buffers all of the rest, if none of its bytes is the last one of the unit that the machine waits for: nothing else is to be done for
+    /// it then. If the result is `false`, nothing has changed, and one of them may be the last one.
     #[inline(always)]
     pub fn gathers(&mut self, templates: &'t Templates, limits: Limits, rest: &[u8]) -> bool
         requires ready { IsReady (set_of templates.now) limits self.old }
@@ -68,8 +68,8 @@ impl<'t> Machine<'t> {
         }
     }
 
-    /// How many bytes of the rest are kept in hand: all of them, if they are known to be bytes of the unit that the machine waits for, of
-    /// which none is the last one, else none.
+    /// Returns the number of bytes of the rest that are buffered: all of them, if they are known to be bytes of the unit that the machine
+    /// waits for, of which none is the last one, else none.
     #[inline(always)]
     pub fn gather(&mut self, templates: &'t Templates, limits: Limits, rest: &[u8]) -> usize
         requires ready { IsReady (set_of templates.now) limits self.old }
@@ -86,7 +86,7 @@ impl<'t> Machine<'t> {
         0
     }
 
-    /// Takes one unit, or as much of it as there is, in the quick way, if it is one for that.
+    /// Reads one unit, or the part of it that is there, on the fast path, if that has a case for it.
     #[inline(always)]
     pub fn take_next<S: Sink>(
         &mut self,
@@ -110,7 +110,7 @@ impl<'t> Machine<'t> {
         }
     }
 
-    /// Takes one unit, or as much of it as there is, in the general way.
+    /// Reads one unit, or the part of it that is there, on the general path.
     #[inline(never)]
     pub fn take_unit<S: Sink>(
         &mut self,
@@ -132,7 +132,7 @@ impl<'t> Machine<'t> {
         self.take_awaited(templates, limits, rest, sink)
     }
 
-    /// Takes bytes of the unit that the machine waits for.
+    /// Reads bytes of the unit that the machine waits for.
     #[inline(always)]
     fn take_awaited<S: Sink>(
         &mut self,

@@ -1,4 +1,4 @@
-//! What a machine does without a byte: fields that are not sent, starts and ends of segments.
+//! The turns of a machine, which read no byte: fields that are not sent, starts and ends of segments.
 
 ghost use Rattle.std.specs.Prelude.{◌≡◌, ◌≢◌, ◌<◌, ℕ, [], Ok, drop, length, Some};
 ghost use Rattle.fast_tree.specs.meaning.Nodes.{field_data};
@@ -21,7 +21,7 @@ use fast_units::fields::{needs_bytes, unsent};
 use fast_value::{Kind, Limits};
 
 impl<'t> Machine<'t> {
-    /// A field is next: the machine waits for its first unit, or nothing is sent of it.
+    /// Begins a field: the machine waits for its first unit, or nothing is sent of it.
     #[inline(always)]
     fn begin_field<S: Sink>(
         &mut self,
@@ -68,7 +68,7 @@ impl<'t> Machine<'t> {
         }
     }
 
-    /// A group is next, which may be absent.
+    /// Begins a group, which may be optional.
     #[inline(always)]
     fn begin_group<S: Sink>(
         &mut self,
@@ -104,7 +104,7 @@ impl<'t> Machine<'t> {
         self.open_segment(begun)
     }
 
-    /// The segment of a group or an element has begun, with its map if its instructions use any bits.
+    /// Opens the segment of a group or an element, with its map if its instructions use any bits.
     #[inline(always)]
     pub fn open_segment(&mut self, begun: Result<usize, FaultCode>) -> Result<Turn, FaultCode>
         ensures turn { result ≡ opened_result begun }
@@ -122,7 +122,7 @@ impl<'t> Machine<'t> {
         }
     }
 
-    /// The innermost segment is whole: a group, an element or the message.
+    /// Ends the innermost segment: a group, an element or the message.
     #[inline(always)]
     fn close<S: Sink>(
         &mut self,
@@ -149,7 +149,7 @@ impl<'t> Machine<'t> {
         self.open_segment(begun)
     }
 
-    /// What is next needs no byte, or the machine waits.
+    /// Makes a turn: the next step needs no byte, or the machine waits.
     #[inline(always)]
     pub fn turn<S: Sink>(
         &mut self,
@@ -169,7 +169,7 @@ impl<'t> Machine<'t> {
         self.begin(templates, limits, sink)
     }
 
-    /// The turn itself, which is counted.
+    /// Makes a turn, after it was counted.
     #[inline(always)]
     fn begin<S: Sink>(
         &mut self,

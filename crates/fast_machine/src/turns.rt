@@ -5,7 +5,7 @@ ghost use Rattle.std.specs.Borrow.{ftrue};
 
 use std::marker::Model;
 
-/// How many turns a machine has taken. It has no bytes at run time.
+/// The number of turns that a machine has made. It has no bytes at run time.
 #[derive(Drop)]
 pub struct Turns {
     pub ghost count: { ℕ },
@@ -16,7 +16,7 @@ impl Model for Turns {
 }
 
 impl Turns {
-    /// No turn.
+    /// Returns a count of no turn.
     #[inline]
     pub fn none() -> Turns
         ensures { result.count ≡ 0 }
@@ -24,7 +24,7 @@ impl Turns {
         Turns {}
     }
 
-    /// One turn more.
+    /// Returns a count of one turn more.
     #[inline]
     pub fn after(before: &Turns) -> Turns
         ensures { result.count ≡ before.now.count + 1 }
