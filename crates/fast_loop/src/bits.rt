@@ -1,4 +1,4 @@
-//! The presence bit at a place, for the arms that look at more than one.
+//! The presence bit at a position, for the arms that look at more than one.
 
 ghost use Rattle.std.specs.Prelude.{◌≡◌, true, IfSome, if◌then◌else◌};
 ghost use Rattle.fast_wire.specs.meaning.Maps.{first_bit, later_bits};
@@ -7,7 +7,7 @@ ghost use Rattle.fast_cursor.specs.device.Places.{place_left, at_place, IsPlaceO
 
 use fast_cursor::place::Place;
 
-/// The presence bit of the next instruction, which counts as set where there is none. Where none is left in the word, the general way
+/// Returns the presence bit of the next instruction, which counts as set if there is none. If none is left in the word, the general path
 /// has to use it.
 #[inline(always)]
 pub fn bit_at(place: &Place<'_>, has_bit: bool) -> Option<bool>
@@ -27,7 +27,7 @@ pub fn bit_at(place: &Place<'_>, has_bit: bool) -> Option<bool>
     Some(true)
 }
 
-/// The place behind a bit, if there is one.
+/// Returns the position after a bit, if there is one.
 #[inline(always)]
 pub fn behind_bit<'t>(place: Place<'t>, has_bit: bool) -> Place<'t>
     requires more { has_bit ≡ true → HasBits place }

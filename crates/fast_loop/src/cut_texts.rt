@@ -1,6 +1,7 @@
-//! Texts that the piece cuts, in the machine's loop: the bytes that are there are kept at once, and the machine waits for the others.
+//! Strings that the piece splits, in the machine's loop: the bytes that are there are buffered at once, and the machine waits for the
+//! others.
 //!
-//! All this is cold and out of line, and takes few arguments, so that the loop's registers are given out by what whole texts want.
+//! All this is cold and out of line, and has few arguments, so that the loop's registers are allocated for complete strings.
 
 ghost use Rattle.std.specs.Prelude.{◌≡◌, ◌≢◌, ◌-◌, ◌<◌, ◌≤◌, ℕ, Bool, [], true, false, length, drop};
 ghost use Rattle.fast_value.specs.meaning.Kinds.{family, texts};
@@ -23,7 +24,7 @@ use fast_machine::turns::Turns;
 use fast_template::Operator;
 use fast_value::Kind;
 
-/// What an arm did that has kept all of the rest, or nothing.
+/// Returns the result of an arm that has buffered all of the rest, or nothing.
 #[inline(always)]
 pub fn kept_or_declined(kept: bool, spot: &mut Spot<'_, '_>) -> Went
     ensures kept { kept ≡ true → (result ≡ Went.Waits) × (spot.new.place ≡ spot.old.place)
@@ -37,7 +38,7 @@ pub fn kept_or_declined(kept: bool, spot: &mut Spot<'_, '_>) -> Went
     Went::Waits
 }
 
-/// Keeps the bytes of a text that has begun so, and waits for the others: the turn of a unit that is taken in part.
+/// Buffers the bytes of a string that has begun so, and waits for the others: the turn of a unit that is read in part.
 #[inline(always)]
 fn keep_begun(machine: &mut Machine<'_>, begun: BegunText, rest: &[u8])
     requires within { begun.from ≤ length rest.now }
@@ -50,7 +51,7 @@ fn keep_begun(machine: &mut Machine<'_>, begun: BegunText, rest: &[u8])
     machine.waiting = Waiting::Bytes(begun.stage);
 }
 
-/// Keeps the rest, if it is a vector of the kind that goes on behind it and is no delta.
+/// Buffers the rest, if it is a vector of the type that goes on after it and is not a delta.
 #[cold]
 #[inline(never)]
 pub fn keep_vector(
@@ -81,7 +82,7 @@ pub fn keep_vector(
     }
 }
 
-/// Keeps the rest, if it is a delta of a text that goes on behind it, and its entry holds a text of its kind.
+/// Buffers the rest, if it is a string delta that goes on after it, and its entry holds a string of its type.
 #[cold]
 #[inline(never)]
 pub fn keep_delta(
@@ -110,7 +111,7 @@ pub fn keep_delta(
     }
 }
 
-/// Keeps the rest, if it is an ASCII text that goes on behind it and begins with a character.
+/// Buffers the rest, if it is an ASCII string that goes on after it and begins with a character.
 #[cold]
 #[inline(never)]
 pub fn keep_ascii(machine: &mut Machine<'_>, rest: &[u8]) -> bool

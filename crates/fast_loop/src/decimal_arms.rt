@@ -1,4 +1,4 @@
-//! The arms of whole decimals.
+//! The arms of decimals of one field.
 
 ghost use Rattle.std.specs.Prelude.{None, ◌<◌, true, false, Some};
 ghost use Rattle.fast_value.specs.declared.settings.Limits.{Limits};
@@ -17,7 +17,7 @@ use fast_stream::Sink;
 use fast_template::{Operator, Templates};
 use fast_value::{Kind, Limits};
 
-/// A decimal without an operator.
+/// Decodes a decimal without an operator.
 #[inline(always)]
 pub fn plain_decimal_arm<'t, S: Sink>(
     machine: &mut Machine<'t>,
@@ -49,7 +49,7 @@ pub fn plain_decimal_arm<'t, S: Sink>(
     }
 }
 
-/// A decimal under copy.
+/// Decodes a decimal under copy.
 #[inline(always)]
 pub fn copied_decimal_arm<'t, S: Sink>(
     machine: &mut Machine<'t>,
@@ -96,7 +96,7 @@ pub fn copied_decimal_arm<'t, S: Sink>(
     }
 }
 
-/// A decimal under delta.
+/// Decodes a decimal under delta.
 #[inline(always)]
 pub fn changed_decimal_arm<'t, S: Sink>(
     machine: &mut Machine<'t>,

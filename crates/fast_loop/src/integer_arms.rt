@@ -1,4 +1,4 @@
-//! Fields of integers in the machine's loop: kind, operator and presence are known where the arm stands, and the op names the entry.
+//! The arms of integer fields: type, operator and presence are known in each arm, and the op names the entry.
 
 ghost use Rattle.std.specs.Prelude.{◌≡◌, ◌≢◌, ◌≤ℤ◌, ℕ, ℤ, true, false, pos, neg_ℤ, option_map, IfSome, IfNone};
 ghost use Rattle.fast_wire.specs.meaning.Integers.{unsigned_up_to, signed_between};
@@ -25,7 +25,7 @@ use fast_template::{Operator, Templates};
 use fast_units::fields::Number;
 use fast_value::{Kind, Limits, Scalar};
 
-/// A number as a value that is lent.
+/// Returns a number as a borrowed value.
 #[inline(always)]
 pub fn scalar_of(item: Option<Number>) -> Option<Scalar<'static>>
     ensures { option_map scalar_data result ≡ option_map number_data item }
@@ -36,7 +36,7 @@ pub fn scalar_of(item: Option<Number>) -> Option<Scalar<'static>>
     }
 }
 
-/// A field of unsigned integers under no delta.
+/// Decodes a field of unsigned integers under an operator other than delta.
 #[inline(always)]
 pub fn unsigned_arm<'t, S: Sink>(
     machine: &mut Machine<'t>,
@@ -95,7 +95,7 @@ pub fn unsigned_arm<'t, S: Sink>(
     }
 }
 
-/// A field of signed integers under no delta.
+/// Decodes a field of signed integers under an operator other than delta.
 #[inline(always)]
 pub fn signed_arm<'t, S: Sink>(
     machine: &mut Machine<'t>,
@@ -158,7 +158,7 @@ pub fn signed_arm<'t, S: Sink>(
     }
 }
 
-/// A field of integers under delta.
+/// Decodes an integer field under delta.
 #[inline(always)]
 pub fn delta_arm<'t, S: Sink>(
     machine: &mut Machine<'t>,
@@ -203,7 +203,7 @@ pub fn delta_arm<'t, S: Sink>(
     }
 }
 
-/// A field of integers that uses a presence bit, which is clear.
+/// Decodes an integer field that uses a presence bit, which is clear.
 #[inline(always)]
 pub fn unsent_integer_arm<'t, S: Sink>(
     machine: &mut Machine<'t>,
@@ -244,7 +244,7 @@ pub fn unsent_integer_arm<'t, S: Sink>(
     }
 }
 
-/// What a field of integers comes to of which nothing is sent: its initial value under default, what its entry holds under copy, and
+/// Returns the value of an integer field of which nothing is sent: its initial value under default, the value of its entry under copy, and
 /// one more than that under increment, which the entry then holds.
 #[inline(always)]
 fn unsent_item<'t>(

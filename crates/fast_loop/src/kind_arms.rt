@@ -1,4 +1,4 @@
-//! Fields of integers under no delta by their kinds: the range of each.
+//! The arms of integer fields under operators other than delta, by their types: the range of each.
 
 ghost use Rattle.std.specs.Prelude.{◌≢◌};
 ghost use Rattle.fast_loop.specs.device.Arms.{IsAtSpot, IsAtOp, IsFieldOp, HasWent};
@@ -12,7 +12,7 @@ use fast_stream::Sink;
 use fast_template::{Operator, Templates};
 use fast_value::{Kind, Limits};
 
-/// A field of kind `UInt32` under no delta.
+/// Decodes a field of type `UInt32` under an operator other than delta.
 #[inline(always)]
 pub fn uint32_arm<'t, S: Sink>(
     machine: &mut Machine<'t>,
@@ -46,7 +46,7 @@ pub fn uint32_arm<'t, S: Sink>(
     )
 }
 
-/// A field of kind `UInt64` under no delta.
+/// Decodes a field of type `UInt64` under an operator other than delta.
 #[inline(always)]
 pub fn uint64_arm<'t, S: Sink>(
     machine: &mut Machine<'t>,
@@ -80,7 +80,7 @@ pub fn uint64_arm<'t, S: Sink>(
     )
 }
 
-/// A field of kind `Int32` under no delta.
+/// Decodes a field of type `Int32` under an operator other than delta.
 #[inline(always)]
 pub fn int32_arm<'t, S: Sink>(
     machine: &mut Machine<'t>,
@@ -115,7 +115,7 @@ pub fn int32_arm<'t, S: Sink>(
     )
 }
 
-/// A field of kind `Int64` under no delta.
+/// Decodes a field of type `Int64` under an operator other than delta.
 #[inline(always)]
 pub fn int64_arm<'t, S: Sink>(
     machine: &mut Machine<'t>,

@@ -28,7 +28,7 @@ use fast_stream::{Event, Sink};
 use fast_template::{FieldInstruction, Operator, Shape, Templates};
 use fast_value::{Kind, Limits, Scalar};
 
-/// Past an instruction that took these bytes, if any: its value, if it has one, is handed over, and the spot is behind it.
+/// Moves past an instruction of this number of bytes, if any, and emits its value, if it has one. The spot is after it then.
 #[inline(always)]
 fn hand_behind<S: Sink>(
     turns: &mut Turns,
@@ -63,7 +63,8 @@ fn hand_behind<S: Sink>(
     }
 }
 
-/// The same of an absent decimal, whose exponent has a bit. Nothing is handed over; the sink is there for what the clause says.
+/// Moves past an absent decimal of this number of bytes, if any, whose exponent has a bit. Nothing is emitted; the sink is an argument for
+/// the clause.
 #[inline(always)]
 fn pass_absent<S: Sink>(
     turns: &mut Turns,
@@ -89,7 +90,7 @@ fn pass_absent<S: Sink>(
     Went::Silent
 }
 
-/// The same past an instruction that took bytes.
+/// Moves past an instruction of this number of bytes, at least one, and emits its value, if it has one.
 #[inline(always)]
 fn hand_sent<S: Sink>(
     turns: &mut Turns,
@@ -127,7 +128,7 @@ fn hand_sent<S: Sink>(
     }
 }
 
-/// A decimal by parts: both parts at once, or nothing of it.
+/// Decodes a decimal by parts: both parts at once, or nothing of it.
 #[inline(always)]
 pub fn parts_arm<'t, S: Sink>(
     machine: &mut Machine<'t>,
@@ -151,7 +152,7 @@ pub fn parts_arm<'t, S: Sink>(
     )
 }
 
-/// A decimal whose exponent is under default or copy, and whose mantissa is under delta and there.
+/// Decodes a decimal whose exponent is under default or copy, and whose mantissa is mandatory and under delta.
 #[inline(always)]
 pub fn changed_parts_arm<'t, S: Sink>(
     machine: &mut Machine<'t>,
@@ -179,7 +180,7 @@ pub fn changed_parts_arm<'t, S: Sink>(
     )
 }
 
-/// An exponent under default or copy, and a mandatory mantissa under delta, which has this entry.
+/// Decodes an exponent under default or copy, and a mandatory mantissa under delta, which has this entry.
 #[inline(always)]
 fn usual_parts_arm<'t, S: Sink>(
     machine: &mut Machine<'t>,
@@ -224,7 +225,7 @@ fn usual_parts_arm<'t, S: Sink>(
     }
 }
 
-/// The mandatory mantissa under delta behind an exponent under default or copy, which took these bytes, if any.
+/// Decodes the mandatory mantissa under delta after an exponent under default or copy of this number of bytes, if any.
 #[inline(always)]
 fn changed_mantissa_arm<'t, S: Sink>(
     machine: &mut Machine<'t>,
@@ -278,7 +279,7 @@ fn changed_mantissa_arm<'t, S: Sink>(
     )
 }
 
-/// Any parts.
+/// Decodes a decimal of any parts.
 #[inline(always)]
 fn other_parts_arm<'t, S: Sink>(
     machine: &mut Machine<'t>,
@@ -313,7 +314,7 @@ fn other_parts_arm<'t, S: Sink>(
     }
 }
 
-/// The mantissa behind an exponent, which took these bytes, if any.
+/// Decodes the mantissa after an exponent of this number of bytes, if any.
 #[inline(always)]
 fn mantissa_arm<'t, S: Sink>(
     machine: &mut Machine<'t>,

@@ -1,4 +1,4 @@
-//! What the decoder does with the bytes of a piece: it takes units, and all that they decide.
+//! Reads the units of a piece, and makes the changes that they decide.
 
 ghost use Rattle.std.specs.Prelude.{◌≡◌, ◌+◌, ◌*◌, ◌<◌, ◌≤◌, ℕ, length, Err, take, IsOk, OnOk, Ok};
 ghost use Rattle.fast_value.specs.declared.settings.Limits.{Limits};
@@ -16,17 +16,17 @@ use fast_stream::{FaultCode, Sink};
 use fast_template::Templates;
 use fast_value::Limits;
 
-/// How many bytes of a piece were taken, and why the machine stopped behind them, if it did.
+/// The result of reading a piece: the number of bytes, and why the machine stopped after them, if it did.
 #[derive(Clone, Copy, Debug)]
 pub struct PieceTaken {
-    /// The bytes that were taken.
+    /// The number of bytes that were read.
     pub bytes: usize,
-    /// Whether the machine goes on.
+    /// The fault or stop at which the machine ended, if any.
     pub outcome: Result<(), FaultCode>,
 }
 
-/// Takes the units of a piece, up to its end, a fault, or where the sink stops. A piece that ends inside the unit in hand, as most do of
-/// a text that comes byte by byte, is kept here.
+/// Reads the units of a piece, up to its end, a fault, or the sink's stop. A piece that ends inside a partial unit, as most do of a string
+/// that arrives byte by byte, is buffered here.
 #[inline]
 pub fn take_all<'t, S: Sink>(
     machine: &mut Machine<'t>,
@@ -59,7 +59,7 @@ pub fn take_all<'t, S: Sink>(
     take_units(machine, templates, limits, piece, sink)
 }
 
-/// The same of a piece that is not known to end inside the unit in hand.
+/// Reads the units of a piece that is not known to end inside a partial unit.
 #[inline(always)]
 fn take_units<'t, S: Sink>(
     machine: &mut Machine<'t>,
@@ -99,7 +99,7 @@ fn take_units<'t, S: Sink>(
     }
 }
 
-/// Takes one unit, or as much of it as there is, and all units behind it that are for the loop.
+/// Reads one unit, or the part of it that is there, and all units after it that are for the loop.
 #[inline(always)]
 fn take_some<'t, S: Sink>(
     machine: &mut Machine<'t>,
@@ -142,7 +142,7 @@ fn take_some<'t, S: Sink>(
     }
 }
 
-/// Takes steps as [`walk`] does. Where there is no byte, and the next instruction waits for one, that is all.
+/// Makes steps as [`walk`] does. If there is no byte, and the next instruction waits for one, that is all.
 #[inline(always)]
 pub fn go_on<'t, S: Sink>(
     machine: &mut Machine<'t>,

@@ -34,8 +34,8 @@ use fast_stream::{Event, FaultCode, Sink};
 use fast_template::{Shape, Templates};
 use fast_value::Limits;
 
-/// Behind the event at which a segment begins, or none does: takes the segment's map, if it has one and that is one
-/// for the quick way. Without a map the answer is the one given.
+/// Goes on after the event at which a segment begins, or none does: reads the segment's map, if it has one and the fast path has a case for
+/// it. Without a map the result is `went`.
 #[inline(always)]
 fn segment_arm<'t, S: Sink>(
     machine: &mut Machine<'t>,
@@ -73,8 +73,8 @@ fn segment_arm<'t, S: Sink>(
     Went::Took
 }
 
-/// Takes the map of a segment whose instructions use so many bits, if it stands whole in the piece, has eight bytes at
-/// most and is not refused. The answer is how many it has, or 0. Most maps are one byte.
+/// Reads the map of a segment whose instructions use `width` bits, if it is in the piece completely, has eight bytes at most and is not
+/// refused. Returns its number of bytes, or 0. Most maps are one byte.
 #[inline(always)]
 fn take_open_map(machine: &mut Machine<'_>, limits: Limits, width: usize, rest: &[u8]) -> usize
     ensures map { 0 < result → IsMapTaken machine.old.cursor.map rest.now machine.new.cursor.map (MapFront.Whole result) }
@@ -89,7 +89,8 @@ fn take_open_map(machine: &mut Machine<'_>, limits: Limits, width: usize, rest: 
     take_short_map(machine, limits, width, rest)
 }
 
-/// The same of a map of any such length. Cold, as all that the loop calls rarely, for its registers.
+/// Reads the map of a segment, of up to eight bytes, with the result of `take_open_map`. It is cold, as are all functions that the loop
+/// calls rarely, for the loop's registers.
 #[cold]
 #[inline(never)]
 fn take_short_map(machine: &mut Machine<'_>, limits: Limits, width: usize, rest: &[u8]) -> usize
@@ -112,7 +113,7 @@ fn take_short_map(machine: &mut Machine<'_>, limits: Limits, width: usize, rest:
     entity.len
 }
 
-/// The innermost segment has no instruction left: a group, an element or the message ends, and what follows is begun.
+/// Ends the innermost segment, which has no instruction left: a group, an element or the message, and begins the next one.
 #[inline(always)]
 pub fn end_arm<'t, S: Sink>(
     machine: &mut Machine<'t>,
@@ -134,8 +135,8 @@ pub fn end_arm<'t, S: Sink>(
     segment_arm(machine, templates, limits, begun, Went::Handed, spot, sink)
 }
 
-/// The next instruction, a sequence whose length has no operator: its length, and what follows. A length beyond the limits is for the
-/// general way.
+/// Decodes the next instruction, a sequence whose length has no operator: its length, and the start of its first element. A length beyond
+/// the limits is left to the general path.
 #[inline(always)]
 pub fn sequence_arm<'t, S: Sink>(
     machine: &mut Machine<'t>,
@@ -178,7 +179,7 @@ pub fn sequence_arm<'t, S: Sink>(
     }
 }
 
-/// Behind the length of the next instruction, a sequence of so many elements.
+/// Goes on after the length of the next instruction, a sequence of this number of elements.
 #[inline(always)]
 fn elements_arm<'t, S: Sink>(
     machine: &mut Machine<'t>,
@@ -217,7 +218,7 @@ fn elements_arm<'t, S: Sink>(
     segment_arm(machine, templates, limits, begun, Went::Took, spot, sink)
 }
 
-/// The next instruction, a group, and its map.
+/// Begins the next instruction, a group, and reads its map.
 #[inline(always)]
 pub fn group_arm<'t, S: Sink>(
     machine: &mut Machine<'t>,
@@ -255,7 +256,7 @@ pub fn group_arm<'t, S: Sink>(
     enter_arm(machine, templates, limits, spot, node, start, sink)
 }
 
-/// The next instruction, a group that is there, whose bit is used, if it has one.
+/// Begins the next instruction, a group that is present, whose bit is used, if it has one.
 #[inline(always)]
 fn enter_arm<'t, S: Sink>(
     machine: &mut Machine<'t>,

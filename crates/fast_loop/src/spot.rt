@@ -1,4 +1,4 @@
-//! Where the machine's loop stands, apart from the machine, so that the compiler keeps it in registers.
+//! The position of the machine's loop, apart from the machine, so that the compiler keeps it in registers.
 
 ghost use Rattle.std.specs.Prelude.{◌≡◌, ◌≢◌, ◌⊎◌, ◌<◌, ◌≤◌, ℕ, Bool, true, false, length, drop, OnOk, Ok, IfErr, option_map};
 ghost use Rattle.fast_value.specs.meaning.Limits.{Bounds};
@@ -27,17 +27,17 @@ use fast_machine::turns::Turns;
 use fast_stream::{Event, FaultCode, Sink};
 use fast_value::Scalar;
 
-/// The place in the message, and what is left of the piece.
+/// The position in the message, and the rest of the piece.
 #[derive(Clone, Copy)]
 pub struct Spot<'t, 'p> {
-    /// The place in the innermost segment.
+    /// The position in the innermost segment.
     pub place: Place<'t>,
     /// The bytes that are left of the piece.
     pub rest: &'p [u8],
 }
 
 impl<'t, 'p> Spot<'t, 'p> {
-    /// Stands where the cursor does, so many bytes further on.
+    /// Moves to the position of the cursor, and past this number of bytes.
     #[inline(always)]
     pub fn stand(&mut self, cursor: &Cursor<'t>, bytes: usize)
         requires within { bytes ≤ length self.old.rest.now }
@@ -50,16 +50,16 @@ impl<'t, 'p> Spot<'t, 'p> {
     }
 }
 
-/// What an arm of the loop did with the next instruction, or with the end of the innermost segment.
+/// The result of an arm of the loop for the next instruction, or for the end of the innermost segment.
 #[derive(Clone, Copy, Debug, PartialEq, Eq)]
 pub enum Went {
-    /// It took bytes.
+    /// It read bytes.
     Took,
-    /// It took no byte, and handed something over.
+    /// It read no byte, and emitted an event.
     Handed,
-    /// It took no byte, and handed nothing over: the instruction is absent.
+    /// It read no byte, and emitted nothing: the instruction is absent.
     Silent,
-    /// It did nothing: this is for the general way.
+    /// It did nothing: the step is left to the general path.
     Declined,
     /// The sink stopped.
     Stopped,
@@ -67,31 +67,31 @@ pub enum Went {
     Waits,
 }
 
-/// How a step of the loop went, by an arm or in the general way.
+/// The result of a step of the loop, by an arm or on the general path.
 #[derive(Clone, Copy, Debug, PartialEq, Eq)]
 pub enum Gone {
-    /// It took bytes.
+    /// It read bytes.
     Took,
-    /// It took no byte, and handed something over.
+    /// It read no byte, and emitted an event.
     Handed,
-    /// It took no byte, and handed nothing over.
+    /// It read no byte, and emitted nothing.
     Silent,
-    /// The machine waits for a byte, or stands at a fault.
+    /// The machine waits for a byte, or has stopped at a fault.
     Ended(Result<(), FaultCode>),
 }
 
-/// Whether the next instruction, which uses a presence bit or none, stands in the stream.
+/// The presence in the stream of the next instruction, which uses a presence bit or none.
 #[derive(Clone, Copy, Debug, PartialEq, Eq)]
 pub enum Standing {
     /// Its bit is set, or it uses none.
     Sent,
     /// Its bit is clear.
     Unsent,
-    /// No bit is left in the word: the general way has to use the next one.
+    /// No bit is left in the word: the general path has to use the next one.
     Spent,
 }
 
-/// Whether the next instruction, which uses a presence bit or none, stands in the stream.
+/// Returns whether the next instruction, which uses a presence bit or none, is in the stream.
 #[inline(always)]
 pub fn stands(place: &Place<'_>, has_bit: bool) -> Standing
     ensures sent { result ≡ Standing.Sent → (c : CursorData) → IsPlaceOf c place.now
@@ -112,7 +112,7 @@ pub fn stands(place: &Place<'_>, has_bit: bool) -> Standing
     Standing::Sent
 }
 
-/// Goes past the next instruction, a field whose value is at hand, or absent, and hands the value over.
+/// Moves past the next instruction, a field whose value is known, or absent, and emits the value.
 #[inline(always)]
 pub fn pass_value<S: Sink>(
     place: &mut Place<'_>,
@@ -146,7 +146,7 @@ pub fn pass_value<S: Sink>(
     }
 }
 
-/// Behind a field that stood whole in the piece: its value, if it has one, is handed over, and the spot is behind it.
+/// Moves past a field that was in the piece completely, and emits its value, if it has one. The spot is after it then.
 #[inline(always)]
 pub fn hand_taken<S: Sink>(
     turns: &mut Turns,
@@ -183,7 +183,7 @@ pub fn hand_taken<S: Sink>(
     }
 }
 
-/// Behind a field of which nothing is sent: its value, if it has one, is handed over, and the spot is past it.
+/// Moves past a field of which nothing is sent, and emits its value, if it has one. The spot is after it then.
 #[inline(always)]
 pub fn hand_unsent<S: Sink>(
     turns: &mut Turns,

@@ -1,4 +1,4 @@
-//! What the loop does at the end of a message: the next one begins, if its head stands in the piece.
+//! The loop at the end of a message: the next one begins, if its head is in the piece completely.
 
 ghost use Rattle.std.specs.Prelude.{◌≡◌, ◌⊎◌, ◌+◌, ◌<◌, ◌≤◌, ℕ, [], take, drop, length, slice_get, Some};
 ghost use Rattle.fast_value.specs.meaning.Limits.{bounds};
@@ -25,7 +25,7 @@ use fast_stream::{Event, Sink};
 use fast_template::Templates;
 use fast_value::Limits;
 
-/// The message is whole: the next one begins, if its presence map is one byte and its template is known.
+/// Ends the message: the next one begins, if its presence map is one byte and its template is known.
 #[inline(always)]
 pub fn message_arm<'t, S: Sink>(
     machine: &mut Machine<'t>,
@@ -50,7 +50,7 @@ pub fn message_arm<'t, S: Sink>(
     next_arm(machine, templates, limits, spot, sink)
 }
 
-/// Behind the end of a message: the next one begins, if its presence map is one byte and its template is known.
+/// Goes on after the end of a message: the next one begins, if its presence map is one byte and its template is known.
 #[inline(always)]
 fn next_arm<'t, S: Sink>(
     machine: &mut Machine<'t>,
@@ -77,7 +77,7 @@ fn next_arm<'t, S: Sink>(
     message_begins(machine, templates, limits, start, bytes, spot, sink)
 }
 
-/// The message is whole, and the machine waits for the next one.
+/// Ends the message, and waits for the next one.
 #[inline(always)]
 fn no_message<'t>(machine: &mut Machine<'t>, spot: &mut Spot<'t, '_>) -> Went
     requires place { IsPlaceOf machine.old.cursor spot.old.place }
@@ -106,7 +106,7 @@ fn wait_for_message(machine: &mut Machine<'_>)
     machine.cursor.reset();
 }
 
-/// A message of a template begins, whose map is the first byte, and whose instructions begin behind so many bytes.
+/// Begins a message of a template, whose map is the first byte, and whose instructions begin after this number of bytes.
 #[inline(always)]
 fn message_begins<'t, S: Sink>(
     machine: &mut Machine<'t>,

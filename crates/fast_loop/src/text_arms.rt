@@ -1,5 +1,5 @@
-//! Constants of all kinds, and fields of ASCII texts, in the machine's loop: operator and presence are known where the arm stands,
-//! and the op names the entry. Texts are lent from where they stand: the node, the slot of the entry, or the scratch.
+//! The arms of constants of all types, and of ASCII fields: operator and presence are known in each arm, and the op names the entry.
+//! Strings are borrowed from where they are: the node, the slot of the entry, or the scratch.
 
 ghost use Rattle.std.specs.Prelude.{◌≡◌, ◌≢◌, ◌<◌, ◌≤◌, Bool, true, false, length, slice_get, Some, IfSome, IfNone};
 ghost use Rattle.fast_wire.specs.meaning.Maps.{first_bit};
@@ -30,7 +30,7 @@ use fast_units::scratch::Scratch;
 use fast_units::source::ValueSource;
 use fast_value::{Kind, Limits};
 
-/// The field at an op.
+/// Returns the field of an op.
 #[inline(always)]
 pub fn field_at<'a>(templates: &'a Templates, op: &Op) -> Option<&'a FieldInstruction>
     requires { op.now.node < length templates.now.nodes.items }
@@ -43,8 +43,8 @@ pub fn field_at<'a>(templates: &'a Templates, op: &Op) -> Option<&'a FieldInstru
     }
 }
 
-/// The bytes of a tail of the op's field that is the first one at its entry, or the first behind NULL, where the field has no initial
-/// value that it were joined to. It stands at the entry then.
+/// Reads a tail of the op's field that is the first one at its entry, or the first after NULL, if the field has no initial value to which
+/// it is joined, and returns its number of bytes. The string is at the entry then.
 #[cold]
 #[inline(never)]
 fn first_tail(
@@ -75,8 +75,8 @@ fn first_tail(
     }
 }
 
-/// The bytes of a tail of the op's field that is not taken at once: no short one, or the first one at its entry. It stands at the entry
-/// then.
+/// Reads a tail of the op's field that is not read at once, either not a short one or the first one at its entry, and returns its number of
+/// bytes. The string is at the entry then.
 #[inline(never)]
 fn other_tail(
     templates: &Templates,
@@ -113,8 +113,8 @@ fn other_tail(
     Some(bytes)
 }
 
-/// An ASCII text of the op's field that was sent, if it stands whole in the piece. It stands in the scratch, or at the entry that keeps
-/// it.
+/// Reads an ASCII string of the op's field that was sent, if it is in the piece completely. It is then in the scratch, or at the entry that
+/// keeps it.
 #[inline(always)]
 fn ascii_taken(
     templates: &Templates,
@@ -158,7 +158,7 @@ fn ascii_taken(
     }
 }
 
-/// A constant that is there: its initial value, for which no bit and no byte is read.
+/// Decodes a mandatory constant: its initial value, for which no bit and no byte is read.
 #[inline(always)]
 pub fn constant_arm<'t, S: Sink>(
     machine: &mut Machine<'t>,
@@ -182,7 +182,7 @@ pub fn constant_arm<'t, S: Sink>(
     hand_unsent(&mut machine.turns, spot, op.node, false, value, sink)
 }
 
-/// A field of ASCII texts under no delta.
+/// Decodes an ASCII field under an operator other than delta.
 #[inline(always)]
 pub fn ascii_arm<'t, S: Sink>(
     machine: &mut Machine<'t>,
@@ -243,7 +243,7 @@ pub fn ascii_arm<'t, S: Sink>(
     }
 }
 
-/// A field of ASCII texts that uses a presence bit, which is clear.
+/// Decodes an ASCII field that uses a presence bit, which is clear.
 #[inline(always)]
 fn unsent_ascii_arm<'t, S: Sink>(
     machine: &mut Machine<'t>,
@@ -291,7 +291,7 @@ fn unsent_ascii_arm<'t, S: Sink>(
     }
 }
 
-/// A field under default of which nothing is sent: its initial value, lent from the node.
+/// Decodes a field under default of which nothing is sent: its initial value, borrowed from the node.
 #[inline(always)]
 pub fn initial_arm<'t, S: Sink>(
     machine: &mut Machine<'t>,

@@ -1,5 +1,5 @@
-//! Fields of Unicode strings and byte vectors, and deltas of texts of all kinds, in the machine's loop: kind, operator and presence
-//! are known where the arm stands, and the op names the entry.
+//! The arms of Unicode strings and byte vectors, and of string deltas of all types: type, operator and presence are known in each arm, and
+//! the op names the entry.
 
 ghost use Rattle.std.specs.Prelude.{◌≡◌, ◌≢◌, ◌<◌, true, false};
 ghost use Rattle.fast_wire.specs.meaning.Maps.{first_bit};
@@ -20,7 +20,7 @@ use fast_stream::Sink;
 use fast_template::{Operator, Templates};
 use fast_value::{Kind, Limits};
 
-/// A field of Unicode strings or byte vectors without operator: lent from the piece.
+/// Decodes a Unicode string or byte vector without operator: borrowed from the piece.
 #[inline(always)]
 pub fn vector_arm<'t, S: Sink>(
     machine: &mut Machine<'t>,
@@ -61,7 +61,7 @@ pub fn vector_arm<'t, S: Sink>(
     }
 }
 
-/// A delta of texts, which is joined in the slot of its entry.
+/// Decodes a string delta, which is joined in the slot of its entry.
 #[inline(always)]
 pub fn part_arm<'t, S: Sink>(
     machine: &mut Machine<'t>,
@@ -109,7 +109,7 @@ pub fn part_arm<'t, S: Sink>(
     }
 }
 
-/// A tail of Unicode strings or byte vectors, which is joined in the slot of its entry.
+/// Decodes a tail of a Unicode string or byte vector, which is joined in the slot of its entry.
 #[inline(always)]
 pub fn tail_arm<'t, S: Sink>(
     machine: &mut Machine<'t>,
@@ -166,7 +166,7 @@ pub fn tail_arm<'t, S: Sink>(
     }
 }
 
-/// A tail of which nothing is sent: what the entry holds.
+/// Decodes a tail of which nothing is sent: the value of the entry.
 #[inline(always)]
 fn unsent_tail_arm<'t, S: Sink>(
     machine: &mut Machine<'t>,

@@ -1,5 +1,5 @@
-//! The machine's loop: from op to op, with an arm for each code. The place in the innermost segment, and what is left of the piece,
-//! stay in registers, since all arms are inlined.
+//! The machine's loop: from op to op, with an arm for each code. The position in the innermost segment, and the rest of the piece, stay in
+//! registers, since all arms are inlined.
 
 ghost use Rattle.std.specs.Prelude.{◌≡◌, ◌≢◌, [], slice_get, Ok, Some};
 ghost use Rattle.fast_tree.specs.declared.instructions.Node.{Node};
@@ -31,10 +31,10 @@ use fast_stream::{FaultCode, Sink};
 use fast_template::{Operator, Templates};
 use fast_value::{Kind, Limits};
 
-/// The arms of integers take eight bytes at once, so the last integers of a piece are taken one after the other in the general way.
+/// The arms of integers read eight bytes at once, so the last integers of a piece are read one after the other on the general path.
 const FEW: usize = 8;
 
-/// The op at a place: the next instruction's, or the end of the innermost segment.
+/// Returns the op at a position: the next instruction's, or the end of the innermost segment.
 #[inline(always)]
 fn op_at<'t>(
     machine: &Machine<'t>,
@@ -55,9 +55,9 @@ fn op_at<'t>(
     place.op()
 }
 
-/// A step in the general way, or several, where few bytes are left: the last integers of a piece. That a field waits for its unit is by far
-/// the most common turn of the others, and is asked for first. It is marked as cold so that the loop's registers are given out by what the
-/// arms want.
+/// Makes a step on the general path, or several, if few bytes are left: the last integers of a piece. That a field waits for its unit is by
+/// far the most common turn of the others, and is tested first. It is marked as cold so that the loop's registers are allocated for the
+/// arms.
 #[cold]
 #[inline(never)]
 fn general_step<'t, S: Sink>(
@@ -104,7 +104,7 @@ fn general_step<'t, S: Sink>(
     machine.step_by_turn(templates, *limits, rest, sink)
 }
 
-/// A step in the general way from the spot on: of the next instruction, or the end of the innermost segment.
+/// Makes a step on the general path from the spot on: of the next instruction, or the end of the innermost segment.
 #[inline(always)]
 fn general_arm<'t, S: Sink>(
     machine: &mut Machine<'t>,
@@ -141,7 +141,7 @@ fn general_arm<'t, S: Sink>(
     }
 }
 
-/// What an arm did; where it declined, the step is taken in the general way.
+/// Returns the result of an arm; if it declined, makes the step on the general path.
 #[inline(always)]
 fn or_general<'t, S: Sink>(
     machine: &mut Machine<'t>,
@@ -173,7 +173,7 @@ fn or_general<'t, S: Sink>(
     }
 }
 
-/// Takes steps for as long as there are any for the arms: what is left then waits for a byte, in the general way.
+/// Makes steps for as long as an arm has a case for them: the instruction that is left then waits for a byte, on the general path.
 #[inline(never)]
 pub fn walk<'t, S: Sink>(
     machine: &mut Machine<'t>,
@@ -195,11 +195,11 @@ pub fn walk<'t, S: Sink>(
     };
     'units: loop {
         'events: loop {
-            // The code at the place. Behind an absent field it is loaded where that is passed, so that such arms lead straight there.
+            // The code at the position. After an absent field it is loaded where that is passed, so that such arms lead straight there.
             let mut code = op_at(machine, templates, bounds, &spot.place).code;
             'silent: loop {
                 let op = op_at(machine, templates, bounds, &spot.place);
-                // an arm, with what all of them take and what is constant for the code
+                // an arm, with the arguments that all of them have and those that are constant for the code
                 macro_rules! arm {
                     ($arm:ident, $operator:ident, $optional:literal) => {
                         arm!($arm, Operator::$operator, $optional)
@@ -279,7 +279,7 @@ pub fn walk<'t, S: Sink>(
                     Code::BytesNullablePlain => arm!(vector_arm, Kind::Bytes, true),
                     Code::BytesTail => arm!(tail_arm, Kind::Bytes, false),
                     Code::BytesNullableTail => arm!(tail_arm, Kind::Bytes, true),
-                    // These arms have many ends: how the loop goes on is told here, and not behind all arms.
+                    // These arms have many ends: how the loop goes on is decided here, and not after all arms.
                     Code::Group => match arm!(group_arm, false) {
                         Went::Took => break 'events,
                         Went::Handed => break 'silent,
@@ -323,7 +323,7 @@ pub fn walk<'t, S: Sink>(
     }
 }
 
-/// How the loop ends: the machine waits, or stands at a fault.
+/// Returns the end of the loop: the machine waits, or has stopped at a fault.
 #[inline(always)]
 fn ended(outcome: Result<(), FaultCode>) -> Result<Turn, FaultCode>
     ensures { result ≡ ended outcome }
