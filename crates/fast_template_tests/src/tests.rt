@@ -1,4 +1,4 @@
-//! Tests: what no clause says, and each public call once.
+//! Tests of all that no clause says, and of each public call once.
 
 mod dict;
 mod template;
@@ -7,7 +7,7 @@ mod wire;
 
 use std::process::Abort;
 
-/// One comparison, of what a test names so.
+/// Makes one comparison, under the name that a test gives it.
 fn expect(rt: &impl Abort, is_right: bool, of: &str, at: usize) {
     assert!(rt; is_right, "{of} ({at})");
 }

@@ -16,7 +16,7 @@ use fast_tree::{FieldInstruction, Operator};
 use fast_value::{Code, Scalar, Value};
 use std::alloc::{AllocError, Global};
 
-/// A fault of an operator, or want of memory for a joined text.
+/// A fault of an operator, or a failed allocation for a joined string.
 #[derive(Clone, Copy, PartialEq)]
 enum Failed {
     Fault(Code),
@@ -36,7 +36,7 @@ impl From<AllocError> for Failed {
     }
 }
 
-/// An instruction.
+/// Returns an instruction.
 fn instruction(
     alloc: Global,
     operator: Operator,
@@ -57,13 +57,13 @@ fn instruction(
     })
 }
 
-/// Joins two texts in the buffer. Without a contract, so that a call is cheap to prove.
+/// Joins two strings in the buffer. Without a contract, so that a call is cheap to prove.
 fn join(buffer: &mut Vec<u8>, front: &[u8], rest: &[u8]) -> Result<(), AllocError> {
     buffer.extend_from_slice(front)?;
     buffer.extend_from_slice(rest)
 }
 
-/// Joins a delta's part with what is kept of its base.
+/// Joins a delta's part to the bytes kept of its base.
 fn join_delta(
     field: &FieldInstruction,
     previous: Previous<'_>,
@@ -78,7 +78,7 @@ fn join_delta(
     Ok(())
 }
 
-/// Joins a tail with what is kept of its base.
+/// Joins a tail to the bytes kept of its base.
 fn join_tail(
     field: &FieldInstruction,
     previous: Previous<'_>,
@@ -91,7 +91,7 @@ fn join_tail(
     Ok(())
 }
 
-/// Joins what was sent with what is kept of its base.
+/// Joins the part that was sent to the bytes kept of its base.
 fn join_sent(
     field: &FieldInstruction,
     previous: Previous<'_>,
@@ -105,7 +105,7 @@ fn join_sent(
     }
 }
 
-/// What an operator gives, with a text joined in the buffer.
+/// Returns the result of an operator, with a string joined in the buffer.
 fn answer<'a>(
     field: &'a FieldInstruction,
     previous: Previous<'a>,
@@ -120,7 +120,7 @@ fn answer<'a>(
     Ok(joined(field.kind, buffer)?)
 }
 
-/// Whether two previous values are the same.
+/// Returns whether two previous values are the same.
 fn is_same_previous(previous: Previous<'_>, wanted: Previous<'_>) -> bool {
     match (previous, wanted) {
         (Previous::Undefined, Previous::Undefined) => true,
@@ -132,7 +132,7 @@ fn is_same_previous(previous: Previous<'_>, wanted: Previous<'_>) -> bool {
     }
 }
 
-/// Whether two answers are the same.
+/// Returns whether two results are the same.
 fn is_same_answer(
     answer: Result<Outcome<'_>, Failed>,
     wanted: Result<Outcome<'_>, Failed>,

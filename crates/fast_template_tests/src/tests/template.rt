@@ -1,4 +1,4 @@
-//! Template sets: texts and their faults, entries and caps.
+//! Template sets: files and their faults, entries and caps.
 
 mod caps;
 mod chains;
@@ -11,15 +11,15 @@ use std::alloc::{AllocError, Global};
 use std::process::Abort;
 use std::test::Fail;
 
-/// The code of a text, and the template at which it stands; nothing where the text is a set.
+/// The code of a template file, and the template at which it is; nothing if the file is a set.
 type Due = Option<(StaticCode, Option<u32>)>;
 
-/// Reads a text. No clause says anything of it, so that the contract of `read` is a matter of this function alone.
+/// Reads a template file. No clause says anything of it, so that the contract of `read` is a matter of this function alone.
 fn read(alloc: Global, text: &str) -> Result<Templates, StaticFault> {
     Templates::read(alloc, text)
 }
 
-/// What a text has.
+/// Returns the fault of a template file, if it has one.
 fn fault_of(alloc: Global, text: &str) -> Due {
     match read(alloc, text) {
         Ok(_) => None,
@@ -27,12 +27,12 @@ fn fault_of(alloc: Global, text: &str) -> Due {
     }
 }
 
-/// The set of a text.
+/// Returns the set of a template file.
 fn set_of(alloc: Global, text: &str) -> Result<Templates, Fail> {
     Ok(read(alloc, text)?)
 }
 
-/// Puts pieces behind a text. No clause says which, so that what a text is made of costs the prover nothing.
+/// Appends strings to a file. No clause says which, so that the contents of a file cost the prover nothing.
 fn put(text: &mut String, pieces: &[&str]) -> Result<(), AllocError> {
     for piece in pieces {
         text.push_str(piece)?;
@@ -40,23 +40,23 @@ fn put(text: &mut String, pieces: &[&str]) -> Result<(), AllocError> {
     Ok(())
 }
 
-/// The text of these pieces.
+/// Joins strings into a file.
 fn joined(alloc: Global, pieces: &[&str]) -> Result<String, AllocError> {
     let mut text = String::new(alloc);
     put(&mut text, pieces)?;
     Ok(text)
 }
 
-/// A text has this, and the message says what it shows.
+/// Checks that a file has this fault. The message says what it shows.
 fn expect_fault(rt: &impl Abort, alloc: Global, text: &str, want: Due, what: &str) {
     let is_right = fault_of(alloc, text) == want;
     assert!(rt; is_right, "{what}");
 }
 
-/// What texts have, and the texts.
+/// Faults, each with the files that have it.
 type Faults = &'static [(Due, &'static [&'static str])];
 
-/// A text has this, between these texts.
+/// Checks that a file has this fault, between these strings.
 fn expect_within(
     rt: &impl Abort,
     alloc: Global,
@@ -69,7 +69,7 @@ fn expect_within(
     Ok(())
 }
 
-/// Each of the texts has this, between these texts.
+/// Checks that each of the files has this fault, between these strings.
 fn expect_all_within(
     rt: &impl Abort,
     alloc: Global,
@@ -83,7 +83,7 @@ fn expect_all_within(
     Ok(())
 }
 
-/// Each of the texts has what is due, between these texts.
+/// Checks that each of the files has its expected fault, between these strings.
 fn expect_faults(
     rt: &impl Abort,
     alloc: Global,
@@ -96,7 +96,7 @@ fn expect_faults(
     Ok(())
 }
 
-/// Whether the set has so many templates, and finds them by these identifiers and names.
+/// Returns whether the set has this number of templates, and finds them by these identifiers and names.
 fn finds(
     set: &Templates,
     count: u32,

@@ -1,4 +1,4 @@
-//! Texts of initial values, a value that is lent and copied, and what stands for a code.
+//! Strings of initial values, a value that is borrowed and copied, and the name and description of a code.
 
 use super::expect;
 use fast_value::{Code, InitialFault, Kind, Limits, Scalar, Value, parse_initial};
@@ -6,18 +6,18 @@ use std::alloc::{AllocError, Global};
 use std::process::Abort;
 use std::test::Fail;
 
-/// The value of a text. Without a contract, so that a call is cheap to prove.
+/// Returns the value of a string. Without a contract, so that a call is cheap to prove.
 fn parsed(alloc: Global, kind: Kind, text: &str) -> Result<Value, InitialFault> {
     parse_initial(alloc, kind, text)
 }
 
-/// A text is refused.
+/// Checks that a string is refused.
 fn expect_refused(rt: &impl Abort, alloc: Global, kind: Kind, text: &str) {
     let is_refused = matches!(parsed(alloc, kind, text), Err(InitialFault::S3));
     expect(rt, is_refused, text, text.len());
 }
 
-/// A text has this value.
+/// Checks that a string has this value.
 fn expect_value(rt: &impl Abort, alloc: Global, kind: Kind, text: &str, value: Value) {
     let is_right = parsed(alloc, kind, text) == Ok(value);
     expect(rt, is_right, text, text.len());
@@ -48,7 +48,7 @@ fn integers_are_read_up_to_their_bounds(rt: HostRuntime) {
     }
 }
 
-/// Integers, decimals, texts and bytes.
+/// Integers, decimals, strings and bytes.
 const REFUSED: &[(Kind, &str)] = &[
     (Kind::UInt32, "4294967296"),
     (Kind::UInt32, "-1"),
@@ -101,14 +101,14 @@ fn decimals_keep_their_exponent(rt: HostRuntime) {
     }
 }
 
-/// Texts, and the bytes of their values.
+/// Strings, and the bytes of their values.
 const TEXTS: &[(Kind, &str, &[u8])] = &[
     (Kind::Ascii, "AB c", &[0x41, 0x42, 0x20, 0x63]),
     (Kind::Unicode, "\u{e9}", &[0xC3, 0xA9]),
     (Kind::Bytes, "01fFAb", &[1, 0xFF, 0xAB]),
 ];
 
-/// The value of a kind of texts with these bytes.
+/// Returns the value of a string type with these bytes.
 fn text_of(alloc: Global, kind: Kind, bytes: &[u8]) -> Result<Value, AllocError> {
     let bytes = Vec::from_slice(alloc, bytes)?;
     Ok(match kind {
@@ -127,7 +127,7 @@ fn texts_and_bytes(rt: HostRuntime) -> Result<(), Fail> {
     Ok(())
 }
 
-/// A copy of this ASCII text.
+/// Returns a copy of this ASCII string.
 fn copy_of(alloc: Global, text: &[u8]) -> Result<Value, AllocError> {
     Value::copy_of(alloc, Scalar::Ascii(text))
 }
@@ -149,7 +149,7 @@ const CODES: &[(Code, u8, &str)] = &[
     (Code::L3, 15, "L3: a presence map has 146 bytes and no stop bit"),
 ];
 
-/// A code with its name and its sentence.
+/// Returns a code with its name and its description.
 fn line_of(alloc: Global, code: Code) -> Result<String, AllocError> {
     let name = code.name();
     format!(in alloc; "{name}: {code}")

@@ -24,7 +24,7 @@ const I64_TOP: i128 = 0x7fff_ffff_ffff_ffff;
 
 const U32_TOP: u64 = 0xffff_ffff;
 
-/// The entity of these bytes, if they are one.
+/// Returns the entity of these bytes, if they are one.
 fn entity(bytes: &[u8]) -> Option<Entity>
     ensures { IfSome result (λ e. IsEntity e × (length e ≤ 10)) }
 {
@@ -39,7 +39,7 @@ fn entity(bytes: &[u8]) -> Option<Entity>
     None
 }
 
-/// The bytes with eight more behind them, so that a short entity is taken as a word.
+/// Returns the bytes with eight more after them, so that a short entity is read as a word.
 fn followed(bytes: &[u8]) -> ArrayVec<u8, 24> {
     let mut all = ArrayVec::new();
     for byte in bytes.iter().chain(&[0x80; 8]) {
@@ -48,7 +48,7 @@ fn followed(bytes: &[u8]) -> ArrayVec<u8, 24> {
     all
 }
 
-/// What the quick functions answer for an entity of so many bytes: its integer, if it has one and is short.
+/// Returns the result of the fast functions for an entity of this many bytes: its integer, if it has one and is short.
 fn quick_answer<T: Copy>(want: Result<T, WireFault>, len: usize) -> Option<T> {
     match want {
         Ok(number) if len <= 8 => Some(number),
@@ -56,12 +56,12 @@ fn quick_answer<T: Copy>(want: Result<T, WireFault>, len: usize) -> Option<T> {
     }
 }
 
-/// An answer of the quick functions with more bits.
+/// Returns a result of the fast functions in 128 bits.
 fn widened(answer: Option<i64>) -> Option<i128> {
     Some(i128::from(answer?))
 }
 
-/// The same of one that may be NULL.
+/// Returns a result of the fast functions that may be NULL in 128 bits.
 fn widened_or_null(answer: Option<Option<i64>>) -> Option<Option<i128>> {
     match answer? {
         Some(number) => Some(Some(i128::from(number))),
@@ -69,7 +69,7 @@ fn widened_or_null(answer: Option<Option<i64>>) -> Option<Option<i128>> {
     }
 }
 
-/// Where an integer should be found, behind which further bytes change nothing.
+/// Returns the result of reading an integer at the front of a slice, after which further bytes change nothing.
 fn first_answer<T: Copy>(want: Result<T, WireFault>, len: usize) -> First<T> {
     match want {
         Ok(number) => First::Whole(number, len),
@@ -77,19 +77,20 @@ fn first_answer<T: Copy>(want: Result<T, WireFault>, len: usize) -> First<T> {
     }
 }
 
-/// One comparison of a row, which one call of a small function makes cheap to prove.
+/// Makes one comparison of a row, which one call of a small function makes cheap to prove.
 fn expect(rt: &impl Abort, is_right: bool, how: &str, bytes: &[u8]) {
     assert!(rt; is_right, "{how} {bytes:?}");
 }
 
-/// Several comparisons, of which a failure tells the number.
+/// Makes several comparisons. A failure reports the number of the one that failed.
 fn expect_each(rt: &impl Abort, are_right: &[bool], bytes: &[u8]) {
     for (k, is_right) in are_right.iter().enumerate() {
         assert!(rt; *is_right, "answer {k} of {bytes:?}");
     }
 }
 
-/// The answers of a row: at the bytes alone, at the bytes with others behind them, quickly there, and of the entity, if they are one.
+/// Checks the results of a row: of the bytes alone, of the bytes with others after them, of the fast functions there, and of the entity, if
+/// they are one.
 fn unsigned_row(
     rt: &impl Abort,
     bytes: &[u8],
@@ -195,7 +196,7 @@ fn nullable_signed_row(
     expect_each(rt, &are_right, bytes);
 }
 
-/// Bytes, the greatest integer, and what they are in lenient mode and in strict.
+/// Bytes, the greatest integer, and the results in lenient mode and in strict.
 type UnsignedRow<T> = (
     &'static [u8],
     u64,
@@ -229,7 +230,7 @@ const NULLABLE_UNSIGNED_ROWS: &[UnsignedRow<Option<u64>>] = &[
     (&[0x7f, 0x7f, 0x7f, 0x7f, 0x7f, 0x7f, 0x7f, 0x7f, 0xff], u64::MAX, Ok(Some(0x7fff_ffff_ffff_fffe)), Ok(Some(0x7fff_ffff_ffff_fffe))),
 ];
 
-/// Bytes, and what they are in lenient mode and in strict, of all integers of 64 bits with a sign.
+/// Bytes, and the results in lenient mode and in strict, for all signed integers of 64 bits.
 type SignedRow<T> = (&'static [u8], Result<T, WireFault>, Result<T, WireFault>);
 
 #[rattlefmt::skip]
@@ -259,7 +260,7 @@ const NULLABLE_SIGNED_ROWS: &[SignedRow<Option<i128>>] = &[
     (&[0x7f, 0, 0, 0, 0, 0, 0, 0, 0, 0x80], Ok(Some(I64_LOW)), Ok(Some(I64_LOW))),
 ];
 
-/// A row in both modes.
+/// Checks a row in both modes.
 fn unsigned_in_both(rt: &impl Abort, row: &UnsignedRow<u64>) {
     let (bytes, top, lenient, strict) = row;
     unsigned_row(rt, bytes, false, *top, *lenient);
@@ -316,7 +317,7 @@ fn cut_integers(rt: HostRuntime) {
     expect_each(&rt, &are_right, &[]);
 }
 
-/// Whether the bytes, with none behind them, are taken as an entity of this number.
+/// Returns whether the bytes, with none after them, are read as an entity of this number.
 fn ends_as(bytes: &[u8], number: u64) -> bool {
     match short_entity(bytes) {
         Some(short) => short.number == number && short.len == bytes.len(),
@@ -345,7 +346,7 @@ fn entities_byte_by_byte(rt: HostRuntime) {
     let mut w = Entity::new();
     expect(&rt, w.is_empty(), "empty", &[]);
     for len in 0..9 {
-        // what is asserted here, the loop's invariant needs
+        // the loop's invariant needs what is asserted here
         assert!(rt; w.len() == len);
         assert!(rt; w.push(1) == Step::More);
     }
@@ -355,7 +356,7 @@ fn entities_byte_by_byte(rt: HostRuntime) {
     expect(&rt, begins_anew, "whole", w.as_slice());
 }
 
-/// Whether an entity that is cleared is whole behind two bytes, and keeps them.
+/// Returns whether an entity that is cleared is complete after two bytes, and holds them.
 fn begins_anew(w: &mut Entity) -> bool {
     w.clear();
     let is_whole = w.push(0x7f) == Step::More && w.push(0x80) == Step::Whole;

@@ -1,4 +1,4 @@
-//! Fields one after the other, each under what the one before left in the entry.
+//! Fields one after the other, each with the entry that the one before left.
 
 use super::super::expect;
 use super::{Failed, answer, instruction, is_same_answer};
@@ -9,8 +9,8 @@ use fast_value::{Code, Kind, Scalar};
 use std::alloc::{AllocError, Global};
 use std::test::Fail;
 
-/// The operator, the kind and whether the field is optional, of a field without an initial value, and then what the entry holds, the
-/// presence bit, what was sent, and what that gives.
+/// The operator, the type and whether the field is optional, of a field without an initial value, then the contents of the entry, the
+/// presence bit, the content of the stream, and the result.
 type Example = (
     (Operator, Kind, bool),
     Previous<'static>,
@@ -19,14 +19,14 @@ type Example = (
     Given,
 );
 
-/// What is wanted of a field.
+/// The expected result of a field.
 #[derive(Clone, Copy)]
 enum Given {
     /// The value, which the entry then holds.
     Kept(Scalar<'static>),
-    /// The value, and the entry is as it was.
+    /// The value, and the entry is unchanged.
     Passed(Scalar<'static>),
-    /// Absent, and what the entry holds next.
+    /// Absent, and the next contents of the entry.
     Absent(Previous<'static>),
     /// A fault.
     Fault(Code),
@@ -37,7 +37,7 @@ use Previous::{Assigned, Empty, Undefined};
 use Scalar::{Ascii, Dec, I, U, Unicode};
 use Sent::{DecimalDelta, IntegerDelta, Nothing, Null, TextDelta};
 
-/// The answer that is wanted of a field of this kind.
+/// Returns the expected result of a field of this type.
 fn wanted(
     kind: Kind,
     previous: Previous<'static>,
@@ -79,8 +79,8 @@ const HELD_FIVE: Previous<'static> = Assigned(Kind::Int32, I(5));
 
 const HELD_HIGH: Previous<'static> = Assigned(Kind::Decimal, HIGH);
 
-/// Fields, with what the entry holds, the presence bit, what was sent, and what that gives. They stand one behind the other, since lists
-/// within a list are dear to prove where they hold bytes.
+/// Fields, with the contents of the entry, the presence bit, the content of the stream, and the result. They are one flat list, since lists
+/// within a list are slow to prove if they hold bytes.
 #[rattlefmt::skip]
 const EXAMPLES: &[Example] = &[
     ((Operator::Tail, Kind::Ascii, false), Undefined, true, Sent::Value(Ascii(b"ABCDE")), Kept(Ascii(b"ABCDE"))),
@@ -125,7 +125,7 @@ const EXAMPLES: &[Example] = &[
     ((Operator::Delta, Kind::Decimal, false), HELD_HIGH, true, DecimalDelta(-127, 0), Fault(Code::R1)),
 ];
 
-/// Whether the field gives what is wanted.
+/// Returns whether the field gives the expected result.
 fn is_given(alloc: Global, example: &Example) -> Result<bool, AllocError> {
     let ((operator, kind, optional), previous, bit, sent, given) = *example;
     let field = instruction(alloc, operator, kind, optional, None)?;

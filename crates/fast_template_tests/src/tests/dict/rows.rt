@@ -1,29 +1,28 @@
-//! The table of the operators, row by row: operator, whether the field is mandatory, whether there is an initial value,
-//! what was sent, and what that gives where the entry is undefined, is empty, holds a value of the field's type, and
-//! holds one of another type.
+//! The table of the operators, row by row: operator, whether the field is mandatory, whether there is an initial value, the content of the
+//! stream, and the result if the entry is undefined, is empty, holds a value of the field's type, and holds one of another type.
 
 use fast_tree::Operator;
 use fast_value::Code::{self, D4, D5, D6};
 
-/// Whether the field may be absent.
+/// The presence of a field: mandatory or optional.
 #[derive(Clone, Copy, PartialEq)]
 pub enum Presence {
-    /// It may not.
+    /// The field is mandatory.
     Mandatory,
-    /// It may.
+    /// The field is optional.
     Optional,
 }
 
-/// Whether the instruction has an initial value.
+/// The presence of an initial value in the instruction.
 #[derive(Clone, Copy, PartialEq)]
 pub enum Start {
-    /// It has.
+    /// The instruction has an initial value.
     With,
-    /// It has none.
+    /// The instruction has none.
     Without,
 }
 
-/// What was sent.
+/// The content of the stream.
 #[derive(Clone, Copy, PartialEq)]
 pub enum Way {
     /// Nothing, with the presence bit clear.
@@ -36,7 +35,7 @@ pub enum Way {
     Item,
 }
 
-/// One of the sample values of a kind.
+/// One of the sample values of a type.
 #[derive(Clone, Copy, PartialEq)]
 pub enum Sample {
     /// The value that is sent.
@@ -51,18 +50,18 @@ pub enum Sample {
     OnPrevious,
     /// The delta or the tail on the initial value.
     OnInitial,
-    /// The delta or the tail on 0 or the empty text.
+    /// The delta or the tail on 0 or the empty string.
     OnNothing,
 }
 
-/// What comes of it.
+/// The result of a row.
 #[derive(Clone, Copy, PartialEq)]
 pub enum Then {
     /// The value, which the entry then holds.
     Kept(Sample),
-    /// The value, and the entry is as it was.
+    /// The value, and the entry is unchanged.
     Given(Sample),
-    /// Absent, and the entry is as it was.
+    /// Absent, and the entry is unchanged.
     AsItWas,
     /// Absent, and the entry is empty.
     Emptied,
@@ -78,7 +77,7 @@ use Then::{AsItWas, Emptied, Fault, Given, Kept};
 /// A row of the table.
 pub type Row = (Operator, Presence, Start, Way, Thens);
 
-/// What comes of it under an entry that is undefined, that is empty, with a value of the field's type, with another.
+/// The results under an entry that is undefined, that is empty, with a value of the field's type, with another.
 pub type Thens = (Then, Then, Then, Then);
 
 /// The rows.

@@ -1,4 +1,4 @@
-//! What an encoder sends.
+//! The content that an encoder sends.
 
 use super::super::expect;
 use super::instruction;
@@ -14,7 +14,7 @@ use fast_value::{Kind, Scalar};
 use std::alloc::{AllocError, Global};
 use std::test::Fail;
 
-/// Whether two items are the same.
+/// Returns whether two items are the same.
 fn is_same_item(item: Sent<'_>, wanted: Sent<'_>) -> bool {
     match (item, wanted) {
         (Sent::Nothing, Sent::Nothing) | (Sent::Null, Sent::Null) => true,
@@ -28,7 +28,7 @@ fn is_same_item(item: Sent<'_>, wanted: Sent<'_>) -> bool {
     }
 }
 
-/// A field, as the tests give it: the operator, the kind, whether it is optional, and the initial value.
+/// A field of the tests: the operator, the type, whether it is optional, and the initial value.
 type Field = (Operator, Kind, bool, Option<Scalar<'static>>);
 
 /// A field, a previous value, a value, and the bit and the item that are sent for it, if it can be sent.
@@ -39,7 +39,7 @@ type Case = (
     Option<(bool, Sent<'static>)>,
 );
 
-/// The bit and the item for a value. Without a contract, so that a call is cheap to prove.
+/// Returns the bit and the item for a value. Without a contract, so that a call is cheap to prove.
 fn chosen<'a>(
     field: &'a FieldInstruction,
     previous: Previous<'a>,
@@ -49,7 +49,7 @@ fn chosen<'a>(
     Some((choice.bit, choice.item))
 }
 
-/// Whether two bits and items are the same.
+/// Returns whether two bits and items are the same.
 fn is_same_choice(chosen: Option<(bool, Sent<'_>)>, wanted: Option<(bool, Sent<'_>)>) -> bool {
     match (chosen, wanted) {
         (Some((bit, item)), Some((wanted_bit, wanted_item))) => {
@@ -60,7 +60,7 @@ fn is_same_choice(chosen: Option<(bool, Sent<'_>)>, wanted: Option<(bool, Sent<'
     }
 }
 
-/// Whether bit and item for a value under a previous value are those that are wanted.
+/// Returns whether bit and item for a value under a previous value are the expected ones.
 fn is_sent(alloc: Global, case: &Case) -> Result<bool, AllocError> {
     let ((operator, kind, optional, initial), previous, value, wanted) = *case;
     let field = instruction(alloc, operator, kind, optional, initial)?;
@@ -81,7 +81,7 @@ const GREATEST_32: Previous<'static> = Assigned(Kind::UInt32, U(4_294_967_295));
 
 const HUNDRED: Previous<'static> = Assigned(Kind::Int32, I(100));
 
-/// Fields, and what is sent of them. They stand one behind the other, since lists within a list are dear to prove where they hold bytes.
+/// Fields, and the content sent for them. They are one flat list, since lists within a list are slow to prove if they hold bytes.
 #[rattlefmt::skip]
 const CASES: &[Case] = &[
     ((Operator::Tail, Kind::Ascii, false, None), Undefined, Some(Ascii(b"ABCDE")), Some((true, Sent::Value(Ascii(b"ABCDE"))))),

@@ -13,7 +13,7 @@ use std::alloc::AllocError;
 use std::process::Abort;
 use std::test::Fail;
 
-/// A command of each kind, with values of each form, and a value that replaces another. Entries 1 and 3 take texts.
+/// A command of each type, with values of each form, and a value that replaces another. Entries 1 and 3 can hold strings.
 #[rattlefmt::skip]
 const COMMANDS: [StoreCommand<'static>; 9] = [
     StoreCommand::Set { entry: 0, kind: Kind::UInt32, scalar: Scalar::U(7) },
@@ -27,7 +27,7 @@ const COMMANDS: [StoreCommand<'static>; 9] = [
     StoreCommand::SetEmpty { entry: 4 },
 ];
 
-/// What the entries hold after these commands.
+/// The entries after these commands.
 const AFTER: [Previous<'static>; 5] = [
     Previous::Assigned(Kind::UInt32, Scalar::U(7)),
     Previous::Assigned(Kind::Bytes, Scalar::Bytes(b"0123456789ABCDEF")),
@@ -36,7 +36,7 @@ const AFTER: [Previous<'static>; 5] = [
     Previous::Empty,
 ];
 
-/// What they hold after a reset.
+/// The entries after a reset.
 const AFTER_RESET: [Previous<'static>; 5] = [
     Previous::Assigned(Kind::UInt32, Scalar::U(7)),
     Previous::Undefined,
@@ -45,7 +45,7 @@ const AFTER_RESET: [Previous<'static>; 5] = [
     Previous::Undefined,
 ];
 
-/// What they hold after the commands and a number at entry 4, which was empty.
+/// The entries after the commands and a number at entry 4, which was empty.
 const AFTER_NUMBER: [Previous<'static>; 5] = [
     Previous::Assigned(Kind::UInt32, Scalar::U(7)),
     Previous::Assigned(Kind::Bytes, Scalar::Bytes(b"0123456789ABCDEF")),
@@ -54,7 +54,7 @@ const AFTER_NUMBER: [Previous<'static>; 5] = [
     Previous::Assigned(Kind::Int32, Scalar::I(-9)),
 ];
 
-/// Whether each entry holds what is wanted.
+/// Returns whether each entry holds the expected value.
 fn holds<D: Store>(store: &D, wanted: &[Previous<'_>]) -> bool {
     if store.entries() != wanted.len() {
         return false;
@@ -75,7 +75,7 @@ fn carries_out<D: Store>(rt: &impl Abort, store: &mut D, commands: &[StoreComman
     expect(rt, count == commands.len(), "commands", count);
 }
 
-/// Lists of commands one after the other, and what the entries then hold.
+/// Lists of commands one after the other, and the entries after each.
 const TURNS: &[(&[StoreCommand<'static>], &[Previous<'static>])] = &[
     (&[], &[Previous::Undefined; 5]),
     (&COMMANDS, &AFTER),
@@ -84,7 +84,7 @@ const TURNS: &[(&[StoreCommand<'static>], &[Previous<'static>])] = &[
     (&[StoreCommand::ResetAll], &[Previous::Undefined; 5]),
 ];
 
-/// The commands, and then the resets.
+/// Carries out the commands, and then the resets.
 fn follows<D: Store>(rt: &impl Abort, store: &mut D) {
     for (commands, after) in TURNS {
         carries_out(rt, store, commands);
@@ -92,7 +92,7 @@ fn follows<D: Store>(rt: &impl Abort, store: &mut D) {
     }
 }
 
-/// Whether the entry holds the number under a uInt32.
+/// Returns whether the entry holds the number under a uInt32.
 fn holds_uint32(store: &Slots, entry: usize, wanted: u64) -> bool {
     if entry >= store.entries() {
         return false;
@@ -103,13 +103,13 @@ fn holds_uint32(store: &Slots, entry: usize, wanted: u64) -> bool {
     }
 }
 
-/// Keeps a number under an int32.
+/// Stores a number under an int32.
 fn set_int32(rt: &impl Abort, store: &mut Slots, entry: usize, number: i64) {
     assert!(rt; entry < store.entries());
     store.set_number(entry, Entry::Int32(number));
 }
 
-/// The commands, which a copy keeps when all is reset.
+/// Returns whether a copy keeps the effect of the commands when all is reset.
 fn is_kept_by_a_copy(rt: &impl Abort, store: &mut Lists) -> Result<bool, AllocError> {
     carries_out(rt, store, &COMMANDS);
     let copy = store.copy()?;
@@ -128,7 +128,7 @@ fn lists(rt: HostRuntime) -> Result<(), Fail> {
     Ok(())
 }
 
-/// The commands, and then a number at an entry which was empty.
+/// Carries out the commands, and then stores a number at an entry that was empty. Returns whether the entry holds it.
 fn takes_a_number(rt: &impl Abort, store: &mut Slots) -> bool {
     let was_empty = !holds_uint32(store, 0, 7);
     carries_out(rt, store, &COMMANDS);
@@ -147,7 +147,7 @@ fn slots(rt: HostRuntime) -> Result<(), Fail> {
     Ok(())
 }
 
-/// Whether a text may be set at the entry.
+/// Returns whether a string may be set at the entry.
 fn takes_text(store: &Slots, entry: usize) -> bool {
     let command = StoreCommand::Set {
         entry,

@@ -1,4 +1,4 @@
-//! The table of the operators, at each kind.
+//! The table of the operators, for each type.
 
 use super::super::expect;
 use super::rows::{Presence, ROWS, Row, Sample, Start, Then, Way};
@@ -11,7 +11,7 @@ use std::alloc::{AllocError, Global};
 use std::process::Abort;
 use std::test::Fail;
 
-/// The values of one kind that stand for those of the rows.
+/// The values of one type for those of the rows.
 #[derive(Clone, Copy)]
 struct Samples {
     kind: Kind,
@@ -22,13 +22,13 @@ struct Samples {
     sent: Scalar<'static>,
     raised: Scalar<'static>,
     delta: Sent<'static>,
-    /// The delta on the previous value, on the initial value, on 0 or the empty text.
+    /// The delta on the previous value, on the initial value, on 0 or the empty string.
     changed: [Scalar<'static>; 3],
     /// The sent value as a tail, in the same order.
     replaced: [Scalar<'static>; 3],
 }
 
-/// Whether an operator suits a kind.
+/// Returns whether an operator suits a type.
 fn suits(operator: Operator, kind: Kind) -> bool {
     match kind {
         Kind::UInt32 | Kind::Int32 | Kind::UInt64 | Kind::Int64 => operator != Operator::Tail,
@@ -37,7 +37,7 @@ fn suits(operator: Operator, kind: Kind) -> bool {
     }
 }
 
-/// A value of the samples, under an operator.
+/// Returns a value of the samples, under an operator.
 fn sample(samples: &Samples, operator: Operator, which: Sample) -> Scalar<'static> {
     let [on_previous, on_initial, on_nothing] = if operator == Operator::Tail {
         samples.replaced
@@ -55,7 +55,7 @@ fn sample(samples: &Samples, operator: Operator, which: Sample) -> Scalar<'stati
     }
 }
 
-/// What is wanted of a row.
+/// Returns the expected result of a row.
 fn wanted(
     samples: &Samples,
     operator: Operator,
@@ -86,7 +86,7 @@ fn wanted(
     }
 }
 
-/// Whether a row stands at a kind, whatever the entry holds.
+/// Returns whether a row holds for a type, for all contents of the entry.
 fn stands(alloc: Global, samples: &Samples, row: Row) -> Result<bool, AllocError> {
     let (operator, presence, start, way, (undefined, empty, same, other)) = row;
     let initial = match start {
@@ -104,7 +104,7 @@ fn stands(alloc: Global, samples: &Samples, row: Row) -> Result<bool, AllocError
     Ok(all_give(alloc, samples, &field, way, &entries))
 }
 
-/// Whether the field gives what is wanted under each of these previous values.
+/// Returns whether the field gives the expected result under each of these previous values.
 fn all_give(
     alloc: Global,
     samples: &Samples,
@@ -120,7 +120,7 @@ fn all_give(
     true
 }
 
-/// Whether the field gives what is wanted under a previous value.
+/// Returns whether the field gives the expected result under a previous value.
 fn gives(
     alloc: Global,
     samples: &Samples,
@@ -140,7 +140,7 @@ fn gives(
     is_same_answer(given, wanted(samples, field.operator, previous, then))
 }
 
-/// Whether each row that suits the kind stands.
+/// Returns whether each row that suits the type holds.
 fn all_stand(alloc: Global, samples: &Samples) -> Result<bool, AllocError> {
     for row in &ROWS {
         let (operator, ..) = *row;
@@ -151,7 +151,7 @@ fn all_stand(alloc: Global, samples: &Samples) -> Result<bool, AllocError> {
     Ok(true)
 }
 
-/// The samples of a kind of unsigned integers.
+/// Returns the samples of an unsigned type.
 fn unsigned(kind: Kind) -> Samples {
     let changed = [Scalar::U(8), Scalar::U(10), Scalar::U(3)];
     Samples {
@@ -167,7 +167,7 @@ fn unsigned(kind: Kind) -> Samples {
     }
 }
 
-/// The samples of a kind of signed integers.
+/// Returns the samples of a signed type.
 fn signed(kind: Kind) -> Samples {
     let changed = [Scalar::I(-8), Scalar::I(4), Scalar::I(-3)];
     Samples {
@@ -183,12 +183,12 @@ fn signed(kind: Kind) -> Samples {
     }
 }
 
-/// A decimal.
+/// Returns a decimal.
 fn decimal(exponent: i32, mantissa: i64) -> Scalar<'static> {
     Scalar::Dec { exponent, mantissa }
 }
 
-/// The samples of decimals.
+/// Returns the samples of decimals.
 fn decimals() -> Samples {
     let changed = [decimal(1, 12), decimal(3, 4), decimal(2, -3)];
     Samples {
@@ -204,7 +204,7 @@ fn decimals() -> Samples {
     }
 }
 
-/// A text of a kind.
+/// Returns a string of a type.
 fn text(kind: Kind, bytes: &'static [u8]) -> Scalar<'static> {
     match kind {
         Kind::Unicode => Scalar::Unicode(bytes),
@@ -213,7 +213,7 @@ fn text(kind: Kind, bytes: &'static [u8]) -> Scalar<'static> {
     }
 }
 
-/// The samples of a kind of texts.
+/// Returns the samples of a string type.
 fn texts(kind: Kind, other: Kind) -> Samples {
     Samples {
         kind,
@@ -232,7 +232,7 @@ fn texts(kind: Kind, other: Kind) -> Samples {
     }
 }
 
-/// Each row that suits the kind stands.
+/// Checks that each row that suits the type holds.
 fn expect_all(rt: &impl Abort, alloc: Global, samples: &Samples) -> Result<(), Fail> {
     let all_stand = all_stand(alloc, samples)?;
     expect(rt, all_stand, "the kind", samples.kind as usize);

@@ -1,4 +1,4 @@
-//! The most turns of a message, and how deep its segments are nested.
+//! The most events of a message, and the depth to which its segments nest.
 
 use super::super::expect;
 use super::set_of;
@@ -87,7 +87,7 @@ const ROWS: &[Caps] = &[
     ),
 ];
 
-/// Whether the caps by these limits are these.
+/// Returns whether the caps under these limits are these.
 fn has_caps(set: &Templates, caps: &[(u32, u32, u64)]) -> bool {
     for (max_elements, max_total, cap) in caps {
         if set.message_cap(limits(*max_elements, *max_total)) != *cap {
@@ -97,7 +97,7 @@ fn has_caps(set: &Templates, caps: &[(u32, u32, u64)]) -> bool {
     true
 }
 
-/// The set of a text has this depth, and these caps.
+/// Checks that the set of a file has this depth and these caps.
 fn expect_caps(rt: &impl Abort, alloc: Global, row: &Caps) -> Result<(), Fail> {
     let (text, depth, caps) = row;
     let set = set_of(alloc, text)?;

@@ -1,4 +1,4 @@
-//! References: circles, chains that are too long or too deep, and too many nodes.
+//! References: cycles, chains that are too long or too deep, and too many nodes.
 
 use super::{Due, expect_fault, joined, put};
 use fast_template::StaticCode;
@@ -12,7 +12,7 @@ fn push_letter(text: &mut String, letter: char) -> Result<(), AllocError> {
     text.push(letter)
 }
 
-/// Adds what a letter of a word stands for.
+/// Adds the template item that a letter of a name list stands for.
 fn put_letter(text: &mut String, k: usize, letter: char) -> Result<(), AllocError> {
     let (before, after) = match k {
         0 => (
@@ -26,7 +26,7 @@ fn put_letter(text: &mut String, k: usize, letter: char) -> Result<(), AllocErro
     put(text, &[after])
 }
 
-/// Adds the template of a word.
+/// Adds the template of a name list.
 fn put_word(text: &mut String, word: &str) -> Result<(), AllocError> {
     for (k, letter) in word.chars().enumerate() {
         put_letter(text, k, letter)?;
@@ -34,7 +34,7 @@ fn put_word(text: &mut String, word: &str) -> Result<(), AllocError> {
     put(text, &["]\n"])
 }
 
-/// A template for each word: its first letter is the name, the others are the names that it refers to.
+/// Returns a file with a template for each name list: its first letter is the name, the others are the names to which it refers.
 fn references(alloc: Global, words: &[&str]) -> Result<String, AllocError> {
     let mut text = String::new(alloc);
     for word in words {
@@ -54,7 +54,7 @@ fn put_reference(
     put(text, &[open, piece, letter, number, "'}", close, ", "])
 }
 
-/// Adds so many references.
+/// Adds this number of references.
 fn put_references(
     text: &mut String,
     letter: &str,
@@ -88,8 +88,8 @@ fn put_link(
     put(text, &["]\n"])
 }
 
-/// Templates of one letter and a number, of which the first has a field and each other refers so many times to the
-/// one before, all of them within these brackets.
+/// Returns a file of templates, each named by a letter and a number, of which the first has a field and each other refers this many times
+/// to the one before, all of them within these brackets.
 fn chain(
     alloc: Global,
     letter: &str,
@@ -110,7 +110,7 @@ const GROUPS: (&str, &str) = ("{kind='group', name='g', fields=[", "]}");
 
 const SEQUENCES: (&str, &str) = ("{kind='sequence', name='s', fields=[", "]}");
 
-/// Words, and the first template of a circle.
+/// Name lists, and the first template of a cycle.
 const CYCLES: &[(&[&str], Option<u32>)] = &[
     (&["AA"], Some(0)),
     (&["A", "BA", "CBC"], Some(2)),
@@ -123,7 +123,7 @@ const CYCLES: &[(&[&str], Option<u32>)] = &[
     (&["ABBC", "BC", "C"], None),
 ];
 
-/// The templates of these words refer to one another in a circle, or in none.
+/// Checks that the templates of these name lists refer to one another in a cycle, or in none.
 fn expect_cycle(
     rt: &impl Abort,
     alloc: Global,
@@ -139,12 +139,12 @@ fn expect_cycle(
     Ok(())
 }
 
-/// A reference to itself, within two of these brackets.
+/// The start of a template that refers to itself, for use within two pairs of brackets.
 const BEFORE: &str = "[[template]]\nname='A'\nfields=[";
 
 const ITSELF: &str = "{kind='ref', name='A'}";
 
-/// A template that refers to itself within these brackets twice is a circle.
+/// Checks that a template that refers to itself within these brackets twice is a cycle.
 fn expect_cycle_within(
     rt: &impl Abort,
     alloc: Global,
@@ -165,7 +165,7 @@ fn cycles_of_references(rt: HostRuntime) -> Result<(), Fail> {
     expect_cycle_within(&rt, rt.alloc(), SEQUENCES)
 }
 
-/// A chain of so many templates, behind a template in front, has this.
+/// Checks that a chain of this number of templates, after a template in front, has this fault.
 fn expect_chain(
     rt: &impl Abort,
     alloc: Global,
@@ -191,10 +191,10 @@ const TOO_DEEP: (u32, Due) = (65, Some((StaticCode::C4, Some(65))));
 /// A chain of 17 references.
 const LONG: (u32, Due) = (18, None);
 
-/// Groups in one another, 17 of them.
+/// Groups within one another, 17 of them.
 const DEEP: (u32, Due) = (17, None);
 
-/// What stands in front, the letter, the brackets, the count, and what is due.
+/// The templates in front, the letter, the brackets, the count, and the expected fault.
 type Chain = (
     (&'static [&'static str], &'static str),
     (&'static str, &'static str),
@@ -220,7 +220,7 @@ fn the_longest_and_the_deepest_chain(rt: HostRuntime) -> Result<(), Fail> {
     Ok(())
 }
 
-/// The letter of a chain of templates that refer twice to the one before, how many there are, words behind it, and what they have.
+/// The number of templates in a chain of which each refers twice to the one before, the name lists after it, and the expected fault.
 type Doubled = (u32, &'static [&'static str], Due);
 
 /// The third is of 65,535 nodes and two more, and the fourth of two more than that.
@@ -230,7 +230,7 @@ const DOUBLED: &[Doubled] = &[
     (16, &["Y", "Z"], Some((StaticCode::C6, Some(17)))),
 ];
 
-/// A chain of templates that refer twice to the one before, with words behind it, has this.
+/// Checks that a chain of templates of which each refers twice to the one before, followed by name lists, has this fault.
 fn expect_doubled(rt: &impl Abort, alloc: Global, row: &Doubled) -> Result<(), Fail> {
     let (count, words, want) = row;
     let many = chain(alloc, "A", *count, 2, PLAIN)?;
@@ -248,10 +248,10 @@ fn the_most_nodes(rt: HostRuntime) -> Result<(), Fail> {
     Ok(())
 }
 
-/// A text with one of the three faults.
+/// A file with one of the three faults.
 #[derive(Clone, Copy)]
 enum Part {
-    /// A circle.
+    /// A cycle.
     Cycle,
     /// A chain that is too long.
     Long,
@@ -259,7 +259,7 @@ enum Part {
     Many,
 }
 
-/// The text of a part.
+/// Returns the file of a part.
 fn text_of(alloc: Global, part: Part) -> Result<String, AllocError> {
     match part {
         Part::Cycle => references(alloc, &["CC"]),
@@ -268,7 +268,7 @@ fn text_of(alloc: Global, part: Part) -> Result<String, AllocError> {
     }
 }
 
-/// A part, another behind it, and what both together have.
+/// A part, another after it, and the fault of both together.
 type Both = (Part, Part, StaticCode, u32);
 
 const BOTH: &[Both] = &[
@@ -278,7 +278,7 @@ const BOTH: &[Both] = &[
     (Part::Long, Part::Many, StaticCode::C4, 65),
 ];
 
-/// The first part with the second behind it has this.
+/// Checks that the first part followed by the second has this fault.
 fn expect_both(rt: &impl Abort, alloc: Global, row: &Both) -> Result<(), Fail> {
     let (first, second, code, template) = row;
     let first = text_of(alloc, *first)?;

@@ -1,4 +1,4 @@
-//! Sets that are read: their numbers, entries and limits.
+//! Sets that were read: their numbers, entries and limits.
 
 use super::super::expect;
 use super::{Faults, expect_faults, finds, joined, put, set_of};
@@ -9,7 +9,7 @@ use std::alloc::{AllocError, Global};
 use std::process::Abort;
 use std::test::Fail;
 
-/// Adds what each value of a node has: `?` if it may be absent, and its entry.
+/// Adds a note of each value of a node: `?` if it is optional, and its entry.
 fn spell_shape(text: &mut String, shape: &Shape) -> Result<(), AllocError> {
     match shape {
         Shape::Field(field) => spell(text, field),
@@ -29,14 +29,14 @@ fn spell_shape(text: &mut String, shape: &Shape) -> Result<(), AllocError> {
     }
 }
 
-/// Adds a node: the name, and then what each value has.
+/// Adds a node: the name, and then the notes of its values.
 fn spell_node(text: &mut String, node: &Node) -> Result<(), AllocError> {
     put(text, &[node.name.as_str()])?;
     spell_shape(text, &node.shape)?;
     put(text, &["; "])
 }
 
-/// The set of a text, node by node.
+/// Writes the set of a file, node by node.
 fn spelled(alloc: Global, set: &Templates) -> Result<String, AllocError> {
     let mut text = String::new(alloc);
     for n in 0..set.nodes() {
@@ -63,7 +63,7 @@ fn spell_numbers(text: &mut String, body: &[u32]) -> Result<(), AllocError> {
     put(text, &[" }"])
 }
 
-/// Whether the template has these nodes, and resets or not.
+/// Returns whether the template has these nodes, and resets or not.
 fn is_template(set: &Templates, i: u32, body: &[u32], reset: bool) -> bool {
     if i < set.count() {
         let template = set.template(i);
@@ -73,7 +73,7 @@ fn is_template(set: &Templates, i: u32, body: &[u32], reset: bool) -> bool {
     }
 }
 
-/// Whether the node is a constant 7.
+/// Returns whether the node is a constant 7.
 fn is_seven(set: &Templates, n: u32) -> bool {
     n < set.nodes()
         && matches!(
@@ -89,19 +89,19 @@ fn is_seven(set: &Templates, n: u32) -> bool {
 const VECTORS_SPELLED: &str =
     "x -; s - { 2 }; c -; t 1; d 2; n 3; x ?4; p ?5 6; y 7; u -; z 8; w 4; i -; o ?-; q ?-; x -; g ?{ 17 }; b -; legs ?- { 19 20 }; sym 9; px 10; v ?11; e 12; a -; b ?-; r ?-; ";
 
-/// Whether the worked set finds its templates, and has so many templates, nodes and entries.
+/// Returns whether the worked set finds its templates, and has the expected numbers of templates, nodes and entries.
 fn has_numbers(set: &Templates) -> bool {
     let ids = [(15, Some(14)), (0, None)];
     let names = [("T19", Some(18)), ("T", None)];
     finds(set, 19, &ids, &names) && set.nodes() == 26 && set.entries() == 13
 }
 
-/// Whether the worked set has some of its parts.
+/// Returns whether the worked set has the expected parts.
 fn has_parts(set: &Templates) -> bool {
     is_template(set, 14, &[15, 16, 18], false) && is_template(set, 8, &[], true) && is_seven(set, 2)
 }
 
-/// The set is spelled so.
+/// Checks that the set is written so.
 fn expect_set(
     rt: &impl Abort,
     alloc: Global,
@@ -113,7 +113,7 @@ fn expect_set(
     Ok(())
 }
 
-/// The set of a text is spelled so.
+/// Checks that the set of a file is written so.
 fn expect_spelled(rt: &impl Abort, alloc: Global, text: &str, want: &str) -> Result<(), Fail> {
     let set = set_of(alloc, text)?;
     expect_set(rt, alloc, &set, want)?;
@@ -128,7 +128,7 @@ fn the_worked_set_has_its_numbers(rt: HostRuntime) -> Result<(), Fail> {
     expect_spelled(&rt, rt.alloc(), VECTORS, VECTORS_SPELLED)
 }
 
-/// The rest of a template, and what it is, spelled.
+/// The rest of a template, and the set, as it is written.
 const ENTRIES: &[(&str, &str)] = &[
     // an exponent before a mantissa, a length before its element, and none for a constant or a default
     (
@@ -150,14 +150,14 @@ const ENTRIES: &[(&str, &str)] = &[
         "dictionary = 'd'\nfields = [{kind='uInt32', name='x', op='copy'}, {kind='uInt32', name='x', op='copy', dictionary='template'}, {kind='uInt32', name='x', op='copy', dictionary='global'}, {kind='uInt32', name='x', op='copy', dictionary='d'}]\n[[template]]\nname = 'B'\nfields = [{kind='uInt32', name='x', op='copy', dictionary='template'}, {kind='uInt32', name='x', op='copy'}, {kind='uInt32', name='x', op='copy', dictionary='d'}]",
         "x 1; x 2; x 3; x 1; x 4; x 3; x 1; ",
     ),
-    // the operators of a reference stand in the text to which it leads, and are numbered there
+    // the operators of a reference belong to the template that it names, and are numbered there
     (
         "dictionary = 'template'\nfields = [{kind='ref', name='B'}, {kind='uInt32', name='x', op='copy'}, {kind='group', name='g', fields=[{kind='ref', name='B'}, {kind='ref', name='B'}]}]\n[[template]]\nname = 'B'\nfields = [{kind='uInt32', name='y', op='copy', dictionary='template'}, {kind='uInt32', name='x', op='copy'}]",
         "y 2; x 3; x 1; g { 4 5 6 7 }; y 2; x 3; y 2; x 3; y 2; x 3; ",
     ),
 ];
 
-/// A template with this rest is spelled so.
+/// Checks that a template with this rest is written so.
 fn expect_rest(rt: &impl Abort, alloc: Global, rest: &str, want: &str) -> Result<(), Fail> {
     let text = joined(alloc, &["[[template]]\nname = 'A'\n", rest])?;
     expect_spelled(rt, alloc, text.as_str(), want)
@@ -171,7 +171,7 @@ fn entries_are_those_of_the_text(rt: HostRuntime) -> Result<(), Fail> {
     Ok(())
 }
 
-/// A template with so many mandatory fields that copy.
+/// Returns a template with this number of mandatory fields under copy.
 fn copying(alloc: Global, count: usize) -> Result<String, AllocError> {
     let mut text = joined(alloc, &["[[template]]\nname = 'A'\nfields = ["])?;
     let mut number = Buffer::new();
@@ -189,7 +189,7 @@ fn copying(alloc: Global, count: usize) -> Result<String, AllocError> {
     Ok(text)
 }
 
-/// Behind as many bits as there may be.
+/// The faults of files after as many bits as there may be.
 const ENOUGH_BITS: Faults = &[(
     None,
     &[
@@ -198,7 +198,7 @@ const ENOUGH_BITS: Faults = &[(
     ],
 )];
 
-/// Behind one bit too many: earlier passes come first.
+/// The faults of files after one bit too many: earlier passes come first.
 #[rattlefmt::skip]
 const TOO_MANY_BITS: Faults = &[
     (Some((StaticCode::C5, Some(0))), &[""]),
@@ -216,7 +216,7 @@ const TOO_MANY_BITS: Faults = &[
     ),
 ];
 
-/// Texts behind a template with so many fields have what is due.
+/// Checks that files after a template with this number of fields have the expected faults.
 fn expect_behind(
     rt: &impl Abort,
     alloc: Global,
@@ -227,7 +227,7 @@ fn expect_behind(
     expect_faults(rt, alloc, (text.as_str(), ""), faults)
 }
 
-/// As many as there are bits in 32 bytes of a map, beside the identifier's.
+/// The number of bits in 32 bytes of a map, without the identifier's.
 const COPIES: usize = 224;
 
 #[test]
@@ -243,7 +243,7 @@ fn a_message_has_1022_bits(rt: HostRuntime) -> Result<(), Fail> {
     Ok(())
 }
 
-/// A number and a text, each with an entry.
+/// A number and a string, each with an entry.
 const NUMBER_AND_TEXT: &str = r#"
 [[template]]
 name = "A"

@@ -1,4 +1,4 @@
-//! The forms of a template set as a text, and the faults of each pass.
+//! The forms of a template file, and the faults of each pass.
 
 use super::{Faults, expect_faults, finds, set_of};
 use StaticCode::{C1, C2, D8, S1, S2, S3, S4, S5};
@@ -24,7 +24,7 @@ fn all_forms_are_read(rt: HostRuntime) -> Result<(), Fail> {
     Ok(())
 }
 
-/// Texts that write no set.
+/// Files that are no set.
 const WHOLE: Faults = &[(
     Some((S1, None)),
     &[
@@ -38,7 +38,7 @@ const WHOLE: Faults = &[(
     ],
 )];
 
-/// Fields of the second template that write none.
+/// Fields of the second template that are no instructions.
 const SECOND_FIELDS: Faults = &[(
     Some((S1, Some(1))),
     &[
@@ -61,7 +61,7 @@ const SECOND_FIELDS: Faults = &[(
     ],
 )];
 
-/// Keys of a template that write none.
+/// Keys that no template has, or with values that it cannot have.
 const KEYS: Faults = &[(
     Some((S1, Some(0))),
     &[
@@ -122,9 +122,8 @@ const FIELDS: Faults = &[
     (None, &["{kind='uInt32', name='x', op='default', optional=true}"]),
 ];
 
-/// Fields of the first template that have two codes: the first in the order of the instructions is told. Within one instruction an
-/// operator comes before an initial value; an exponent before a mantissa, and a length before its sequence's fields, whatever the
-/// order of keys.
+/// Fields of the first template that have two codes: the first in the order of the instructions is reported. Within one instruction an
+/// operator comes before an initial value; an exponent before a mantissa, and a length before its sequence's fields, for any order of keys.
 const TWO_CODES: Faults = &[
     (
         Some((S2, Some(0))),
@@ -170,7 +169,7 @@ const TWO_CODES: Faults = &[
     ),
 ];
 
-/// Behind a template with faults of three passes: earlier passes come first.
+/// The faults of files after a template with faults of three passes: earlier passes come first.
 #[rattlefmt::skip]
 const REST: Faults = &[
     (Some((C1, Some(1))), &["[[template]]\nname='A'\nid=1"]),
@@ -191,14 +190,14 @@ const BEHIND: (&str, &str) = (
     "",
 );
 
-/// What texts and templates have. A table of all that stands around texts, and of what they have, would be dear to prove.
+/// Checks the faults of files and templates. A table of all that surrounds a file, and of its faults, would be slow to prove.
 fn expect_templates(rt: &impl Abort, alloc: Global) -> Result<(), AllocError> {
     expect_faults(rt, alloc, ("", ""), WHOLE)?;
     expect_faults(rt, alloc, SECOND, SECOND_FIELDS)?;
     expect_faults(rt, alloc, ("[[template]]\nname='A'\n", ""), KEYS)
 }
 
-/// What fields and later templates have.
+/// Checks the faults of fields and later templates.
 fn expect_fields(rt: &impl Abort, alloc: Global) -> Result<(), AllocError> {
     expect_faults(rt, alloc, FIRST, FIELDS)?;
     expect_faults(rt, alloc, FIRST, TWO_CODES)?;

@@ -1,4 +1,4 @@
-//! The presence bits of segments, and which instructions may be absent.
+//! The presence bits of segments, and which instructions are optional.
 
 use super::super::expect;
 use super::set_of;
@@ -22,7 +22,7 @@ name = 'B'
 /// The bits of each template's messages, with the identifier's.
 const MESSAGES: &[usize] = &[5, 1];
 
-/// The bits of the segment in each node, and whether the node may be absent.
+/// The bits of the segment in each node, and whether the node is optional.
 const NODES: &[(usize, bool)] = &[
     (0, false),
     (0, true),
@@ -49,7 +49,7 @@ fn what_nodes_have(alloc: Global, set: &Templates) -> Result<Vec<(usize, bool)>,
     Ok(nodes)
 }
 
-/// Whether messages and nodes have what is due.
+/// Returns whether messages and nodes have the expected bits.
 fn has_widths(alloc: Global, set: &Templates) -> Result<bool, AllocError> {
     let messages = bits_of_messages(alloc, set)?;
     let nodes = what_nodes_have(alloc, set)?;

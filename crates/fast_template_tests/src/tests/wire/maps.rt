@@ -9,7 +9,7 @@ use std::alloc::{AllocError, Global};
 use std::process::Abort;
 use std::test::Fail;
 
-/// The first stop bit of the bytes is in this one.
+/// Checks that the first stop bit of the bytes is in this one.
 fn expect_stop(rt: &impl Abort, bytes: &[u8], want: Option<usize>) {
     expect(rt, find_stop(bytes) == want, "in", bytes);
 }
@@ -41,7 +41,7 @@ fn maps_byte_by_byte(rt: HostRuntime) {
     expect(&rt, is_kept, "kept", &cells);
 }
 
-/// Whether a map is longer than it need be; nothing where the bytes are no map.
+/// Returns whether a map is longer than it has to be; nothing if the bytes are no map.
 fn overlong(bytes: &[u8]) -> Option<bool> {
     match entity(bytes) {
         Some(map) => Some(map_overlong(map.as_slice())),
@@ -72,7 +72,7 @@ fn maps(rt: HostRuntime) {
     expect_each(&rt, &are_right, map);
 }
 
-/// An entity and a map in the making as `Debug` writes them.
+/// Returns an entity and a map builder as `Debug` writes them.
 fn debug_of(alloc: Global, entity: &Entity, builder: &MapBuilder) -> Result<String, AllocError> {
     format!(in alloc; "{entity:?}, {builder:?}")
 }

@@ -8,7 +8,7 @@ use fast_wire::{
     Entity, write_nullable_signed, write_nullable_unsigned, write_signed, write_unsigned,
 };
 
-/// An integer, and which function writes it.
+/// An integer, and the function that writes it.
 #[derive(Clone, Copy)]
 enum Number {
     Unsigned(u64),
@@ -17,14 +17,14 @@ enum Number {
     NullableSigned(Option<i64>),
 }
 
-/// The integer with more bits.
+/// Returns the integer in 128 bits.
 fn nullable(number: Option<i64>) -> Option<i128>
     ensures { IfSome result (λ n. unsigned_abs n ≤ 2 ^ 63) }
 {
     Some(i128::from(number?))
 }
 
-/// What is written of it.
+/// Returns the entity that is written for it.
 fn written(number: Number) -> Entity {
     match number {
         Unsigned(number) => write_unsigned(number),
