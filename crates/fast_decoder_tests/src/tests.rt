@@ -1,12 +1,12 @@
-//! Streams with the events and the fault that come of them, however they are cut.
+//! Streams with their events and their fault, however they are split into pieces.
 //!
-//! A table is a text, which costs the prover nothing, and each of its lines is a row:
+//! A table is a string, which costs the prover nothing, and each of its lines is a row:
 //!
 //!     what it shows | the limits | the bytes | the events | the end
 //!
-//! The limits are `lenient` or `strict`, and behind it each limit that is not the usual one, as `text=16`, `elements=2`
-//! or `total=2`. A byte is two digits, and `00*146` stands for 146 bytes. The events are as `Script` writes them. The
-//! end is `between` two messages, `inside` a message, or a fault with its place, as `D9@2`.
+//! The limits are `lenient` or `strict`, followed by each limit that is not the usual one, as `text=16`, `elements=2` or `total=2`. A byte
+//! is two digits, and `00*146` stands for 146 bytes. The events are as `Script` writes them. The end is `between` two messages, `inside` a
+//! message, or a fault with its offset, as `D9@2`.
 
 mod cuts;
 mod encoder;
@@ -47,7 +47,7 @@ const STRICT: Limits = Limits {
     ..LENIENT
 };
 
-/// What a decoder says after it was fed.
+/// The account of a decoder after it was fed.
 #[derive(Clone, Copy, PartialEq)]
 struct Account {
     answer: Result<(), Fault>,
@@ -65,7 +65,7 @@ fn account_of(decoder: &Decoder<'_>, answer: Result<(), Fault>) -> Account {
     }
 }
 
-/// What a decoder says that has stopped with this fault, behind the bytes of its place.
+/// Returns the account of a decoder that has stopped with this fault, after the bytes up to its offset.
 fn stopped_at(fault: Fault) -> Account {
     Account {
         answer: Err(fault),
@@ -100,7 +100,7 @@ fn decoder_of(alloc: Global, set: &Templates, limits: Limits) -> Result<Decoder<
     Decoder::new(alloc, set, limits)
 }
 
-/// Puts pieces behind a text.
+/// Appends strings.
 fn put(text: &mut String, pieces: &[&str]) -> Result<(), AllocError> {
     for piece in pieces {
         text.push_str(piece)?;
@@ -108,12 +108,12 @@ fn put(text: &mut String, pieces: &[&str]) -> Result<(), AllocError> {
     Ok(())
 }
 
-/// One comparison, of what a test names so.
+/// Makes one comparison, under the name that a test gives it.
 fn expect(rt: &impl Abort, is_right: bool, of: &str, at: usize) {
     assert!(rt; is_right, "{of} ({at})");
 }
 
-/// Feeds the bytes in pieces of this size, as far as there is no fault.
+/// Feeds the bytes in pieces of this size, up to a fault.
 fn feed_pieces(
     decoder: &mut Decoder<'_>,
     bytes: &[u8],
@@ -131,7 +131,7 @@ fn feed_pieces(
     account_of(decoder, answer)
 }
 
-/// Pushes the bytes, as far as there is no fault.
+/// Pushes the bytes, up to a fault.
 fn push_all(decoder: &mut Decoder<'_>, bytes: &[u8], sink: &mut Script<'_>) -> Account {
     let mut answer = Ok(());
     for byte in bytes {
@@ -142,7 +142,7 @@ fn push_all(decoder: &mut Decoder<'_>, bytes: &[u8], sink: &mut Script<'_>) -> A
     account_of(decoder, answer)
 }
 
-/// Feeds the pieces one after the other, as far as there is no fault.
+/// Feeds the pieces one after the other, up to a fault.
 fn feed_each(decoder: &mut Decoder<'_>, pieces: &[&[u8]], sink: &mut Script<'_>) -> Account {
     let mut answer = Ok(());
     for piece in pieces {
@@ -153,7 +153,7 @@ fn feed_each(decoder: &mut Decoder<'_>, pieces: &[&[u8]], sink: &mut Script<'_>)
     account_of(decoder, answer)
 }
 
-/// Whether the row comes of its bytes in pieces of this size, and what is fed behind a fault changes nothing.
+/// Returns whether the row is decoded from its bytes in pieces of this size, and bytes that are fed after a fault change nothing.
 fn is_played_in_pieces(decoder: &mut Decoder<'_>, row: &Row<'_>, size: usize) -> bool
     requires { 0 < size }
 {
@@ -168,14 +168,14 @@ fn is_played_in_pieces(decoder: &mut Decoder<'_>, row: &Row<'_>, size: usize) ->
     is_played && account_of(decoder, again) == heard && script.is_played()
 }
 
-/// Whether the row comes of its bytes one after the other.
+/// Returns whether the row is decoded from its bytes one after the other.
 fn is_played_by_bytes(decoder: &mut Decoder<'_>, row: &Row<'_>) -> bool {
     let mut script = Script::of(row.events);
     reset(decoder);
     row.is_end(push_all(decoder, row.bytes, &mut script)) && script.is_played()
 }
 
-/// Whether the row comes of its bytes in two pieces.
+/// Returns whether the row is decoded from its bytes in two pieces.
 fn is_played_cut(decoder: &mut Decoder<'_>, row: &Row<'_>, cut: usize) -> bool {
     let (front, rest) = row.bytes.split_at_checked(cut).unwrap_or((row.bytes, &[]));
     let mut script = Script::of(row.events);
@@ -183,7 +183,7 @@ fn is_played_cut(decoder: &mut Decoder<'_>, row: &Row<'_>, cut: usize) -> bool {
     row.is_end(feed_each(decoder, &[front, rest], &mut script)) && script.is_played()
 }
 
-/// A row that is fed to a decoder, reset before each time: whole, in pieces, and byte after byte. No memory is taken.
+/// Checks a row that is fed to a decoder, reset before each time: as one piece, in pieces, and byte after byte. Nothing allocates.
 fn expect_row(rt: &impl Abort, decoder: &mut Decoder<'_>, row: &Row<'_>) {
     for size in [1, 2, 3, 16, 17, 4096] {
         let is_played = is_played_in_pieces(decoder, row, size);
@@ -193,7 +193,7 @@ fn expect_row(rt: &impl Abort, decoder: &mut Decoder<'_>, row: &Row<'_>) {
     expect(rt, is_played, row.name, 0);
 }
 
-/// A row that is cut once, at each of its bytes.
+/// Checks a row that is split once, at each of its bytes.
 fn expect_row_cut(rt: &impl Abort, decoder: &mut Decoder<'_>, row: &Row<'_>) {
     for cut in 0..row.bytes.len() {
         let is_played = is_played_cut(decoder, row, cut);
@@ -201,7 +201,7 @@ fn expect_row_cut(rt: &impl Abort, decoder: &mut Decoder<'_>, row: &Row<'_>) {
     }
 }
 
-/// The row on a line comes of a decoder, whole, in pieces, and byte after byte.
+/// Checks the row on a line: as one piece, in pieces, and byte after byte.
 fn expect_line(
     rt: &impl Abort,
     alloc: Global,
@@ -215,13 +215,13 @@ fn expect_line(
     Ok(())
 }
 
-/// The row comes of a decoder, however it is cut.
+/// Checks a row, however it is split.
 fn expect_row_anyhow(rt: &impl Abort, decoder: &mut Decoder<'_>, row: &Row<'_>) {
     expect_row(rt, decoder, row);
     expect_row_cut(rt, decoder, row);
 }
 
-/// The row on a line comes of the template set, however it is cut.
+/// Checks the row on a line under the template set, however it is split.
 fn expect_line_cut(
     rt: &impl Abort,
     alloc: Global,
@@ -234,7 +234,7 @@ fn expect_line_cut(
     expect_of(rt, alloc, set, row.limits, Case::Comes(&row))
 }
 
-/// Each row of a table comes of the template set.
+/// Checks each row of a table under the template set.
 fn expect_table(rt: &impl Abort, alloc: Global, set: &Templates, table: &str) -> Result<(), Fail> {
     for line in table.lines() {
         expect_line_cut(rt, alloc, set, line)?;
@@ -242,7 +242,7 @@ fn expect_table(rt: &impl Abort, alloc: Global, set: &Templates, table: &str) ->
     Ok(())
 }
 
-/// Each row of the tables comes of the template set with this text.
+/// Checks each row of the tables under the template set of this file.
 fn expect_rows(rt: &impl Abort, alloc: Global, text: &str, tables: &[&str]) -> Result<(), Fail> {
     let set = set_of(alloc, text)?;
     for table in tables {
@@ -251,38 +251,38 @@ fn expect_rows(rt: &impl Abort, alloc: Global, text: &str, tables: &[&str]) -> R
     Ok(())
 }
 
-/// What is shown by a new decoder.
+/// The case that a new decoder has to show.
 #[derive(Clone, Copy)]
 enum Case<'t> {
-    /// A row comes, however it is cut.
+    /// A row is decoded, however it is split.
     Comes(&'t Row<'t>),
-    /// The steps of this name are read back that are not refused.
+    /// The steps of this name that are not refused are read back.
     ReadsBack(&'t str, &'t str),
-    /// A row of messages, encoded under the set, comes back.
+    /// A row of messages, encoded under the set, is read back.
     ComesBack(&'t Templates, &'t str),
-    /// A list of messages of the set ends at the first that does not come back.
+    /// A list of messages of the set ends at the first that is not read back.
     EndsInList(&'t Templates),
     /// A recorder keeps the events of these bytes.
     Keeps(&'t [u8], &'t str),
     /// Any two bytes end in events or a fault.
     Ends,
-    /// Pieces are fed as one.
+    /// Pieces are read as one.
     AsOne,
-    /// Pieces are fed up to a fault.
+    /// Pieces are read up to a fault.
     UpToFault,
     /// A sink stops the decoder.
     StopsBySink,
     /// A fault stays until a reset.
     StaysStopped,
-    /// A reset forgets.
+    /// A reset discards all that was read.
     Forgets,
-    /// Events come as soon as they are decided.
+    /// Events are emitted as soon as they are decided.
     InTime,
     /// Records have little room.
     GivesRecords,
 }
 
-/// The decoder shows it.
+/// Checks that the decoder shows the case.
 fn expect_shown(
     rt: &impl Abort,
     alloc: Global,
@@ -311,7 +311,7 @@ fn expect_shown(
     Ok(())
 }
 
-/// A new decoder shows it. A function that makes a decoder is dear to prove, so that there is one for all.
+/// Checks that a new decoder shows the case. A function that makes a decoder is slow to prove, so there is one for all.
 fn expect_of(
     rt: &impl Abort,
     alloc: Global,
@@ -323,7 +323,7 @@ fn expect_of(
     expect_shown(rt, alloc, &mut decoder, case)
 }
 
-/// A new decoder of the set with this text shows it.
+/// Checks that a new decoder of the set of this file shows the case.
 fn expect_case(
     rt: &impl Abort,
     alloc: Global,

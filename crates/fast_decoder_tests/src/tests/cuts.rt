@@ -1,4 +1,4 @@
-//! Texts that go on behind the bytes of a piece, which are told so: a decoder hands over the same where they are not.
+//! Strings that go on after the bytes of a piece, and are known to do so: a decoder emits the same events if they are not.
 
 use super::expect;
 use fast_items::begun_texts::{begun_vector, is_text_front};
@@ -6,10 +6,10 @@ use fast_template::Operator;
 use fast_units::stages::Stage;
 use fast_value::Kind;
 
-/// The most bytes that a text may have here.
+/// The most bytes that a string may have here.
 const ROOM: usize = 16;
 
-/// How many bytes a vector has that goes on behind these, and where they begin.
+/// Returns the number of bytes of a vector that goes on after these, and the offset at which they begin.
 fn begun(rest: &[u8], optional: bool) -> Option<(usize, usize)> {
     let begun = begun_vector(Kind::Bytes, optional, Operator::None, rest, false, ROOM)?;
     match begun.stage {
@@ -18,7 +18,7 @@ fn begun(rest: &[u8], optional: bool) -> Option<(usize, usize)> {
     }
 }
 
-/// Whether these bytes begin an ASCII text that goes on behind them.
+/// Returns whether these bytes begin an ASCII string that goes on after them.
 fn goes_on(rest: &[u8]) -> bool {
     is_text_front(rest, ROOM)
 }

@@ -1,16 +1,15 @@
-//! Messages, with the bytes or the fault that come of them, and what decoders make of the bytes.
+//! Messages, with their bytes or their fault, and the events that decoders read from the bytes.
 //!
-//! A row is a text, which costs the prover nothing. Its first line is what it shows and the limits, as `what | lenient`
-//! with each limit behind it that is not the usual one: `text=16`, `elements=2` or `total=2`. Each further line is what a
-//! new encoder is asked next:
+//! A row is a string, which costs the prover nothing. Its first line says what it shows and the limits, as `what | lenient` followed by
+//! each limit that is not the usual one: `text=16`, `elements=2` or `total=2`. Each further line is a step of a new encoder:
 //!
 //!     m0 u0=942755 /m > C0 81 39 45 A3
 //!     m0 - /m > E2
 //!     reset
 //!
-//! A message is written by the events that come of it, as `Script` writes them. `-` is an absent one, and gives none;
-//! `-*299` are 299 of them, and `1000*u2=7` are 1000 elements, each with this field. A text is in quotes, or is digits
-//! behind an `x` where it is not UTF-8. What comes of a message is its bytes, `00*146` for 146 of them, or a fault.
+//! A message is written by its events, as `Script` writes them. `-` is an absent one, and gives none; `-*299` are 299 of them, and
+//! `1000*u2=7` are 1000 elements, each with this field. A string is in quotes, or is digits after an `x` if it is not UTF-8. The result of
+//! a message is its bytes, `00*146` for 146 of them, or a fault.
 
 mod back;
 mod growths;
@@ -34,7 +33,7 @@ use std::alloc::{AllocError, Global};
 use std::process::Abort;
 use std::test::Fail;
 
-/// What stands before the bytes of a message, and has to stay there.
+/// The bytes before those of a message, which have to stay there.
 const BEFORE: &[u8] = &[0x5A, 0xA5];
 
 /// Encodes a message. Without a contract, so that a call is cheap to prove, as those of the next functions.
@@ -54,12 +53,12 @@ fn encoder_of(alloc: Global, set: &Templates, limits: Limits) -> Result<Encoder<
     Encoder::new(alloc, set, limits)
 }
 
-/// One comparison, of what a test names so.
+/// Makes one comparison, under the name that a test gives it.
 fn expect(rt: &impl Abort, is_right: bool, of: &str, line: &str) {
     assert!(rt; is_right, "{of}: {line}");
 }
 
-/// Whether what is due of a message comes of the encoder, behind the bytes that stand before.
+/// Returns whether the encoder gives the expected result for a message, after the bytes that are there before.
 fn is_encoded(
     encoder: &mut Encoder<'_>,
     message: &Message,
@@ -74,7 +73,7 @@ fn is_encoded(
     })
 }
 
-/// Whether a message comes of the encoder, over new bytes.
+/// Returns whether the encoder gives the expected result for a message, in a new buffer.
 fn is_made(
     alloc: Global,
     encoder: &mut Encoder<'_>,
@@ -85,7 +84,7 @@ fn is_made(
     is_encoded(encoder, message, &mut out, due)
 }
 
-/// Whether the message of these words comes of the encoder.
+/// Returns whether the encoder gives the expected result for the message of this line.
 fn is_message(
     alloc: Global,
     encoder: &mut Encoder<'_>,
@@ -98,7 +97,7 @@ fn is_message(
     }
 }
 
-/// Whether a step comes of the encoder.
+/// Returns whether the encoder gives the expected result for a step.
 fn is_taken(alloc: Global, encoder: &mut Encoder<'_>, step: &Step<'_>) -> Result<bool, AllocError> {
     if step.is_reset() {
         reset(encoder);
@@ -107,7 +106,7 @@ fn is_taken(alloc: Global, encoder: &mut Encoder<'_>, step: &Step<'_>) -> Result
     is_message(alloc, encoder, step.words, step.due)
 }
 
-/// The steps come of the encoder, with or without the messages that are refused.
+/// Checks the steps with an encoder, with or without the messages that are refused.
 fn expect_taken(
     rt: &impl Abort,
     alloc: Global,
@@ -125,7 +124,7 @@ fn expect_taken(
     Ok(())
 }
 
-/// The steps come of a new encoder.
+/// Checks the steps with a new encoder.
 fn expect_encoded(
     rt: &impl Abort,
     alloc: Global,
@@ -137,13 +136,13 @@ fn expect_encoded(
     expect_taken(rt, alloc, &mut encoder, row, with_refused)
 }
 
-/// Whether the bytes are a message with these events.
+/// Returns whether the bytes are a message with these events.
 fn is_played(decoder: &mut Decoder<'_>, bytes: &[u8], events: &str) -> bool {
     let mut script = Script::of(events);
     feed(decoder, bytes, &mut script).is_ok() && decoder.between() && script.is_played()
 }
 
-/// Whether the bytes of these words are a message with these events.
+/// Returns whether the bytes of this line are a message with these events.
 fn is_heard(
     alloc: Global,
     decoder: &mut Decoder<'_>,
@@ -154,7 +153,7 @@ fn is_heard(
     Ok(is_played(decoder, &bytes, events))
 }
 
-/// Whether the decoder reads a step back.
+/// Returns whether the decoder reads a step back.
 fn is_read(alloc: Global, decoder: &mut Decoder<'_>, step: &Step<'_>) -> Result<bool, AllocError> {
     if step.is_reset() {
         super::reset(decoder);
@@ -164,7 +163,7 @@ fn is_read(alloc: Global, decoder: &mut Decoder<'_>, step: &Step<'_>) -> Result<
     is_heard(alloc, decoder, step.due, events.as_str().trim())
 }
 
-/// The steps of this name that are not refused are read back.
+/// Checks that the steps of this name that are not refused are read back.
 pub fn expect_heard(
     rt: &impl Abort,
     alloc: Global,
@@ -182,7 +181,7 @@ pub fn expect_heard(
     Ok(())
 }
 
-/// The steps that are not refused are read back by a new decoder.
+/// Checks that the steps that are not refused are read back by a new decoder.
 fn expect_read(
     rt: &impl Abort,
     alloc: Global,
@@ -198,7 +197,7 @@ fn expect_read(
     expect_of(rt, alloc, set, limits, case)
 }
 
-/// A row comes of the set, with or without the messages that are refused, and is read back in strict mode or in lenient.
+/// Checks a row under the set, with or without the messages that are refused, and that it is read back in strict mode or in lenient.
 fn expect_so(
     rt: &impl Abort,
     alloc: Global,
@@ -210,7 +209,7 @@ fn expect_so(
     expect_read(rt, alloc, set, row, is_so)
 }
 
-/// A row comes back as it is encoded, message by message and as a list, to a decoder in strict mode.
+/// Checks that a row is read back as it is encoded, message by message and as a list, by a decoder in strict mode.
 fn expect_back(
     rt: &impl Abort,
     alloc: Global,
@@ -225,7 +224,8 @@ fn expect_back(
     expect_of(rt, alloc, set, limits, Case::ComesBack(set, text))
 }
 
-/// A row comes of the set, also if the messages that are refused are left out, and is read back in both modes, and as it is encoded.
+/// Checks a row under the set, also if the messages that are refused are left out, and that it is read back in both modes, and as it is
+/// encoded.
 fn expect_row(rt: &impl Abort, alloc: Global, set: &Templates, text: &str) -> Result<(), Fail> {
     let row = Row::of(text)?;
     expect_so(rt, alloc, set, &row, true)?;
@@ -233,7 +233,7 @@ fn expect_row(rt: &impl Abort, alloc: Global, set: &Templates, text: &str) -> Re
     expect_back(rt, alloc, set, &row, text)
 }
 
-/// Each row comes of the template set with this text.
+/// Checks each row under the template set of this file.
 fn expect_rows(rt: &impl Abort, alloc: Global, text: &str, rows: &[&str]) -> Result<(), Fail> {
     let set = set_of(alloc, text)?;
     for row in rows {

@@ -3,7 +3,7 @@
 use super::expect_rows;
 use std::test::Fail;
 
-/// A template for each kind of instruction.
+/// A template for each type of instruction.
 const PLACES: &str = r#"
 [[template]]
 name = "plain"

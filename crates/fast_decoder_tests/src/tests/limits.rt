@@ -10,7 +10,7 @@ use std::alloc::{AllocError, Global};
 use std::process::Abort;
 use std::test::Fail;
 
-/// One sequence of elements that take no byte.
+/// One sequence of elements that have no bytes.
 pub const CONSTANTS: &str = r#"
 [[template]]
 name = "T"
@@ -26,7 +26,7 @@ id = 1
 fields = [{kind="sequence", name="a", fields=[{kind="sequence", name="b", fields=[{kind="uInt32", name="c", op="constant", value="7"}]}]}]
 "#;
 
-/// Limits with this length of texts.
+/// Returns limits with this length of strings.
 fn texts_of(max_text: usize) -> Limits {
     Limits {
         max_text,
@@ -34,16 +34,16 @@ fn texts_of(max_text: usize) -> Limits {
     }
 }
 
-/// Why no decoder of the set with this text is made.
+/// Returns the reason why no decoder of the set of this file is made, if none is.
 fn make_error(alloc: Global, text: &str, limits: Limits) -> Result<Option<MakeError>, Fail> {
     let set = set_of(alloc, text)?;
     Ok(decoder_of(alloc, &set, limits).err())
 }
 
-/// Lengths of texts, and why no decoder has them as its limit.
+/// Lengths of strings, and the reasons why no decoder has them as its limit.
 type Bounds = &'static [(usize, Option<MakeError>)];
 
-/// A decoder of the set with this text is made for each length of texts, or there is this error.
+/// Checks that a decoder of the set of this file is made for each length of strings, or fails for this reason.
 fn expect_made(rt: &impl Abort, alloc: Global, text: &str, bounds: Bounds) -> Result<(), Fail> {
     for (max_text, error) in bounds {
         let found = make_error(alloc, text, texts_of(*max_text))?;
@@ -89,7 +89,7 @@ fn initial_texts_are_within_the_limit(rt: HostRuntime) -> Result<(), Fail> {
     Ok(())
 }
 
-/// A text of four characters as initial value.
+/// A string of four characters as initial value.
 const FOUR: &str =
     "[[template]]\nname = 'T'\nfields = [{kind='ascii', name='f', op='default', value='ABCD'}]";
 
@@ -97,7 +97,7 @@ const FOUR: &str =
 const FIVE_AS_VALUE: &str =
     "[[template]]\nname = 'T'\nfields = [{kind='uInt32', name='f', op='default', value='5'}]";
 
-/// Whether the set with this text has an initial value that is longer. Without a contract, so that a call is cheap to prove.
+/// Returns whether the set of this file has an initial value that is longer. Without a contract, so that a call is cheap to prove.
 fn is_long(alloc: Global, text: &str, max_text: usize) -> Result<bool, Fail> {
     let set = set_of(alloc, text)?;
     Ok(has_long_initial(&set, max_text))
@@ -133,7 +133,7 @@ fn every_number_of_elements_may_be_allowed(rt: HostRuntime) -> Result<(), Fail> 
 /// A message of a thousand elements of `CONSTANTS`.
 pub const THOUSAND: &[u8] = &[0xC0, 0x82, 0x07, 0xE8];
 
-/// Its events.
+/// Returns the events of `THOUSAND`.
 pub fn thousand_events(alloc: Global) -> Result<String, AllocError> {
     let mut events = String::new(alloc);
     put(&mut events, &["m0 s0*1000"])?;
@@ -144,7 +144,7 @@ pub fn thousand_events(alloc: Global) -> Result<String, AllocError> {
     Ok(events)
 }
 
-/// The row of two such messages.
+/// Returns the row of two such messages.
 fn thousand_line(alloc: Global) -> Result<String, AllocError> {
     let events = thousand_events(alloc)?;
     let events = events.as_str();
@@ -195,7 +195,7 @@ fn the_longest_maps(rt: HostRuntime) -> Result<(), Fail> {
     expect_rows(&rt, rt.alloc(), VECTORS, &[THE_LONGEST_MAPS])
 }
 
-/// Adds a number between two texts.
+/// Adds a number between two strings.
 fn put_number(text: &mut String, before: &str, number: u32, after: &str) -> Result<(), AllocError> {
     let mut buffer = Buffer::new();
     put_between(text, before, buffer.format(number), after)
@@ -207,7 +207,7 @@ fn put_between(text: &mut String, front: &str, word: &str, after: &str) -> Resul
 
 const FIELD: &str = "{kind='uInt32', optional=true, op='copy', name='f";
 
-/// A template of 300 optional copies.
+/// Returns a template of 300 optional copies.
 pub fn wide_text(alloc: Global) -> Result<String, AllocError> {
     let mut text = String::new(alloc);
     put(
@@ -221,7 +221,8 @@ pub fn wide_text(alloc: Global) -> Result<String, AllocError> {
     Ok(text)
 }
 
-/// The map of the last field alone has the identifier's bit, those of f0 to f298, and that of f299 in the last bit of 43 bytes.
+/// A message without fields, and one of the last field alone, whose map has the identifier's bit, those of f0 to f298, and that of f299 in
+/// the last bit of 43 bytes.
 const A_WIDE_SEGMENT: &str = "\
 no field | strict | C0 81 | m0 /m | between
 the last field alone | strict | 40 00*41 81 81 86 | m0 u299=5 /m | between
@@ -253,7 +254,7 @@ fn put_group(text: &mut String, before: u32) -> Result<(), AllocError> {
     put_number(text, AROUND.0, before, AROUND.1)
 }
 
-/// Groups in one another, 64 of them: each has a group and a field y but the innermost, which has a field x.
+/// Returns groups within one another, 64 of them: each has a group and a field y but the innermost, which has a field x.
 fn deep_text(alloc: Global) -> Result<String, AllocError> {
     let mut text = String::new(alloc);
     put(&mut text, &[INNERMOST])?;
@@ -269,8 +270,8 @@ const DEEP: &[&str] = &[
     "B0 B1 B2 B3 B4 B5 B6 B7 B8 B9 BA BB BC BD BE BF C0 | m64",
 ];
 
-/// A message of the groups in one another: maps of one bit each, x, and the fields y from the innermost on, numbered from 1. The
-/// template of `k` groups has `2 * k + 1` nodes, so those before the last have 4096.
+/// Returns a message of the groups within one another: maps of one bit each, x, and the fields y from the innermost on, numbered from 1.
+/// The template of `k` groups has `2 * k + 1` nodes, so those before the last have 4096.
 fn deep_line(alloc: Global) -> Result<String, AllocError> {
     let mut line = String::new(alloc);
     put(&mut line, DEEP)?;
@@ -286,7 +287,7 @@ fn deep_line(alloc: Global) -> Result<String, AllocError> {
     Ok(line)
 }
 
-/// The maps of outer groups are there again behind the inner ones.
+/// The maps of outer groups are used again after the inner ones.
 #[test]
 fn the_deepest_groups(rt: HostRuntime) -> Result<(), Fail> {
     let alloc = rt.alloc();

@@ -4,7 +4,7 @@ use super::{expect, expect_rows, set_of};
 use fast_machine::layout::text_marks;
 use std::test::Fail;
 
-/// An instruction each, and behind it a field whose bit shows how many the instruction uses.
+/// An instruction each, followed by a field whose bit shows how many the instruction uses.
 const BITS: &str = r#"
 [[template]]
 name = "1"
@@ -147,7 +147,7 @@ fn rows_of_flat(rt: HostRuntime) -> Result<(), Fail> {
     expect_rows(&rt, rt.alloc(), FLAT, &[A_FLAT_MESSAGE, A_FLAT_SET])
 }
 
-/// An entry of texts and one of numbers.
+/// An entry of strings and one of numbers.
 const ENTRIES: &str = r#"
 [[template]]
 name = "T"

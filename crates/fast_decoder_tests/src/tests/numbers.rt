@@ -1,4 +1,4 @@
-//! Fields of numbers: one field a template, and what its entry holds is shown by a field of another operator with the same key.
+//! Number fields: one field a template, and the contents of its entry are shown by a field of another operator with the same key.
 
 use super::expect_rows;
 use std::test::Fail;

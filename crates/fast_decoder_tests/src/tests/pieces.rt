@@ -9,14 +9,14 @@ use fast_value::Code;
 use std::process::Abort;
 use std::test::Fail;
 
-/// Two messages: in pieces that cut the first, and as one.
+/// Two messages, in pieces that split the first.
 const PIECES: &[&[u8]] = &[&[0xC0, 0x81, 0x39], &[0x45, 0xA3, 0x80], &[0x80]];
 
 const WHOLE: &[u8] = &[0xC0, 0x81, 0x39, 0x45, 0xA3, 0x80, 0x80];
 
 const EVENTS: &str = "m0 u0=942755 /m m0 u0=0 /m";
 
-/// A message, and then a copy of a value that there is not, in the middle of a piece.
+/// A message, and then a copy of an undefined value, in the middle of a piece.
 const WRONG: &[&[u8]] = &[
     &[0xC0, 0x81, 0x39],
     &[0x45, 0xA3, 0xC0, 0x8A, 0x11],
@@ -29,7 +29,7 @@ fn feed_all(decoder: &mut Decoder<'_>, pieces: &[&[u8]], sink: &mut Script<'_>) 
     account_of(decoder, answer)
 }
 
-/// What is heard of the bytes as one, where their events come of them.
+/// Returns the account after the bytes as one piece, if they emit the expected events.
 fn heard_as_one(decoder: &mut Decoder<'_>) -> Option<Account> {
     let mut script = Script::of(EVENTS);
     let answer = feed(decoder, WHOLE, &mut script);
@@ -40,7 +40,7 @@ fn heard_as_one(decoder: &mut Decoder<'_>) -> Option<Account> {
     }
 }
 
-/// What is heard of the pieces, where these events come of them.
+/// Returns the account after the pieces, if they emit these events.
 fn heard(decoder: &mut Decoder<'_>, pieces: &[&[u8]], events: &str) -> Option<Account> {
     let mut script = Script::of(events);
     let account = feed_all(decoder, pieces, &mut script);
@@ -51,7 +51,7 @@ fn heard(decoder: &mut Decoder<'_>, pieces: &[&[u8]], events: &str) -> Option<Ac
     }
 }
 
-/// The pieces give what they give as one.
+/// Checks that the pieces give the same result as one piece.
 pub fn expect_as_one(rt: &impl Abort, decoder: &mut Decoder<'_>) {
     let as_one = heard_as_one(decoder);
     let is_between = matches!(as_one, Some(account) if account.between);
@@ -66,7 +66,7 @@ fn pieces_are_fed_as_one(rt: HostRuntime) -> Result<(), Fail> {
     expect_case(&rt, rt.alloc(), VECTORS, LENIENT, Case::AsOne)
 }
 
-/// The pieces are fed up to a fault, and no piece behind it.
+/// Checks that the pieces are read up to a fault, and no piece after it.
 pub fn expect_up_to_fault(rt: &impl Abort, decoder: &mut Decoder<'_>) {
     let due = stopped_at(Fault {
         code: FaultCode::Stream(Code::D5),

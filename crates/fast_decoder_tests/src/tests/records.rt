@@ -1,4 +1,4 @@
-//! Records in buffers with little room, of a decoder that has stopped too; and the words for those that are refused.
+//! Records in buffers with little room, of a decoder that has stopped too; and the descriptions of refused records.
 
 use super::{Case, LENIENT, expect, expect_case};
 use fast_decoder::{Decoder, FaultCode};
@@ -9,7 +9,7 @@ use std::alloc::Global;
 use std::process::Abort;
 use std::test::Fail;
 
-/// A text; and four events and a fault at the byte of the identifier.
+/// A string; and four events and a fault at the byte of the identifier.
 const SET: &str = r#"
 [[template]]
 name = "text"
@@ -21,7 +21,8 @@ id = 2
 fields = [{kind="group", name="g", fields=[{kind="uInt32", name="c", op="constant", value="7"}]}, {kind="uInt32", name="d", op="copy"}]
 "#;
 
-/// One call after the other: the bytes, the room for records and for bytes of texts; and what was taken, given and used, and how it ended.
+/// One call after the other: the bytes, the room for records and for bytes of strings; the numbers of those read, given and used; and the
+/// outcome.
 #[rattlefmt::skip]
 const CALLS: &[(&[u8], usize, usize, usize, usize, usize, Outcome)] = &[
     (&[0xC0, 0x81, 0x41, 0xC2], 0, 4, 0, 0, 0, Outcome::NoRoom),
@@ -46,7 +47,7 @@ const BLANK: Record = Record {
     exponent: 0,
 };
 
-/// What comes of a call with so much room.
+/// Returns the result of a call with this much room.
 fn fed(
     decoder: &mut Decoder<'_>,
     waiting: &mut Waiting,
@@ -65,7 +66,7 @@ fn fed(
     )
 }
 
-/// The calls come to this, one after the other.
+/// Checks the results of the calls, one after the other.
 pub fn expect_calls(rt: &impl Abort, alloc: Global, decoder: &mut Decoder<'_>) {
     let mut waiting = Waiting::new(alloc);
     for (at, call) in CALLS.iter().enumerate() {

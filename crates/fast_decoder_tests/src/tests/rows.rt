@@ -6,10 +6,10 @@ use fast_value::{Code, Limits};
 use std::alloc::Global;
 use std::test::Fail;
 
-/// A stream, and what should come of it.
+/// A stream, and its expected events and end.
 #[derive(Clone, Copy)]
 pub struct Row<'t> {
-    /// What it shows.
+    /// The property that it shows.
     pub name: &'t str,
     pub limits: Limits,
     pub bytes: &'t [u8],
@@ -20,7 +20,7 @@ pub struct Row<'t> {
 }
 
 impl Row<'_> {
-    /// Whether a decoder that says this behind the bytes is at the end that is due.
+    /// Returns whether a decoder with this account after the bytes is at the expected end.
     pub fn is_end(&self, heard: Account) -> bool {
         let mut script = Script::of(self.end);
         let due = match heard.answer {
@@ -38,7 +38,7 @@ impl Row<'_> {
     }
 }
 
-/// What a decoder says that has taken so many bytes.
+/// Returns the account of a decoder that has consumed this many bytes.
 fn fed(between: bool, len: usize) -> Account {
     Account {
         answer: Ok(()),
@@ -86,7 +86,7 @@ pub struct Columns<'t> {
     pub end: &'t str,
 }
 
-/// Takes the next column.
+/// Removes the next column, and returns it.
 fn column<'t>(rest: &mut &'t str) -> &'t str {
     let (column, behind) = rest.split_once('|').unwrap_or((*rest, ""));
     *rest = behind;
@@ -106,7 +106,7 @@ impl Columns<'_> {
     }
 }
 
-/// Sets what a word says of the limits.
+/// Sets the limit of a token.
 fn set_limit(limits: &mut Limits, word: &str) -> Option<()> {
     match word.split_once('=') {
         Some((name, number)) => set_number(limits, name, number.parse().ok()?),
@@ -143,7 +143,7 @@ pub fn limits_of(words: &str) -> Option<Limits> {
     Some(limits)
 }
 
-/// The bytes of words as `C0`, and `00*146` for 146 bytes.
+/// Returns the bytes of tokens such as `C0`, and `00*146` for 146 bytes.
 pub fn bytes_of(alloc: Global, words: &str) -> Result<Vec<u8>, Fail> {
     let mut bytes = Vec::new(alloc);
     for word in words.split_whitespace() {
@@ -156,7 +156,7 @@ pub fn bytes_of(alloc: Global, words: &str) -> Result<Vec<u8>, Fail> {
     Ok(bytes)
 }
 
-/// The row of columns, with its bytes.
+/// Returns the row of columns, with its bytes.
 pub fn row_of<'t>(columns: Columns<'t>, bytes: &'t [u8]) -> Result<Row<'t>, Fail> {
     let Some(limits) = limits_of(columns.limits) else {
         return Err(Fail::new("no limits"));

@@ -5,21 +5,21 @@ use fast_value::Scalar;
 use itoa::{Buffer, Integer};
 use std::alloc::Global;
 
-/// A sink that writes each event, and compares what it writes with the text that is due. It takes no memory. All tests that stop a decoder
-/// or keep events have it too, since the compiler makes the decoder's loop once more for each sink.
+/// A sink that writes each event, and compares the result with the string that is expected. It does not allocate. All tests that stop a
+/// decoder or keep events have it too, since the compiler makes the decoder's loop once more for each sink.
 ///
-/// An event is `m` and the number of a template, or a letter and the number of a node: `g` for a group, `s` for a
-/// sequence, behind which `*` and the count stand, and for a field `u`, `i` or `d` with a number, `a` or `t` (Unicode)
-/// with a text, or `b` with bytes. `e` is an element, and `/m`, `/g`, `/s` and `/e` are ends.
+/// An event is `m` and the number of a template, or a letter and the number of a node: `g` for a group, `s` for a sequence, followed by `*`
+/// and the count, and for a field `u`, `i` or `d` with a number, `a` or `t` (Unicode) with a string, or `b` with bytes. `e` is an element,
+/// and `/m`, `/g`, `/s` and `/e` are ends.
 #[derive(Drop)]
 pub struct Script<'t> {
-    /// What is still due.
+    /// The rest of the string that is expected.
     pub due: &'t [u8],
     pub taken: usize,
-    /// How many events it takes: it stops at the next.
+    /// The number of events that it accepts: it stops at the next.
     pub most: usize,
     same: bool,
-    /// It is handed each event first, if there is one.
+    /// A recorder that receives each event first, if there is one.
     recorder: Option<Recorder>,
 }
 
@@ -34,7 +34,7 @@ impl Script<'_> {
         }
     }
 
-    /// One that takes so many events, whichever they are, and stops at the next.
+    /// Makes a sink that accepts this number of events, of any type, and stops at the next.
     pub fn stopping(most: usize) -> Script<'static> {
         Script {
             due: &[],
@@ -45,7 +45,7 @@ impl Script<'_> {
         }
     }
 
-    /// One that hands all events to a recorder.
+    /// Makes a sink that passes all events to a recorder.
     pub fn keeping(alloc: Global) -> Script<'static> {
         Script {
             recorder: Some(Recorder::new(alloc)),
@@ -53,7 +53,7 @@ impl Script<'_> {
         }
     }
 
-    /// What was kept.
+    /// Returns the events that were kept.
     pub fn kept(&self) -> &[Recorded] {
         match &self.recorder {
             Some(recorder) => recorder.events(),
@@ -61,7 +61,7 @@ impl Script<'_> {
         }
     }
 
-    /// Whether all that was due was taken, and nothing else.
+    /// Returns whether all expected events were received, and no others.
     pub fn is_played(&self) -> bool {
         self.same && self.due.is_empty()
     }
@@ -73,7 +73,7 @@ impl Script<'_> {
         }
     }
 
-    /// Writes a number behind a word.
+    /// Writes a number after a prefix.
     pub fn write_number<I: Integer>(&mut self, word: &[u8], number: I) {
         self.write(word);
         self.write(Buffer::new().format(number).as_bytes());
@@ -133,7 +133,7 @@ impl Script<'_> {
     }
 }
 
-/// A digit of a byte.
+/// Returns a digit of a byte.
 fn digit_of(half: u8) -> u8 {
     b"0123456789ABCDEF"
         .get(usize::from(half))
@@ -141,7 +141,7 @@ fn digit_of(half: u8) -> u8 {
         .unwrap_or(b'?')
 }
 
-/// The letter of a field with this value.
+/// Returns the letter of a field with this value.
 fn letter_of(value: Scalar<'_>) -> &'static [u8] {
     match value {
         Scalar::U(_) => b"u",

@@ -1,4 +1,4 @@
-//! Sinks that keep, stop or count, and what a decoder says when it stops.
+//! Sinks that keep, stop or count, and the account of a decoder when it stops.
 
 use super::limits::{CONSTANTS, THOUSAND, thousand_events};
 use super::rows::{Columns, row_of};
@@ -14,15 +14,15 @@ use std::alloc::{AllocError, Global};
 use std::process::Abort;
 use std::test::Fail;
 
-/// The bytes of `LONG` that are consumed where the sink takes so many events: none, one, two and so on.
+/// The number of bytes of `LONG` that are consumed if the sink accepts a number of events: none, one, two and so on.
 const PLACES: &[u64] = &[2, 3, 3, 6, 6, 7, 7, 10, 12, 12, 12, 13, 14, 14, 14, 14];
 
-/// Whether the decoder has stopped with this fault, behind the bytes of its place.
+/// Returns whether the decoder has stopped with this fault, after the bytes up to its offset.
 fn has_stopped(decoder: &Decoder<'_>, answer: Result<(), Fault>, fault: Fault) -> bool {
     account_of(decoder, answer) == stopped_at(fault)
 }
 
-/// Whether a decoder that has stopped with this fault stays so, whatever it is fed.
+/// Returns whether a decoder that has stopped with this fault stays so, for all bytes that it is fed.
 fn stays_stopped(decoder: &mut Decoder<'_>, sink: &mut Script<'_>, fault: Fault) -> bool {
     for _ in 0..3 {
         for piece in [LONG, &[]] {
@@ -39,7 +39,7 @@ fn stays_stopped(decoder: &mut Decoder<'_>, sink: &mut Script<'_>, fault: Fault)
     true
 }
 
-/// Whether a sink of so many events stops the decoder at the place, and is not called again though it would take more.
+/// Returns whether a sink of `most` events stops the decoder at the offset, and is not called again though it would accept more.
 fn is_stopped(decoder: &mut Decoder<'_>, most: usize, place: u64) -> bool {
     let fault = Fault {
         code: FaultCode::SinkStopped,
@@ -53,7 +53,7 @@ fn is_stopped(decoder: &mut Decoder<'_>, most: usize, place: u64) -> bool {
     stops && stays_stopped(decoder, &mut sink, fault) && sink.taken == most
 }
 
-/// A sink of each number of events stops the decoder.
+/// Checks that a sink of each number of events stops the decoder.
 pub fn expect_stops(rt: &impl Abort, decoder: &mut Decoder<'_>) {
     for (most, place) in PLACES.iter().enumerate() {
         let is_stopped = is_stopped(decoder, most, *place);
@@ -66,7 +66,7 @@ fn a_sink_stops_the_decoder(rt: HostRuntime) -> Result<(), Fail> {
     expect_case(&rt, rt.alloc(), VECTORS, LENIENT, Case::StopsBySink)
 }
 
-/// The event that was kept.
+/// Returns the event that was kept.
 fn event_of(kept: &Recorded) -> Event<'_> {
     match kept {
         Recorded::MessageStart { template } => Event::MessageStart {
@@ -89,7 +89,7 @@ fn event_of(kept: &Recorded) -> Event<'_> {
     }
 }
 
-/// Whether the kept events are those that are due.
+/// Returns whether the kept events are the expected ones.
 pub fn are_due(events: &str, kept: &[Recorded]) -> bool {
     let mut script = Script::of(events);
     for event in kept {
@@ -100,7 +100,7 @@ pub fn are_due(events: &str, kept: &[Recorded]) -> bool {
     script.is_played()
 }
 
-/// A recorder keeps the events of a message.
+/// Checks that a recorder keeps the events of a message.
 pub fn expect_kept(
     rt: &impl Abort,
     alloc: Global,
@@ -131,7 +131,7 @@ const TOO_MANY: Fault = Fault {
     place: 7,
 };
 
-/// Whether a claim of too many elements stops the decoder.
+/// Returns whether a claim of too many elements stops the decoder.
 fn is_stopped_by_a_claim(decoder: &mut Decoder<'_>) -> bool {
     let mut script = Script::of("m1");
     let answer = feed(decoder, CLAIM, &mut script);
@@ -148,12 +148,12 @@ const STOPPED: &str = "Decoder { \
     limits: Limits { strict: false, max_text: 1024, max_elements: 1000, max_total: 1000 }, \
     consumed: 7, fault: Some(Fault { code: Stream(L2), place: 7 }), .. }";
 
-/// What `Debug` writes.
+/// Returns the decoder as `Debug` writes it.
 fn debug_of(alloc: Global, decoder: &Decoder<'_>) -> Result<String, AllocError> {
     format!(in alloc; "{decoder:?}")
 }
 
-/// A claim of too many elements stops the decoder, until it is reset.
+/// Checks that a claim of too many elements stops the decoder, until it is reset.
 pub fn expect_stays(rt: &impl Abort, alloc: Global, decoder: &mut Decoder<'_>) -> Result<(), Fail> {
     let is_stopped = is_stopped_by_a_claim(decoder);
     expect(rt, is_stopped, "a claim", 0);
@@ -172,7 +172,7 @@ fn a_fault_stays_until_reset(rt: HostRuntime) -> Result<(), Fail> {
     expect_case(&rt, rt.alloc(), VECTORS, LENIENT, Case::StaysStopped)
 }
 
-/// Messages that are cut: within an integer behind the identifier, twice within the first field, and in an element.
+/// Messages that are truncated: within an integer after the identifier, twice within the first field, and in an element.
 const CUTS: &[&[u8]] = &[
     &[0xC0, 0x81, 0x81, 0x00],
     &[0xC0, 0x81, 0x39],
@@ -184,13 +184,13 @@ const NO_IDENTIFIER: &str = "no identifier to copy | lenient | 80 | | D5@1";
 
 const NOTHING_TO_COPY: &str = "nothing to copy | lenient | C0 8A | m9 | D5@2";
 
-/// Whether the bytes cut a message.
+/// Returns whether the bytes are a truncated message.
 fn is_cut(decoder: &mut Decoder<'_>, bytes: &[u8]) -> bool {
     let mut sink = Script::stopping(100);
     feed(decoder, bytes, &mut sink).is_ok() && !decoder.between()
 }
 
-/// A decoder that is reset behind a message which is cut has forgotten what the row would need.
+/// Checks that a decoder that is reset after a truncated message has discarded all that the row would need.
 fn expect_forgotten(
     rt: &impl Abort,
     alloc: Global,
@@ -204,7 +204,7 @@ fn expect_forgotten(
     expect_line(rt, alloc, decoder, line)
 }
 
-/// A reset forgets the identifier, the previous values, and the bytes of a unit that was cut.
+/// Checks that a reset discards the identifier, the previous values, and the bytes of a unit that was split.
 pub fn expect_forgets(
     rt: &impl Abort,
     alloc: Global,
@@ -222,12 +222,12 @@ fn a_reset_forgets(rt: HostRuntime) -> Result<(), Fail> {
     expect_case(&rt, rt.alloc(), VECTORS, LENIENT, Case::Forgets)
 }
 
-/// Texts that are cut and joined.
+/// Strings that are truncated and joined.
 const JOINED: &[u8] = &[
     0xC0, 0x84, 0x80, 0x47, 0x45, 0x48, 0xB6, 0x80, 0x82, 0x4D, 0xB6,
 ];
 
-/// The row with these bytes and events comes of a decoder, between two messages.
+/// Checks that a decoder reads the row with these bytes and events, and ends between two messages.
 fn expect_events(
     rt: &impl Abort,
     decoder: &mut Decoder<'_>,
@@ -243,8 +243,8 @@ fn expect_events(
     Ok(())
 }
 
-/// A decoder takes all its memory when it is made: where a growth is refused, it is one of the set or of `new`, and rows that are
-/// only compared come out the same.
+/// A decoder allocates memory only when it is made: if an allocation fails, it is one of the set or of `new`, and rows that are only
+/// compared give the same result.
 #[test]
 fn feeds_take_no_memory(rt: HostRuntime) -> Result<(), Fail> {
     match read(rt.alloc(), VECTORS) {
@@ -260,13 +260,13 @@ fn expect_no_memory(rt: &impl Abort, alloc: Global, set: &Templates) -> Result<(
     }
 }
 
-/// The events of two streams of the built-in set.
+/// Checks the events of two streams of the built-in set.
 fn expect_both(rt: &impl Abort, decoder: &mut Decoder<'_>) -> Result<(), Fail> {
     expect_events(rt, decoder, LONG, LONG_EVENTS)?;
     expect_events(rt, decoder, JOINED, "m3 a4='GEH6' /m m3 a4='GEM6' /m")
 }
 
-/// Whether two bytes, and two more integers, may end so.
+/// Returns whether two bytes, and two more integers, may end so.
 fn may_end(answer: Result<(), Fault>) -> bool {
     match answer {
         Ok(()) => true,
@@ -277,7 +277,7 @@ fn may_end(answer: Result<(), Fault>) -> bool {
     }
 }
 
-/// Whether two bytes, and two more integers, end in events or in a fault that they can have.
+/// Returns whether two bytes, and two more integers, end in events or in a fault that they can have.
 fn ends_as_it_may(decoder: &mut Decoder<'_>, first: u8, second: u8) -> bool {
     reset(decoder);
     let mut sink = Script::stopping(1000);
@@ -285,7 +285,7 @@ fn ends_as_it_may(decoder: &mut Decoder<'_>, first: u8, second: u8) -> bool {
     may_end(heard.answer) && heard == account_of(decoder, heard.answer)
 }
 
-/// Two bytes of which the first is this end in events or a fault.
+/// Checks that two bytes of which the first is this end in events or a fault.
 fn expect_ends(rt: &impl Abort, decoder: &mut Decoder<'_>, first: u8) {
     for second in 0..=255u8 {
         let ends = ends_as_it_may(decoder, first, second);
@@ -294,7 +294,7 @@ fn expect_ends(rt: &impl Abort, decoder: &mut Decoder<'_>, first: u8) {
     }
 }
 
-/// The same of all first bytes.
+/// Checks that any two bytes end in events or a fault.
 pub fn expect_all_ends(rt: &impl Abort, decoder: &mut Decoder<'_>) {
     for first in 0..=255u8 {
         expect_ends(rt, decoder, first);

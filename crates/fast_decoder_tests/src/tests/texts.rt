@@ -1,9 +1,9 @@
-//! Texts of every kind under every operator.
+//! Strings of every type under every operator.
 
 use super::expect_rows;
 use std::test::Fail;
 
-/// A template for each kind, mandatory and optional. Its fields are: no operator, constant, default, copy, delta, tail.
+/// A template for each string type, mandatory and optional. Its fields are: no operator, constant, default, copy, delta, tail.
 const OPERATORS: &str = r#"
 [[template]]
 name = "ascii"
@@ -123,7 +123,7 @@ fn rows_of_operators(rt: HostRuntime) -> Result<(), Fail> {
     expect_rows(&rt, rt.alloc(), OPERATORS, &[ASCII, UNICODE, BYTES])
 }
 
-/// Texts under one key: of several operators, and of several kinds.
+/// Strings under one key: of several operators, and of several types.
 const SHARED: &str = r#"
 [[template]]
 name = "copy"

@@ -1,9 +1,9 @@
-//! Texts and runs of bytes by themselves, and the room that there is for them.
+//! Strings and runs of bytes by themselves, and the room that there is for them.
 
 use super::expect_rows;
 use std::test::Fail;
 
-/// A text that is sent whole, or behind a base that leaves little room; and bytes.
+/// A string that is sent complete, or after a base that leaves little room; and bytes.
 const UNITS: &str = r#"
 [[template]]
 name = "mandatory"

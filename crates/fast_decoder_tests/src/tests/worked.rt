@@ -1,4 +1,4 @@
-//! Streams of a set with templates of every kind.
+//! Streams of a set with templates of every type.
 
 use super::{Case, LENIENT, Script, expect, expect_case, expect_rows, push};
 use fast_decoder::Decoder;
@@ -23,7 +23,7 @@ pub const LONG: &[u8] = &[
     0xE0, 0x8F, 0x85, 0x82, 0x01, 0xFF, 0x83, 0xC0, 0x41, 0xC2, 0x00, 0xE4, 0x80, 0xFE,
 ];
 
-/// What comes of it.
+/// The events of `LONG`.
 pub const LONG_EVENTS: &str =
     "m14 u15=5 g16 b17=01FF /g s18*2 e a19='AB' i20=100 /e e a19='AB' i20=98 /e /s /m";
 
@@ -136,15 +136,15 @@ fn rows_of_worked(rt: HostRuntime) -> Result<(), Fail> {
     )
 }
 
-/// How many events the message is to have handed over behind each of its bytes.
+/// The number of events that the message has to have emitted after each of its bytes.
 const COUNTS: &[usize] = &[0, 1, 3, 3, 3, 5, 7, 7, 7, 8, 8, 11, 12, 16];
 
-/// Whether the byte hands over events up to this count.
+/// Returns whether the byte brings the number of events emitted to this count.
 fn is_in_time(decoder: &mut Decoder<'_>, script: &mut Script<'_>, byte: u8, count: usize) -> bool {
     push(decoder, byte, script).is_ok() && script.taken == count
 }
 
-/// Whether each byte of the message hands over the events that it decides, and no other.
+/// Returns whether each byte of the message emits the events that it decides, and no other.
 fn comes_in_time(decoder: &mut Decoder<'_>, script: &mut Script<'_>) -> bool {
     for (byte, count) in LONG.iter().zip(COUNTS) {
         if !is_in_time(decoder, script, *byte, *count) {
@@ -154,7 +154,7 @@ fn comes_in_time(decoder: &mut Decoder<'_>, script: &mut Script<'_>) -> bool {
     script.is_played() && decoder.between()
 }
 
-/// A message that is cut behind each of its bytes has handed over what those bytes decide.
+/// Checks that a message that is truncated after each of its bytes has emitted the events that those bytes decide.
 pub fn expect_in_time(rt: &impl Abort, decoder: &mut Decoder<'_>) {
     let mut script = Script::of(LONG_EVENTS);
     let is_in_time = comes_in_time(decoder, &mut script);

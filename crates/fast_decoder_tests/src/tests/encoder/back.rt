@@ -1,4 +1,4 @@
-//! Messages that are encoded, and read at once by a decoder that is level with the encoder.
+//! Messages that are encoded, and read at once by a decoder in step with the encoder.
 
 use super::super::sinks::are_due;
 use super::super::{Case, LENIENT, Script, expect_of, put, set_of};
@@ -46,13 +46,14 @@ fn record_all(
     round_trip_all(encoder, decoder, messages, out, recorder)
 }
 
-/// Both as they were made.
+/// Resets both.
 fn reset_both(encoder: &mut Encoder<'_>, decoder: &mut Decoder<'_>) {
     reset(encoder);
     super::super::reset(decoder);
 }
 
-/// Whether what is due of a message is appended to what `out` has, and comes back as these events; or it is refused, and nothing comes.
+/// Returns whether the expected bytes of a message are appended to those of `out`, and are read back as these events; or it is refused, and
+/// nothing is appended.
 fn is_back(
     encoder: &mut Encoder<'_>,
     decoder: &mut Decoder<'_>,
@@ -73,7 +74,7 @@ fn is_back(
     }
 }
 
-/// Whether a step comes back, where `out` has other bytes already.
+/// Returns whether a step is read back, if `out` has other bytes already.
 fn is_step_back(
     alloc: Global,
     encoder: &mut Encoder<'_>,
@@ -95,7 +96,7 @@ fn is_step_back(
     })
 }
 
-/// Each step comes back, one after the other: what is refused leaves both level.
+/// Checks that each step is read back, one after the other: a message that is refused leaves both in step.
 fn expect_each(
     rt: &impl Abort,
     alloc: Global,
@@ -131,7 +132,7 @@ fn add_step(
     Ok(())
 }
 
-/// Whether a recorder keeps these events of the messages.
+/// Returns whether a recorder keeps these events of the messages.
 fn are_kept(
     alloc: Global,
     encoder: &mut Encoder<'_>,
@@ -145,7 +146,7 @@ fn are_kept(
     answer.is_ok() && decoder.between() && are_due(events, recorder.events())
 }
 
-/// Whether the steps that are not refused come back as one list.
+/// Returns whether the steps that are not refused are read back as one list.
 fn are_steps_back(
     alloc: Global,
     encoder: &mut Encoder<'_>,
@@ -160,7 +161,7 @@ fn are_steps_back(
     Ok(are_kept(alloc, encoder, decoder, &messages, events.as_str().trim()))
 }
 
-/// What is encoded before a reset, and after it, comes back as one list.
+/// Checks that the messages before a reset, and those after it, are read back as one list.
 fn expect_lists(
     rt: &impl Abort,
     alloc: Global,
@@ -176,7 +177,7 @@ fn expect_lists(
     Ok(())
 }
 
-/// The steps of a row come back, one by one and as lists, from an encoder and a decoder that are new.
+/// Checks that the steps of a row are read back, one by one and as lists, from an encoder and a decoder that are new.
 pub fn expect_row_back(
     rt: &impl Abort,
     alloc: Global,
@@ -202,7 +203,7 @@ const REFUSED: RoundTripStop = RoundTripStop {
     fault: RoundTripFault::Encode(EncodeFault::E2),
 };
 
-/// A sink of four events takes the first message and the start of the second.
+/// The stop of a sink of four events, which accepts the first message and the start of the second.
 const STOPPED: RoundTripStop = RoundTripStop {
     index: 1,
     fault: RoundTripFault::Decode(SHORT),
@@ -213,7 +214,7 @@ const SHORT: Fault = Fault {
     place: 7,
 };
 
-/// The messages on these lines.
+/// Returns the messages on these lines.
 fn messages_of(alloc: Global, lines: &str) -> Result<Vec<Message>, AllocError> {
     let mut messages = Vec::new(alloc);
     for line in lines.lines() {
@@ -224,7 +225,7 @@ fn messages_of(alloc: Global, lines: &str) -> Result<Vec<Message>, AllocError> {
     Ok(messages)
 }
 
-/// Whether a list comes to this end, with these bytes.
+/// Returns whether a list comes to this end, with these bytes.
 fn ends_so(
     alloc: Global,
     encoder: &mut Encoder<'_>,
@@ -238,7 +239,7 @@ fn ends_so(
     answer == due.0 && is_hex(&out, due.1)
 }
 
-/// A list ends at a message that is refused, and both are still level: the messages after it come back.
+/// Checks that a list ends at a message that is refused, and both are still in step: the messages after it are read back.
 fn expect_refused(
     rt: &impl Abort,
     alloc: Global,
@@ -262,7 +263,8 @@ fn expect_refused(
     Ok(())
 }
 
-/// A list ends where the sink stops: the message is encoded, and the decoder says the same of the next one, until both are reset.
+/// Checks that a list ends at the sink's stop: the message is encoded, and the decoder returns the same for the next one, until both are
+/// reset.
 fn expect_stopped(
     rt: &impl Abort,
     alloc: Global,
@@ -283,7 +285,7 @@ fn expect_stopped(
     Ok(())
 }
 
-/// Lists end at what does not come back.
+/// Checks that lists end at messages that are not read back.
 pub fn expect_ends(
     rt: &impl Abort,
     alloc: Global,

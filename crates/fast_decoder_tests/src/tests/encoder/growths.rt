@@ -1,4 +1,4 @@
-//! An encoder where a growth is refused. The tests hold whichever growth is refused, and where none is.
+//! An encoder of which an allocation fails. The tests hold for each allocation that fails, and for none.
 
 use super::super::read;
 use super::messages::message_of;
@@ -12,7 +12,7 @@ use std::alloc::Global;
 use std::process::Abort;
 use std::test::Fail;
 
-/// An encoder of the set, at the second try where memory was refused at the first.
+/// Makes an encoder of the set, at the second try if an allocation failed at the first.
 fn made<'t>(alloc: Global, set: &'t Templates) -> Result<Encoder<'t>, MakeError> {
     match encoder_of(alloc, set, LENIENT) {
         Err(MakeError::Memory) => encoder_of(alloc, set, LENIENT),
@@ -20,8 +20,8 @@ fn made<'t>(alloc: Global, set: &'t Templates) -> Result<Encoder<'t>, MakeError>
     }
 }
 
-/// Whether the message is encoded behind what `out` has, at the second try where memory was refused at the first and
-/// `out` had what it has before.
+/// Returns whether the message is encoded after the bytes of `out`, at the second try if an allocation failed at the first and left `out`
+/// unchanged.
 fn is_encoded(
     encoder: &mut Encoder<'_>,
     message: &Message,
@@ -36,7 +36,7 @@ fn is_encoded(
     answer == Ok(()) && is_hex(out, after)
 }
 
-/// Messages, and the bytes of all so far: a text that is kept, one with a group and elements, and one that changes a text.
+/// Messages, and the bytes of all so far: a string that is kept, one with a group and elements, and one that changes a string.
 const ENCODED: &[(&str, &str)] = &[
     ("m2 a3='ABCDE' /m", "E0 83 41 42 43 44 C5"),
     (
@@ -53,7 +53,7 @@ const ENCODED: &[(&str, &str)] = &[
     ),
 ];
 
-/// Whether the message of these words is encoded.
+/// Returns whether the message of this line is encoded.
 fn are_encoded(
     encoder: &mut Encoder<'_>,
     message: Option<Message>,
@@ -78,7 +78,7 @@ fn a_refused_growth_changes_nothing(rt: HostRuntime) -> Result<(), Fail> {
     Ok(())
 }
 
-/// Each message leaves what it should behind the one before, up to one for which there is no memory.
+/// Checks that each message appends its bytes to those of the one before, up to one for which an allocation fails.
 fn expect_growth(rt: &impl Abort, alloc: Global, encoder: &mut Encoder<'_>) {
     let mut out = Vec::new(alloc);
     let mut before = "";

@@ -10,7 +10,7 @@ use std::alloc::{AllocError, Global};
 use std::process::Abort;
 use std::test::Fail;
 
-/// Why no encoder of the set with this text is made.
+/// Returns the reason why no encoder of the set of this file is made, if none is.
 fn make_error(alloc: Global, text: &str, max_text: usize) -> Result<Option<MakeError>, Fail> {
     let limits = Limits {
         max_text,
@@ -29,7 +29,7 @@ const INITIAL: &[&str] = &[
     "[[template]]\nname = 'T'\nfields = [{kind='group', name='g', fields=[{kind='bytes', name='f', op='copy', value='0102030405060708090A0B0C0D0E0F1011'}]}]",
 ];
 
-/// A limit, and why no encoder has it over the first of these sets and over the others.
+/// A limit, and the reasons why no encoder has it over the first of these sets and over the others.
 type Made = (usize, Option<MakeError>, Option<MakeError>);
 
 #[rattlefmt::skip]
@@ -42,7 +42,7 @@ const MADE: &[Made] = &[
     (1_048_577, Some(MakeError::BadLimits), Some(MakeError::BadLimits)),
 ];
 
-/// Encoders of the sets are made, or not for this cause.
+/// Checks that encoders of the sets are made, or not for this reason.
 fn expect_made(rt: &impl Abort, alloc: Global, row: &Made) -> Result<(), Fail> {
     let (max_text, short, long) = row;
     for (i, text) in INITIAL.iter().enumerate() {
@@ -65,7 +65,7 @@ fn the_length_of_texts_has_bounds(rt: HostRuntime) -> Result<(), Fail> {
 const ENCODER: &str =
     "Encoder { limits: Limits { strict: false, max_text: 1024, max_elements: 1000, max_total: 1000 }, .. }";
 
-/// What `Debug` writes.
+/// Returns the encoder as `Debug` writes it.
 fn debug_of(alloc: Global, encoder: &Encoder<'_>) -> Result<String, AllocError> {
     format!(in alloc; "{encoder:?}")
 }
@@ -106,7 +106,7 @@ fn texts(rt: HostRuntime) -> Result<(), Fail> {
     expect_rows(&rt, rt.alloc(), VECTORS, TEXTS)
 }
 
-/// A sequence of sequences; and one of a length that is not sent, with another behind it in a group.
+/// A sequence of sequences; and one of a length that is not sent, followed by another in a group.
 const NESTED: &str = r#"
 [[template]]
 name = "N"
@@ -151,7 +151,7 @@ const FAULTS: &[(EncodeFault, u8, &str)] = &[
     (EncodeFault::Memory, 6, "Memory: there is no memory left"),
 ];
 
-/// A fault with its name and its sentence.
+/// Returns a fault with its name and its description.
 fn line_of(alloc: Global, fault: EncodeFault) -> Result<String, AllocError> {
     let name = fault.name();
     format!(in alloc; "{name}: {fault}")

@@ -1,4 +1,4 @@
-//! Messages that are read from their texts.
+//! Messages that are read from their lines.
 
 use fast_value::{Item, Message, Value};
 use std::alloc::{AllocError, Global};
@@ -7,7 +7,7 @@ use std::mem;
 /// The slots of a message, a group or an element.
 type Slots = Vec<Option<Item>>;
 
-/// A message, a group or a sequence in the making: the slots so far, and the elements that are whole.
+/// A message, a group or a sequence that is being read: the slots so far, and the elements that are complete.
 #[derive(Drop)]
 struct Open {
     slots: Slots,
@@ -23,7 +23,7 @@ impl Open {
     }
 }
 
-/// Adds an item to what is open innermost.
+/// Adds an item to the innermost open one.
 fn add(open: &mut Vec<Open>, item: Option<Item>) -> Result<(), AllocError> {
     if let Some(innermost) = open.last_mut() {
         innermost.slots.push(item)?;
@@ -31,7 +31,7 @@ fn add(open: &mut Vec<Open>, item: Option<Item>) -> Result<(), AllocError> {
     Ok(())
 }
 
-/// Ends the element of what is open innermost.
+/// Ends the element of the innermost open one.
 fn end_element(alloc: Global, open: &mut Vec<Open>) -> Result<(), AllocError> {
     if let Some(innermost) = open.last_mut() {
         let slots = mem::replace(&mut innermost.slots, Vec::new(alloc));
@@ -40,7 +40,7 @@ fn end_element(alloc: Global, open: &mut Vec<Open>) -> Result<(), AllocError> {
     Ok(())
 }
 
-/// Ends what is open innermost.
+/// Ends the innermost open one.
 fn end(alloc: Global, open: &mut Vec<Open>) -> Open {
     match open.pop() {
         Some(innermost) => innermost,
@@ -48,7 +48,7 @@ fn end(alloc: Global, open: &mut Vec<Open>) -> Open {
     }
 }
 
-/// A digit's value.
+/// Returns the value of a digit.
 fn half_of(digit: u8) -> u8 {
     match digit {
         b'A'..=b'F' => digit.wrapping_sub(b'A' - 10),
@@ -56,7 +56,7 @@ fn half_of(digit: u8) -> u8 {
     }
 }
 
-/// The byte of two digits.
+/// Returns the byte of two digits.
 fn byte_of(pair: &[u8]) -> u8 {
     match pair {
         [high, low] => half_of(*high).wrapping_mul(16).wrapping_add(half_of(*low)),
@@ -64,7 +64,7 @@ fn byte_of(pair: &[u8]) -> u8 {
     }
 }
 
-/// The bytes of digits, two for each.
+/// Returns the bytes of digits, two for each.
 fn bytes_of(alloc: Global, digits: &[u8]) -> Result<Vec<u8>, AllocError> {
     let mut bytes = Vec::new(alloc);
     for pair in digits.chunks(2) {
@@ -73,7 +73,7 @@ fn bytes_of(alloc: Global, digits: &[u8]) -> Result<Vec<u8>, AllocError> {
     Ok(bytes)
 }
 
-/// The bytes of a text: in quotes, or digits behind an `x`.
+/// Returns the bytes of a string: in quotes, or digits after an `x`.
 fn text_of(alloc: Global, text: &str) -> Result<Vec<u8>, AllocError> {
     match text.as_bytes() {
         [b'\'', quoted @ .., b'\''] => Vec::from_slice(alloc, quoted),
@@ -90,7 +90,7 @@ fn decimal_of(text: &str) -> Option<Value> {
     })
 }
 
-/// The value of a number that is written with this letter.
+/// Returns the value of a number that is written with this letter.
 fn number_of(letter: u8, text: &str) -> Option<Value> {
     match letter {
         b'u' => Some(Value::U(text.parse().ok()?)),
@@ -100,7 +100,7 @@ fn number_of(letter: u8, text: &str) -> Option<Value> {
     }
 }
 
-/// The value of a field that is written with this letter.
+/// Returns the value of a field that is written with this letter.
 fn value_of(alloc: Global, letter: u8, text: &str) -> Result<Option<Value>, AllocError> {
     Ok(match letter {
         b'a' => Some(Value::Ascii(text_of(alloc, text)?)),
@@ -110,7 +110,7 @@ fn value_of(alloc: Global, letter: u8, text: &str) -> Result<Option<Value>, Allo
     })
 }
 
-/// Adds a field to what is open innermost. Whether the word is one, as of the next functions.
+/// Adds a field to the innermost open one. Returns whether the token is a field, as the next functions do.
 fn add_field(alloc: Global, open: &mut Vec<Open>, word: &str) -> Result<bool, AllocError> {
     let (field, text) = word.split_once('=').unwrap_or((word, ""));
     let letter = field.as_bytes().first().copied().unwrap_or(0);
@@ -123,7 +123,7 @@ fn add_field(alloc: Global, open: &mut Vec<Open>, word: &str) -> Result<bool, Al
     }
 }
 
-/// Adds so many absent items to what is open innermost.
+/// Adds this number of absent items to the innermost open one.
 fn add_absent(open: &mut Vec<Open>, count: u32) -> Result<bool, AllocError> {
     for _ in 0..count {
         add(open, None)?;
@@ -131,7 +131,7 @@ fn add_absent(open: &mut Vec<Open>, count: u32) -> Result<bool, AllocError> {
     Ok(true)
 }
 
-/// Adds so many elements of one field to what is open innermost.
+/// Adds this number of elements of one field to the innermost open one.
 fn add_elements(
     alloc: Global,
     open: &mut Vec<Open>,
@@ -157,7 +157,7 @@ fn end_sequence(alloc: Global, open: &mut Vec<Open>) -> Result<(), AllocError> {
     add(open, Some(Item::Sequence(sequence.elements)))
 }
 
-/// Adds what is written with a count.
+/// Adds a token that is written with a count.
 fn add_counted(
     alloc: Global,
     open: &mut Vec<Open>,
@@ -172,7 +172,7 @@ fn add_counted(
     }
 }
 
-/// Adds a word of a message that is an absent one, an end or a field.
+/// Adds a token of a message that is an absent one, an end or a field.
 fn add_plain(alloc: Global, open: &mut Vec<Open>, word: &str) -> Result<bool, AllocError> {
     match word {
         "-" => add(open, None)?,
@@ -185,12 +185,12 @@ fn add_plain(alloc: Global, open: &mut Vec<Open>, word: &str) -> Result<bool, Al
     Ok(true)
 }
 
-/// Whether a word begins a message, a group or a sequence.
+/// Returns whether a token begins a message, a group or a sequence.
 fn is_opening(word: &str) -> bool {
     matches!(word.as_bytes().first(), Some(b'm' | b'g' | b's'))
 }
 
-/// Adds a word of a message.
+/// Adds a token of a message.
 fn add_word(alloc: Global, open: &mut Vec<Open>, word: &str) -> Result<bool, AllocError> {
     if is_opening(word) {
         open.push(Open::new(alloc))?;
@@ -202,7 +202,7 @@ fn add_word(alloc: Global, open: &mut Vec<Open>, word: &str) -> Result<bool, All
     }
 }
 
-/// Adds the words of a message.
+/// Adds the tokens of a message.
 fn add_words(alloc: Global, open: &mut Vec<Open>, words: &str) -> Result<bool, AllocError> {
     for word in words.split_whitespace() {
         if !add_word(alloc, open, word)? {
@@ -219,13 +219,13 @@ fn slots_of(alloc: Global, words: &str) -> Result<Option<Slots>, AllocError> {
     Ok(if is_read { Some(slots) } else { None })
 }
 
-/// The number of a message's template.
+/// Returns the number of a message's template.
 fn template_of(words: &str) -> Option<u32> {
     let (word, _) = words.split_once(' ').unwrap_or((words, ""));
     word.strip_prefix('m')?.parse().ok()
 }
 
-/// The message of these words, where they are one.
+/// Returns the message of these tokens, if they are one.
 pub fn message_of(alloc: Global, words: &str) -> Result<Option<Message>, AllocError> {
     let slots = slots_of(alloc, words)?;
     Ok(match (template_of(words), slots) {

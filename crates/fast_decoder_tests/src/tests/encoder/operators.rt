@@ -1,9 +1,9 @@
-//! Operators: what stands for a value, and values that nothing stands for.
+//! Operators: the encodings of values, and values that have none.
 
 use super::expect_rows;
 use std::test::Fail;
 
-/// Constants of each family, by themselves, as parts and as lengths; and behind what is copied.
+/// Constants of each type family, by themselves, as parts and as lengths; and after fields under copy.
 const CONSTANTS: &str = r#"
 [[template]]
 name = "all"
@@ -146,7 +146,7 @@ fn copies(rt: HostRuntime) -> Result<(), Fail> {
     expect_rows(&rt, rt.alloc(), COPIES, COPIED_VALUES)
 }
 
-/// Deltas of each family, and copies under their keys.
+/// Deltas of each type family, and copies under their keys.
 const DELTAS: &str = r#"
 [[template]]
 name = "int32"
@@ -258,7 +258,7 @@ fn deltas(rt: HostRuntime) -> Result<(), Fail> {
     expect_rows(&rt, rt.alloc(), DELTAS, DIFFERENCES)
 }
 
-/// Tails of each family, and a copy under the key of one.
+/// Tails of each type family, and a copy under the key of one.
 const TAILS: &str = r#"
 [[template]]
 name = "ascii"

@@ -7,7 +7,7 @@ use fast_value::Limits;
 use std::alloc::{AllocError, Global};
 use std::test::Fail;
 
-/// A row, whose first line is what it shows and the limits, and whose other lines are steps.
+/// A row, whose first line says what it shows and the limits, and whose other lines are steps.
 #[derive(Clone, Copy)]
 pub struct Row<'t> {
     pub name: &'t str,
@@ -30,7 +30,7 @@ impl Row<'_> {
     }
 }
 
-/// A message, or `reset`, and the bytes or the fault that should come of it.
+/// A message, or `reset`, and the expected bytes or fault.
 #[derive(Clone, Copy)]
 pub struct Step<'t> {
     pub words: &'t str,
@@ -50,7 +50,7 @@ impl Step<'_> {
         self.words == "reset"
     }
 
-    /// Whether a fault should come of it.
+    /// Returns whether a fault is expected.
     pub fn is_refused(&self) -> bool {
         is_fault(self.due)
     }
@@ -71,13 +71,13 @@ fn name_of(fault: EncodeFault) -> &'static str {
     }
 }
 
-/// The byte of a word as `C0`, and 146 for `00*146`.
+/// Returns the byte of a token such as `C0`, and 146 for `00*146`.
 fn byte_of(word: &str) -> Option<(u8, u32)> {
     let (digits, times) = word.split_once('*').unwrap_or((word, "1"));
     Some((u8::from_str_radix(digits, 16).ok()?, times.parse().ok()?))
 }
 
-/// Takes a byte so often from the front of the others, as far as it stands there.
+/// Removes a byte this many times from the front of the others. Returns whether it was there that often.
 fn is_taken(rest: &mut &[u8], byte: u8, times: u32) -> bool {
     for _ in 0..times {
         match rest.strip_prefix(&[byte]) {
@@ -88,7 +88,7 @@ fn is_taken(rest: &mut &[u8], byte: u8, times: u32) -> bool {
     true
 }
 
-/// Whether the bytes are those of the words.
+/// Returns whether the bytes are those of the tokens.
 pub fn is_hex(bytes: &[u8], words: &str) -> bool {
     let mut rest = bytes;
     for word in words.split_whitespace() {
@@ -104,7 +104,7 @@ pub fn is_hex(bytes: &[u8], words: &str) -> bool {
     rest.is_empty()
 }
 
-/// Whether this is the answer that is due, with the bytes that were appended.
+/// Returns whether this is the expected result, with the bytes that were appended.
 pub fn is_answer(answer: Result<(), EncodeFault>, bytes: &[u8], due: &str) -> bool {
     match answer {
         Ok(()) => is_hex(bytes, due),
@@ -119,7 +119,7 @@ fn push_times(bytes: &mut Vec<u8>, byte: u8, times: u32) -> Result<(), AllocErro
     Ok(())
 }
 
-/// The bytes of words.
+/// Returns the bytes of tokens.
 pub fn bytes_of(alloc: Global, words: &str) -> Result<Vec<u8>, AllocError> {
     let mut bytes = Vec::new(alloc);
     for word in words.split_whitespace() {
@@ -133,7 +133,7 @@ fn push_word(text: &mut String, word: &str) -> Result<(), AllocError> {
     put(text, &[word, " "])
 }
 
-/// Adds the events of so many elements of one field.
+/// Adds the events of this number of elements of one field.
 fn push_elements(text: &mut String, count: u32, field: &str) -> Result<(), AllocError> {
     for _ in 0..count {
         put(text, &["e ", field, " /e "])?;
@@ -141,7 +141,7 @@ fn push_elements(text: &mut String, count: u32, field: &str) -> Result<(), Alloc
     Ok(())
 }
 
-/// Adds the events of a word of a message; an absent one has none.
+/// Adds the events of a token of a message; an absent one has none.
 fn push_events(text: &mut String, word: &str) -> Result<(), AllocError> {
     match word.split_once('*') {
         Some(("-", _)) => Ok(()),
@@ -154,7 +154,7 @@ fn push_events(text: &mut String, word: &str) -> Result<(), AllocError> {
     }
 }
 
-/// The events of a message, each with a space behind it.
+/// Returns the events of a message, each followed by a space.
 pub fn events_of(alloc: Global, words: &str) -> Result<String, AllocError> {
     let mut text = String::new(alloc);
     for word in words.split_whitespace() {

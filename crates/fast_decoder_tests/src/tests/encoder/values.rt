@@ -6,7 +6,7 @@ use itoa::Buffer;
 use std::alloc::{AllocError, Global};
 use std::test::Fail;
 
-/// A mandatory field of each kind, a decimal by parts, a group, a sequence, and what stands behind them.
+/// A mandatory field of each type, a decimal by parts, a group, a sequence, and the fields after them.
 const KINDS: &str = r#"
 [[template]]
 name = "uInt32"
@@ -61,7 +61,7 @@ name = "nameless"
 fields = [{kind="uInt32", name="p"}]
 "#;
 
-/// What a slot can hold, and slots that are too few and too many.
+/// The contents that a slot can have, and slots that are too few and too many.
 const SHAPES: &[&str] = &[
     "u0=5",
     "i0=5",
@@ -76,7 +76,7 @@ const SHAPES: &[&str] = &[
     "u0=5 u0=5",
 ];
 
-/// Which of these suits each of the first templates.
+/// The index of the shape that suits each of the first templates.
 const SUITS: &[usize] = &[0, 1, 0, 1, 2, 3, 4, 5, 2, 6, 7];
 
 /// Adds a message of a template with this shape, which is refused.
@@ -96,7 +96,7 @@ fn add_unsuited(row: &mut String, template: u32, suits: usize) -> Result<(), All
     Ok(())
 }
 
-/// Messages of all shapes but those that suit, and then one that suits.
+/// Returns messages of all shapes but those that suit, and then one that suits.
 fn unsuited(alloc: Global) -> Result<String, AllocError> {
     let mut row = String::new(alloc);
     put(&mut row, &["another shape | lenient"])?;

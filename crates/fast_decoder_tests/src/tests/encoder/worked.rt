@@ -1,4 +1,4 @@
-//! Messages of a set with templates of every kind.
+//! Messages of a set with templates of every type.
 
 use super::super::limits::wide_text;
 use super::expect_rows;
