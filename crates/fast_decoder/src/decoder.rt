@@ -128,7 +128,7 @@ impl<'t> Decoder<'t> {
         ensures followed { (w : List ℕ) (es : List EventData) → HasRead self.old w es
             → Followed S.takes S.stops (tree self.old) self.old.limits w es piece.now sink.old result self.new
             sink.new }
-        // The call takes at most `1 + turn_cap` turns for each byte that it consumes. A turn is a part settled, or a frame or element
+        // The call makes at most `1 + turn_cap` turns for each byte that it consumes. A turn is a part settled, or a frame or element
         // opened or closed; docs/DEFINITIONS.md says what counts as one.
         ensures turns { turns self.new
             ≤ (self.new.consumed - self.old.consumed) * (1 + turn_cap (tree self.new) self.new.limits) }
