@@ -78,8 +78,8 @@ impl<'t> Machine<'t> {
         Ok(width)
     }
 
-    /// Begins the next element of a sequence, of which a number is still to come, or ends the sequence if none is. An element that begins
-    /// is a turn of its own.
+    /// Begins the next element of a sequence of which `count` elements remain, or ends the sequence if none does. An element that begins is
+    /// a turn of its own.
     #[inline(always)]
     pub fn begin_element<S: Sink>(
         &mut self,

@@ -126,7 +126,7 @@ impl<'t> Machine<'t> {
         }
     }
 
-    /// Begins the next element of a sequence, of which a number is still to come, or ends the sequence if none is.
+    /// Begins the next element of a sequence of which `count` elements remain, or ends the sequence if none does.
     #[inline(always)]
     fn next_element<S: Sink>(
         &mut self,

@@ -62,7 +62,7 @@ impl Error for Stop {}
 pub trait Sink {
     ghost use Rattle.fast_stream.specs.meaning.Events.{EventData};
 
-    // The old sink, an event and the new sink: if the sink accepts the event, and if it stops at it.
+    // Relates the old sink, an event and the new sink: `takes` if the sink accepts the event, `stops` if it stops at it.
     ghost takes: { Self → EventData → Self → Type 0 };
 
     ghost stops: { Self → EventData → Self → Type 0 };

@@ -34,7 +34,7 @@ pub fn reading_is_the_stream()
         → Stream t l w (reading t l w).0 (end_of (reading t l w).1) }
 {}
 
-/// Bytes in two pieces: the second piece is read from where the first has led.
+/// Bytes may be read in two pieces: the second is read from the state after the first.
 pub fn reading_in_pieces()
     ensures { (t : Tree) (l : Limits) (w v : List ℕ)
         → ((reading t l (w ++ v)).0 ≡ (reading t l w).0 ++ (run (message_begun t l) (length w) (reading t l w).1 v).0)

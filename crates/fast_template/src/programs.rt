@@ -25,7 +25,7 @@ impl Templates {
         &self.program.ops
     }
 
-    /// Returns where the messages of template `i` start.
+    /// Returns the start of the messages of template `i`.
     #[inline(always)]
     pub fn start_of(&self, i: u32) -> &Start
         requires { i < length (templates_of self.now) }
@@ -36,7 +36,7 @@ impl Templates {
         &self.program.template_starts[i as usize]
     }
 
-    /// Returns where the body of node `n` begins in the program: that of a group, or of an element of a sequence.
+    /// Returns the index in the program at which the body of node `n` begins: that of a group, or of an element of a sequence.
     #[inline]
     pub fn body_start(&self, n: u32) -> usize
         requires { n < length (nodes_of self.now) }

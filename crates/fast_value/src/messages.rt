@@ -7,7 +7,7 @@ use crate::values::Value;
 pub struct Message {
     /// The number of the template in its set, from 0.
     pub template: u32,
-    /// One slot for each instruction of the template, in order; `None` where it is absent.
+    /// One slot for each instruction of the template, in order; `None` if it is absent.
     pub items: Vec<Option<Item>>,
 }
 
