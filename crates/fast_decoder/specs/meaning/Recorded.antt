@@ -1,4 +1,4 @@
--- What a recorder keeps.
+-- The events that a recorder keeps.
 use Rattle.std.specs.Prelude.{List, map}
 use Rattle.fast_value.specs.meaning.Values.{value_data}
 use Rattle.fast_stream.specs.meaning.Events.{EventData, MessageStart, FieldValue, GroupStart, GroupEnd, SequenceStart, ElementStart, ElementEnd, SequenceEnd, MessageEnd}
@@ -6,7 +6,7 @@ use Rattle.fast_decoder.specs.declared.recorder.Recorded.{Recorded}
 use Rattle.fast_decoder.specs.declared.recorder.Recorded.TheVariants as Kept
 use Rattle.fast_decoder.specs.declared.recorder.Recorder.{Recorder}
 
--- what a kept event says
+-- the data of a kept event
 abbrev pub recorded_data : Recorded → EventData
 recorded_data (Kept.MessageStart template) = MessageStart template
 recorded_data (Kept.Field node value) = FieldValue node (value_data value)
