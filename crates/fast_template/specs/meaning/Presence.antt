@@ -1,4 +1,4 @@
--- Which instructions may be absent.
+-- Which instructions are optional.
 use Rattle.std.specs.Prelude.{Bool}
 use Rattle.fast_tree.specs.declared.instructions.Shape.{Shape}
 use Rattle.fast_tree.specs.declared.instructions.Shape.TheVariants.{Field, Decimal, Group, Sequence}

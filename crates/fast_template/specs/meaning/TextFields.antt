@@ -1,4 +1,4 @@
--- Fields whose values are texts, by the dictionary entries that they read and write.
+-- String and byte vector fields, by the dictionary entries that they read and write.
 use Rattle.std.specs.Prelude.{◌≡◌, ◌⊎◌, ℕ, Some, Any}
 use Rattle.fast_value.specs.meaning.Kinds.{family, texts}
 use Rattle.fast_tree.specs.declared.instructions.Shape.{Shape}
