@@ -1,4 +1,4 @@
--- The numbers and the names of what can be wrong with a stream.
+-- The numbers and the names of the errors of a stream.
 use Rattle.std.specs.Prelude.{ℕ, List, codes}
 use Rattle.fast_value.specs.declared.codes.Code.{Code}
 use Rattle.fast_value.specs.declared.codes.Code.TheVariants.{D2, D4, D5, D6, D7, D9, R1, R2, R6, R7, R8, R9, L1, L2, L3, L5}

@@ -1,11 +1,11 @@
--- Kinds, which are those of the Rust enum, and what values hold.
+-- Types, which are those of the Rust enum `Kind`, and the data of values.
 use Rattle.std.specs.Prelude.{ℕ, ◌<◌, ◌≤◌, ◌^◌, Bool, true, false, List, [], length, All, IsUtf8, ℤ, pos}
 use Rattle.fast_value.specs.declared.settings.Limits.{Limits}
 use Rattle.fast_value.specs.declared.kinds.Kind.{Kind}
 use Rattle.fast_value.specs.declared.kinds.Kind.TheVariants.{UInt32, Int32, UInt64, Int64, Decimal, Ascii, Unicode, Bytes}
 pub use Rattle.fast_wire.specs.meaning.Integers.{Range, unsigned_range, signed_range, exponent_range, delta_range, IsWithin}
 
--- What a value holds, lent or owned. A decimal has its exponent first.
+-- The data of a value, borrowed or owned. A decimal has its exponent first.
 -- FAST 1.1: Template Definition, Primitive Field Types.
 pub data ScalarData : Type 0 where
   U : ℕ → ScalarData
@@ -15,13 +15,14 @@ pub data ScalarData : Type 0 where
   UnicodeText : List ℕ → ScalarData
   ByteVector : List ℕ → ScalarData
 
--- How the operators see the kinds: four kinds of integers, decimals, three kinds of texts.
+-- The families of types that the operators distinguish: four integer types, decimals, and three string types: ASCII, Unicode and byte
+-- vectors.
 pub data Family : Type 0 where
   integers : Range → Family
   decimals : Family
   texts : Family
 
--- the family of a kind
+-- the family of a type
 -- FAST 1.1: Template Definition, Primitive Field Types.
 abbrev pub family : Kind → Family
 family UInt32 = integers (unsigned_range 32)
@@ -33,27 +34,27 @@ family Ascii = texts
 family Unicode = texts
 family Bytes = texts
 
--- an integer as a value of an integer kind
+-- an integer as a value of an integer type
 -- FAST 1.1: Template Definition, Primitive Field Types.
 abbrev pub value_of_integer : Kind → ℤ → ScalarData
 value_of_integer UInt32 (pos n) = U n
 value_of_integer UInt64 (pos n) = U n
 value_of_integer kind x = I x
 
--- a text as a value of a text kind
+-- a string as a value of a string type
 -- FAST 1.1: Template Definition, Primitive Field Types.
 abbrev pub value_of_text : Kind → List ℕ → ScalarData
 value_of_text Unicode v = UnicodeText v
 value_of_text Bytes v = ByteVector v
 value_of_text kind v = AsciiText v
 
--- the integer of a value (0 if it has none), and the text (empty if it has none)
+-- the integer of a value, 0 if it has none
 abbrev pub integer_of : ScalarData → ℤ
 integer_of (U n) = pos n
 integer_of (I x) = x
 integer_of v = pos 0
 
--- the text of a value, empty if it has none
+-- the string of a value, empty if it has none
 abbrev pub text_of : ScalarData → List ℕ
 text_of (AsciiText v) = v
 text_of (UnicodeText v) = v
@@ -70,7 +71,7 @@ abbrev pub mantissa_of : ScalarData → ℤ
 mantissa_of (Dec e m) = m
 mantissa_of v = pos 0
 
--- The value is one of the kind: in its range, a text no longer than `max_text`, ASCII below 128, Unicode in UTF-8.
+-- The value is one of the type: in its range, a string no longer than `max_text`, ASCII below 128, Unicode in UTF-8.
 -- FAST 1.1: Template Definition, Primitive Field Types.
 abbrev pub IsOfKind : Limits → Kind → ScalarData → Type 0
 IsOfKind l UInt32 (U n) = n < 2 ^ 32
@@ -83,7 +84,7 @@ IsOfKind l Unicode (UnicodeText v) = (length v ≤ l.max_text) × IsUtf8 v
 IsOfKind l Bytes (ByteVector v) = length v ≤ l.max_text
 IsOfKind l kind v = ⊥
 
--- the two kinds are one
+-- the two types are the same
 abbrev pub same_kind : Kind → Kind → Bool
 same_kind UInt32 UInt32 = true
 same_kind Int32 Int32 = true

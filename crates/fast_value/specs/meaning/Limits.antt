@@ -2,7 +2,7 @@
 use Rattle.std.specs.Prelude.{ℕ, Bool, false}
 use Rattle.fast_value.specs.declared.settings.Limits.{Limits}
 
--- the limits that are kept to where no others are asked for
+-- the limits that apply if no others are given
 abbrev pub default_limits : Limits
 default_limits = record { strict = false; max_text = 1024; max_elements = 1000; max_total = 1000 }
 
@@ -10,7 +10,7 @@ default_limits = record { strict = false; max_text = 1024; max_elements = 1000; 
 abbrev pub in_mode : Bool → Limits → Limits
 in_mode b l = record l { strict = b }
 
--- What of the limits does not depend on the mode. The grammar of messages looks at no more than this.
+-- The limits without their mode. The grammar of messages depends on no more than this.
 pub record Bounds : Type 0 where
   pub max_text : ℕ
   pub max_elements : ℕ

@@ -1,10 +1,10 @@
--- Messages as trees. A list of slots has one for each instruction of a segment, in order, and an absent one holds
--- nothing. These are what the Rust types Message and Item hold, without their memory.
+-- Messages as trees. A list of slots has one for each instruction of a segment, in order, and an absent one is empty. These are the data of
+-- the Rust types Message and Item, without their memory.
 use Rattle.std.specs.Prelude.{ℕ, suc, ◌+◌}
 use Rattle.fast_value.specs.meaning.Kinds.{ScalarData}
 
 mutual
-  -- what a slot holds: a value, a group or a sequence
+  -- the contents of a slot: a value, a group or a sequence
   pub data ItemData : Type 0 where
     one : ScalarData → ItemData
     group : Slots → ItemData

@@ -1,11 +1,11 @@
--- What the values of the Rust types hold, lent or owned.
+-- The data of the Rust types of values, borrowed or owned.
 use Rattle.fast_value.specs.meaning.Kinds.{ScalarData, U, I, Dec, AsciiText, UnicodeText, ByteVector}
 use Rattle.fast_value.specs.declared.values.Scalar.{Scalar}
 use Rattle.fast_value.specs.declared.values.Scalar.TheVariants as Lent
 use Rattle.fast_value.specs.declared.values.Value.{Value}
 use Rattle.fast_value.specs.declared.values.Value.TheVariants as Owned
 
--- what a lent value holds
+-- the data of a borrowed value
 abbrev pub scalar_data : Scalar → ScalarData
 scalar_data (Lent.U n) = U n
 scalar_data (Lent.I x) = I x
@@ -14,7 +14,7 @@ scalar_data (Lent.Ascii v) = AsciiText v.now
 scalar_data (Lent.Unicode v) = UnicodeText v.now
 scalar_data (Lent.Bytes v) = ByteVector v.now
 
--- what an owned value holds
+-- the data of an owned value
 abbrev pub value_data : Value → ScalarData
 value_data (Owned.U n) = U n
 value_data (Owned.I x) = I x
