@@ -1,4 +1,4 @@
--- What a machine stands for: a stack of open segments, and where it is in the innermost.
+-- The state of a machine as a stack of open segments, with its position in the innermost.
 use Rattle.std.specs.Prelude.{ℕ, zero, suc, Bool, List, [], ◌∷◌}
 use Rattle.fast_value.specs.meaning.Limits.{Bounds}
 use Rattle.fast_tree.specs.meaning.Tree.{Body}
@@ -8,8 +8,8 @@ use Rattle.fast_stream.specs.meaning.Messages.{Context, State, own_bits}
 use Rattle.fast_stream.specs.meaning.Grammar.{Grammar, give, hand, ◌>>=◌}
 use Rattle.fast_stream.specs.device.Continuations.{segment_then, elements_then, body_then}
 
--- An open group or element: what comes behind it in the segment around it, and the bits that are left there; of an
--- element also how many more come, and what each holds.
+-- An open group or element: the instructions after it in the segment around it, and the bits that are left there; of an element also the
+-- number of elements that follow, and the body of each.
 pub data Frame : Type 0 where
   open_group : Body → List Bool → Frame
   open_element : ℕ → Body → Body → List Bool → Frame
@@ -30,7 +30,7 @@ resume l fs rest s = body_then l rest s (λ r. unwind l fs r.context)
 abbrev pub opened : Bounds → List Frame → Body → Context → Grammar Dictionary
 opened l fs body c = own_bits body >>= (λ b. resume l fs body (record { context = c; bits = b }))
 
--- a sequence that goes on with so many elements
+-- a sequence of which n elements remain
 abbrev pub elements_turn : Bounds → List Frame → ℕ → Body → Body → State → Grammar Dictionary
 elements_turn l fs zero body is s = hand SequenceEnd (resume l fs is s)
 elements_turn l fs (suc n) body is s = hand ElementStart (opened l (open_element n body is s.bits ∷ fs) body s.context)

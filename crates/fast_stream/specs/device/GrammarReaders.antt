@@ -21,24 +21,24 @@ abbrev pub settles_reader : {A : Type 0} → Result A Code → Reader A
 settles_reader (Ok a) = Done a
 settles_reader (Err c) = Stop c
 
--- an entity, of which a front is read, and of which at most n bytes are to come
+-- an entity, of which a prefix has been read, and of which at most n bytes follow
 abbrev pub entity_reader : Code → ℕ → List ℕ → Reader (List ℕ)
 entity_reader c zero front = Stop c
 entity_reader c (suc n) front = Byte (λ b. if nat_le 128 b then Done (front ++ b ∷ []) else entity_reader c n (front ++ b ∷ []))
 
--- the same as a phrase
+-- an entity, of which a prefix has been read, as a phrase
 abbrev pub entity_phrase : Code → ℕ → List ℕ → List ℕ → List EventData → Reached (List ℕ) → Type 0
 entity_phrase c n front w es (whole m) = IsEntity w × (length w ≤ n) × (m ≡ front ++ w) × (es ≡ [])
 entity_phrase c n front w es cut = HaveNoStop w × (length w < n) × (es ≡ [])
 entity_phrase c n front w es (wrong d) = HaveNoStop w × (length w ≡ n) × (d ≡ c) × (es ≡ [])
 
--- without its first byte the entity stands for the same number
+-- without its first byte the entity encodes the same number
 abbrev pub overlong : (List ℕ → ℤ) → List ℕ → Bool
 overlong v [] = false
 overlong v (first ∷ []) = false
 overlong v (first ∷ second ∷ rest) = int_eq (v (second ∷ rest)) (v (first ∷ second ∷ rest))
 
--- what a nullable integer means
+-- the value of a nullable integer
 abbrev pub lowered : Bool → ℤ → Option ℤ
 lowered false n = Some n
 lowered true (pos zero) = None
@@ -49,12 +49,12 @@ lowered true (negsuc n) = Some (negsuc n)
 abbrev pub within : Range → ℤ → Bool
 within range x = int_le range.low x && int_le x range.high
 
--- an integer in its range, or the fault that is named
+-- an integer in its range, or the fault `outside`
 abbrev pub fitting : Range → Code → Option ℤ → Result (Option ℤ) Code
 fitting range outside None = Ok None
 fitting range outside (Some x) = if within range x then Ok (Some x) else Err outside
 
--- what a whole entity says as an integer
+-- the result of a complete entity as an integer
 unfoldable pub judged : Bool → Range → Bool → Code → List ℕ → Result (Option ℤ) Code
 judged strict range nullable outside w = if strict && overlong (value range) w then Err R6 else fitting range outside (lowered nullable (value range w))
 
@@ -69,7 +69,7 @@ spare (a ∷ []) = false
 spare (a ∷ b ∷ []) = nat_eq (b % 128) 0
 spare (a ∷ b ∷ c ∷ w) = spare (b ∷ c ∷ w)
 
--- what a whole entity says as a presence map
+-- the result of a complete entity as a presence map
 unfoldable pub judged_map : Bool → List ℕ → Result (List ℕ) Code
 judged_map strict w = if strict && spare w then Err R7 else Ok w
 
@@ -77,31 +77,31 @@ judged_map strict w = if strict && spare w then Err R7 else Ok w
 unfoldable pub presence_map_reader : Bool → Reader (List ℕ)
 presence_map_reader strict = bind (entity_reader L3 map_limit []) (λ w. settles_reader (judged_map strict w))
 
--- so many bytes more, behind a front
+-- n bytes more, after a prefix
 abbrev pub raw_reader : ℕ → List ℕ → Reader (List ℕ)
 raw_reader zero front = Done front
 raw_reader (suc n) front = Byte (λ b. raw_reader n (front ++ b ∷ []))
 
--- a text of which a front is read, that has room for n more characters, at the byte b
+-- a string of which a prefix has been read, with room for n more characters, at the byte b
 abbrev pub characters_reader : ℕ → List ℕ → ℕ → Reader (Option (List ℕ))
 characters_reader zero front b = Stop L1
 characters_reader (suc n) front b = if nat_le 128 b then Done (Some (front ++ (b - 128) ∷ [])) else Byte (characters_reader n (front ++ b ∷ []))
 
--- a text behind a first zero, which is the empty text or a fault
+-- a string after a zero in front, which is the empty string or a fault
 abbrev pub after_zero_reader : Bool → Reader (Option (List ℕ))
 after_zero_reader false = Stop R9
 after_zero_reader true = Byte (λ b. if nat_eq b 0x80 then Done (Some []) else Stop R9)
 
--- a text of one byte, 0x80
+-- a string of one byte, 0x80
 abbrev pub bare_stop : Bool → Option (List ℕ)
 bare_stop false = Some []
 bare_stop true = None
 
--- a text at its first byte
+-- a string at its first byte
 abbrev pub first_character_reader : Bool → ℕ → ℕ → Reader (Option (List ℕ))
 first_character_reader nullable room b = if nat_eq b 0 then after_zero_reader nullable else if nat_eq b 0x80 then Done (bare_stop nullable) else characters_reader room [] b
 
--- an ASCII text
+-- an ASCII string
 unfoldable pub ascii_text_reader : Bool → ℕ → Reader (Option (List ℕ))
 ascii_text_reader nullable room = Byte (first_character_reader nullable room)
 

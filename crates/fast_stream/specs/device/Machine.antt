@@ -1,5 +1,5 @@
--- A machine's state as first-order data, and the reader that it stands for: the open segments, the unit that is being
--- read, as the term that begins with it, and the bytes of this unit that have come.
+-- A machine's state as first-order data, and the reader that it stands for: the open segments, the unit that is being read, as the term
+-- that begins with it, and the bytes of this unit that have been read.
 use Rattle.std.specs.Prelude.{ℕ, ◌-◌, Bool, true, false, List, [], ◌∷◌, ℤ, Some}
 use Rattle.fast_wire.specs.meaning.Maps.{bits}
 use Rattle.fast_wire.specs.meaning.Integers.{delta_range}
@@ -19,16 +19,16 @@ use Rattle.fast_stream.specs.device.Continuations.{handed_then, mantissa_after_t
 use Rattle.fast_stream.specs.device.Running.{Position, at_start, amid, at_fault, after_byte}
 use Rattle.fast_stream.specs.device.Frames.{Frame, resume}
 
--- what a field's value is for, and the instructions behind it
+-- the use of a field's value, and the instructions after it
 pub data Purpose : Type 0 where
-  -- the identifier, behind a message's map
+  -- the identifier, after a message's map
   for_identifier : List ℕ → Purpose
   for_scalar : ℕ → Body → Purpose
   for_exponent : ℕ → FieldData → Body → Purpose
   for_mantissa : ℕ → ℤ → Body → Purpose
   for_length : ℕ → Body → Body → Purpose
 
--- what is done with the value
+-- the rest of the message after the value
 unfoldable pub serve : Tree → Bounds → List Frame → Purpose → Found → Grammar Dictionary
 serve t l fs (for_identifier m) r = message_behind_then t l m r
 serve t l fs (for_scalar n is) r = handed_then n (resume l fs is) r.0 r.1
@@ -36,7 +36,7 @@ serve t l fs (for_exponent n mantissa is) r = mantissa_after_then l n mantissa (
 serve t l fs (for_mantissa n e is) r = handed_then n (resume l fs is) (decimal_with e r.0) r.1
 serve t l fs (for_length n body is) r = sequence_from_then l n (segment_then body (body_then l body)) (resume l fs is) r
 
--- which unit of a field it is: the first one, or one behind what the units before have said
+-- the unit of a field: the first one, or a later one with the values of the units before it
 pub data Stage : Type 0 where
   first : Bool → Stage
   behind_size : ℕ → Stage
@@ -54,24 +54,24 @@ stage_term l f p (behind_exponent_delta e) = integer delta_range false D2 (manti
 stage_term l f p (behind_kept kept) = text f.kind false (l.max_text - kept_length kept) >>= part_change f p kept
 stage_term l f p (behind_part_size kept n) = raw n (λ v. part_change f p kept (Some v))
 
--- where a machine waits inside a message: in the message's map, in a segment's, in a field
+-- the unit inside a message for which a machine waits: the message's map, a segment's, or one of a field
 pub data Waiting : Type 0 where
   in_map : Dictionary → Waiting
   in_segment_map : Body → Context → Waiting
   in_field : FieldData → Purpose → State → Stage → Waiting
 
--- the term that is still to be read, from the unit in hand on
+-- the rest of the message as a term, from the partial unit on
 unfoldable pub term_of : Tree → Bounds → List Frame → Waiting → Grammar Dictionary
 term_of t l fs (in_map d) = message_then t l d
 term_of t l fs (in_segment_map body c) = presence_map (λ m. narrow (bits_of body) m (resume l fs body (record { context = c; bits = bits m })))
 term_of t l fs (in_field f purpose s stage) = stage_term l f (previous_at f.entry s.context.dictionary) stage >>= (λ o. serve t l fs purpose (found f s o))
 
--- what a reader is after these bytes, if it waits for each of them
+-- the reader after these bytes, if it waits for each of them
 abbrev pub after_bytes : {A : Type 0} → Reader A → List ℕ → Reader A
 after_bytes r [] = r
 after_bytes r (b ∷ w) = after_bytes (after_byte r b) w
 
--- a machine: between messages, in a unit of which these bytes have come, or at a fault
+-- a machine: between messages, in a unit of which these bytes have been read, or at a fault
 pub data Machine : Type 0 where
   idle : Dictionary → Machine
   busy : List Frame → Waiting → List ℕ → Machine
@@ -81,7 +81,7 @@ pub data Machine : Type 0 where
 abbrev pub stands_for : Tree → Limits → List Frame → Waiting → List ℕ → Reader Dictionary
 stands_for t l fs u front = after_bytes (reader_of l.strict (term_of t (bounds l) fs u)) front
 
--- where a machine stands in the stream
+-- the position of a machine in the stream
 abbrev pub position : Tree → Limits → Machine → Position Dictionary
 position t l (idle d) = at_start d
 position t l (busy fs u front) = amid (after_byte (stands_for t l fs u front))

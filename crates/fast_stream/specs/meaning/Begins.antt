@@ -1,4 +1,4 @@
--- How many messages are begun in the bytes of a stream, and bodies in two parts.
+-- The number of messages that the bytes of a stream begin, and bodies in two parts.
 use Rattle.std.specs.Prelude.{◌≡◌, ℕ, suc, ◌<◌, List, ◌++◌, length}
 use Rattle.fast_value.specs.declared.settings.Limits.{Limits}
 use Rattle.fast_value.specs.meaning.Messages.{MessageData}
@@ -9,7 +9,7 @@ use Rattle.fast_stream.specs.meaning.Phrases.{cut, wrong}
 use Rattle.fast_stream.specs.meaning.Messages.{message}
 use Rattle.fast_stream.specs.meaning.Streams.{End, between, inside, faulted, SpellsAll}
 
--- So many messages have at least a byte: whole ones, and then perhaps one that is cut short or wrong.
+-- n messages have at least a byte: complete ones, and then perhaps one that is truncated or wrong.
 abbrev pub Begins : Tree → Limits → List ℕ → End → ℕ → Type 0
 Begins t l w between n = (ms : List MessageData) × (d : Dictionary) × SpellsAll t l (fresh t.entries) ms w d × (n ≡ length ms)
 Begins t l w inside n =

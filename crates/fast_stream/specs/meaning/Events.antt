@@ -1,10 +1,10 @@
--- What a sink takes, and the events of a whole message. In the product Event is the view of the Rust enum.
+-- The events that a sink receives, and those of a complete message. In the code Event is the view of the Rust enum.
 use Rattle.std.specs.Prelude.{ℕ, List, [], ◌∷◌, ◌++◌, slice_get, Option, Some, None}
 use Rattle.fast_value.specs.meaning.Kinds.{ScalarData}
 use Rattle.fast_value.specs.meaning.Messages.{ItemData, one, group as group_item, sequence as sequence_item, Slots, no_slots, absent, present, Elements, no_elements, element, MessageData, count}
 use Rattle.fast_tree.specs.meaning.Tree.{Instruction, field, parts, group, sequence, Body, end, step, TemplateData, Tree}
 
--- what a sink is handed
+-- an event that a sink receives
 pub data EventData : Type 0 where
   MessageStart : ℕ → EventData
   FieldValue : ℕ → ScalarData → EventData
@@ -50,7 +50,7 @@ unfoldable mutual
   body_events (step i is) (absent vs) = body_events is vs
   body_events (step i is) (present x vs) = item_events i x ++ body_events is vs
 
--- the message of a template, which is there
+-- the message of a template, if there is one
 abbrev pub template_events : ℕ → Option TemplateData → Slots → List EventData
 template_events n None vs = []
 template_events n (Some t) vs = MessageStart n ∷ body_events t.body vs ++ MessageEnd ∷ []

@@ -1,4 +1,4 @@
--- The numbers and the names of why a decoder stops, and the numbers of why none is made.
+-- The numbers and the names of the reasons why a decoder stops, and the numbers of those why none is made.
 use Rattle.std.specs.Prelude.{ℕ, List, codes}
 use Rattle.fast_value.specs.meaning.Codes.{stream_code_number, stream_code_text}
 use Rattle.fast_stream.specs.declared.faults.FaultCode.{FaultCode}
@@ -18,7 +18,7 @@ code_text (Stream c) = stream_code_text c
 code_text L4 = codes "L4"
 code_text SinkStopped = codes "SinkStopped"
 
--- The number of a cause for which no decoder is made. 3 is free.
+-- The number of a reason why no decoder is made. 3 is free.
 abbrev pub cause_number : MakeError → ℕ
 cause_number BadLimits = 1
 cause_number InitialTooLong = 2

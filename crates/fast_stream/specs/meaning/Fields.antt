@@ -21,19 +21,19 @@ abbrev pub sized : ℕ → Option ℤ → Grammar (Option (List ℕ))
 sized room None = give None
 sized room (Some n) = of_result (if nat_le (nat_abs n) room then Ok (nat_abs n) else Err L1) >>= (λ size. raw size (λ v. give (Some v)))
 
--- A text of a kind of texts, or a part of one: as ASCII, or as a vector, which has its size in front.
+-- A string of a string type, or a part of one: as ASCII, or as a vector, which has its size in front.
 -- FAST 1.1: Transfer Encoding, ASCII Strings, Unicode Strings and Byte Vectors.
 abbrev pub text : Kind → Bool → ℕ → Grammar (Option (List ℕ))
 text Ascii nullable room = ascii_text nullable room give
 text kind nullable room = integer (unsigned_range 32) nullable D2 (sized room)
 
--- an integer, or NULL, as an item of an integer kind
+-- an integer, or NULL, as an item of an integer type
 -- FAST 1.1: Transfer Encoding, Nullable Types.
 abbrev pub sent_integer : Kind → Option ℤ → Sent
 sent_integer kind None = null
 sent_integer kind (Some x) = value (value_of_integer kind x)
 
--- a text, or NULL, as an item of a text kind
+-- a string, or NULL, as an item of a string type
 -- FAST 1.1: Transfer Encoding, Nullable Types.
 abbrev pub sent_text : Kind → Option (List ℕ) → Sent
 sent_text kind None = null
@@ -45,37 +45,37 @@ abbrev pub sent_decimal : ℤ → Option ℤ → Sent
 sent_decimal e None = null
 sent_decimal e (Some m) = value (Dec e m)
 
--- a decimal behind its exponent
+-- a decimal after its exponent
 -- FAST 1.1: Transfer Encoding, Scaled Numbers; Error Codes, R1.
 abbrev pub decimal_from : Option ℤ → Grammar Sent
 decimal_from None = give null
 decimal_from (Some e) = integer (signed_range 63) false R1 (λ m. give (sent_decimal e m))
 
--- the same in each family
+-- an item of each family
 -- FAST 1.1: Transfer Encoding, Field Instructions.
 abbrev pub item_in : Family → Bounds → FieldData → Grammar Sent
 item_in (integers range) l f = integer range f.optional D2 (λ x. give (sent_integer f.kind x))
 item_in decimals l f = integer exponent_range f.optional R1 decimal_from
 item_in texts l f = text f.kind f.optional l.max_text >>= (λ v. give (sent_text f.kind v))
 
--- a value of the field's kind, or NULL
+-- a value of the field's type, or NULL
 -- FAST 1.1: Transfer Encoding, Field Instructions.
 abbrev pub item : Bounds → FieldData → Grammar Sent
 item l f = item_in (family f.kind) l f
 
--- An integer behind its delta. NULL is absent, and leaves the previous value as it is: so in all deltas.
+-- An integer after its delta. NULL is absent, and leaves the previous value unchanged, as in all deltas.
 -- FAST 1.1: Template Definition, Delta Operator.
 abbrev pub integer_change : FieldData → PreviousData → Option ℤ → Grammar Outcome
 integer_change f p None = of_result (gives_none p)
 integer_change f p (Some k) = of_result (integer_step f p k)
 
--- a decimal behind its mantissa delta
+-- a decimal after its mantissa delta
 -- FAST 1.1: Template Definition, Delta Operator.
 abbrev pub mantissa_change : FieldData → PreviousData → ℤ → Option ℤ → Grammar Outcome
 mantissa_change f p e None = of_result (gives_none p)
 mantissa_change f p e (Some j) = of_result (mantissa_step f p e j)
 
--- the mantissa delta behind the exponent delta
+-- the mantissa delta after the exponent delta
 -- FAST 1.1: Template Definition, Delta Operator.
 abbrev pub decimal_change : FieldData → PreviousData → Option ℤ → Grammar Outcome
 decimal_change f p None = of_result (gives_none p)
@@ -83,13 +83,13 @@ decimal_change f p (Some k) =
     of_result (exponent_step f p k) >>= (λ e.
     integer delta_range false D2 (mantissa_change f p e))
 
--- a text behind the part of its delta
+-- a string after the part of its delta
 -- FAST 1.1: Template Definition, Delta Operator.
 abbrev pub part_change : FieldData → PreviousData → Kept → Option (List ℕ) → Grammar Outcome
 part_change f p kept None = of_result (gives_none p)
 part_change f p kept (Some part) = of_result (text_step f kept part)
 
--- the part behind the subtraction length
+-- the part after the subtraction length
 -- FAST 1.1: Template Definition, Delta Operator.
 abbrev pub text_change : Bounds → FieldData → PreviousData → Option ℤ → Grammar Outcome
 text_change l f p None = of_result (gives_none p)
@@ -109,7 +109,7 @@ change_in texts l f p = integer (signed_range 31) f.optional D7 (text_change l f
 abbrev pub change : Bounds → FieldData → PreviousData → Grammar Outcome
 change l f p = change_in (family f.kind) l f p
 
--- a field that stands in the stream
+-- a field that is in the stream
 -- FAST 1.1: Template Definition, Field Operators.
 abbrev pub sent : Bounds → FieldData → PreviousData → Grammar Outcome
 sent l f p = item l f >>= (λ x. of_result (decide f p true x))
@@ -119,7 +119,7 @@ sent l f p = item l f >>= (λ x. of_result (decide f p true x))
 abbrev pub not_sent : FieldData → PreviousData → Bool → Grammar Outcome
 not_sent f p bit = of_result (decide f p bit nothing)
 
--- the field under its operator: which of these it is
+-- the field under its operator, which is one of these
 -- FAST 1.1: Template Definition, Field Operators.
 abbrev pub field_by : Operator → Bool → Bounds → FieldData → PreviousData → Grammar Outcome
 field_by no_operator bit l f p = sent l f p
@@ -128,16 +128,16 @@ field_by Constant bit l f p = not_sent f p bit
 field_by operator true l f p = sent l f p
 field_by operator false l f p = not_sent f p false
 
--- The field under its previous value and its presence bit (which is taken as set where it uses none).
+-- The field under its previous value and its presence bit (which counts as set if it uses none).
 -- FAST 1.1: Transfer Encoding, Field Instructions.
 unfoldable pub field_term : Bounds → FieldData → PreviousData → Bool → Grammar Outcome
 field_term l f p bit = field_by f.operator bit l f p
 
--- the same as a phrase
+-- the field as a phrase
 abbrev pub field_phrase : Limits → FieldData → PreviousData → Bool → Phrase Outcome
 field_phrase l f p bit = phrase_of l.strict (field_term (bounds l) f p bit)
 
--- The bytes spell the value, or absence, of the field; of the dictionary its entry alone changes.
+-- The bytes encode the value, or absence, of the field; of the dictionary its entry alone changes.
 -- FAST 1.1: Transfer Encoding, Field Instructions.
 abbrev pub SpellsField : Limits → FieldData → Dictionary → Bool → Option ScalarData → List ℕ → Dictionary → Type 0
 SpellsField l f d bit v w d' = (next : PreviousData) × field_phrase l f (previous_at f.entry d) bit w [] (whole (record { value = v; next = next })) × (d' ≡ write_at f.entry next d)

@@ -1,5 +1,5 @@
--- The grammar of messages as terms: units that are read one after the other, with events on the way. From a term come
--- the phrase that it says and the reader that reads it.
+-- The grammar of messages as terms: units that are read one after the other, with events on the way. A term gives both its phrase and the
+-- reader that reads it.
 use Rattle.std.specs.Prelude.{ℕ, Bool, List, ℤ, Option, Result, Ok, Err}
 use Rattle.fast_wire.specs.meaning.Integers.{Range}
 use Rattle.fast_value.specs.declared.codes.Code.{Code}
@@ -7,23 +7,23 @@ use Rattle.fast_stream.specs.meaning.Events.{EventData}
 use Rattle.fast_stream.specs.meaning.Phrases.{Reached, gives, hands, settles, ◌followed_by◌}
 use Rattle.fast_stream.specs.meaning.Units
 
--- what is read, and then a result
+-- a term: the units that are read, and then a result
 pub data Grammar (A : Type 0) : Type 0 where
   -- no more is read: this is the result
   give : A → Grammar A
   -- the bytes so far are wrong
   fault : Code → Grammar A
-  -- an event is handed over
+  -- an event is emitted
   hand : EventData → Grammar A → Grammar A
-  -- an integer in a range, or NULL where it may be; outside the range it is the fault that is named
+  -- an integer in a range, or NULL if nullable; outside the range it is the named fault
   integer : Range → Bool → Code → (Option ℤ → Grammar A) → Grammar A
-  -- an ASCII text of at most so many characters, or NULL where it may be
+  -- an ASCII string of at most this many characters, or NULL if nullable
   ascii_text : Bool → ℕ → (Option (List ℕ) → Grammar A) → Grammar A
-  -- so many bytes, whatever they are
+  -- this many bytes of any value
   raw : ℕ → (List ℕ → Grammar A) → Grammar A
   -- a presence map
   presence_map : (List ℕ → Grammar A) → Grammar A
-  -- in strict mode a map has no more bytes than so many bits can want
+  -- in strict mode a map has no more bytes than this many bits need
   narrow : ℕ → List ℕ → Grammar A → Grammar A
 
 -- one term after the other
@@ -43,7 +43,7 @@ abbrev pub of_result : {A : Type 0} → Result A Code → Grammar A
 of_result (Ok a) = give a
 of_result (Err c) = fault c
 
--- what a term says of bytes and events, in strict mode or not
+-- the phrase of a term: its bytes and events, in strict mode or not
 abbrev pub phrase_of : {A : Type 0} → Bool → Grammar A → List ℕ → List EventData → Reached A → Type 0
 phrase_of s (give a) = gives a
 phrase_of {A = A} s (fault c) = settles {A = A} (Err c)

@@ -1,10 +1,10 @@
--- What the events of the Rust types say.
+-- The data of the events of the Rust types.
 use Rattle.fast_value.specs.meaning.Values.{scalar_data}
 use Rattle.fast_stream.specs.meaning.Events.{EventData, MessageStart, FieldValue, GroupStart, GroupEnd, SequenceStart, ElementStart, ElementEnd, SequenceEnd, MessageEnd}
 use Rattle.fast_stream.specs.declared.events.Event.{Event}
 use Rattle.fast_stream.specs.declared.events.Event.TheVariants as Lent
 
--- what an event says
+-- the data of an event
 abbrev pub event_data : Event → EventData
 event_data (Lent.MessageStart template) = MessageStart template
 event_data (Lent.Field node value) = FieldValue node (scalar_data value)

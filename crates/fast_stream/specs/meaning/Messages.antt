@@ -15,12 +15,12 @@ use Rattle.fast_stream.specs.meaning.Phrases.{whole, Phrase}
 use Rattle.fast_stream.specs.meaning.Grammar.{Grammar, give, hand, presence_map, narrow, ◌>>=◌, of_result, phrase_of}
 use Rattle.fast_stream.specs.meaning.Fields.{field_term}
 
--- What one segment passes on to the next: the dictionary, and the elements counted so far in the message.
+-- The context that one segment passes on to the next: the dictionary, and the number of elements so far in the message.
 pub record Context : Type 0 where
   pub dictionary : Dictionary
   pub counted : ℕ
 
--- What one instruction passes on to the next: the context, and the bits of the segment's map that are left.
+-- The state that one instruction passes on to the next: the context, and the bits of the segment's map that are left.
 pub record State : Type 0 where
   pub context : Context
   pub bits : List Bool
@@ -33,12 +33,12 @@ begin d b = record { context = record { dictionary = d; counted = 0 }; bits = b 
 abbrev pub with_dictionary : Dictionary → Context → Context
 with_dictionary d c = record c { dictionary = d }
 
--- a value, or absence, and the state behind it
+-- a value, or absence, and the state after it
 -- FAST 1.1: Transfer Encoding, Field Instructions.
 abbrev pub Found : Type 0
 Found = Option ScalarData × State
 
--- A field takes the next bit if it uses one, and changes its own entry alone.
+-- A field uses the next bit if it has one, and changes its own entry alone.
 abbrev pub found : FieldData → State → Outcome → Found
 found f s o = (o.value, record { context = with_dictionary (write_at f.entry o.next s.context.dictionary) s.context; bits = if uses_bit f then later_bits s.bits else s.bits })
 
@@ -47,20 +47,20 @@ found f s o = (o.value, record { context = with_dictionary (write_at f.entry o.n
 abbrev pub field_in : Bounds → FieldData → State → Grammar Found
 field_in l f s = field_term l f (previous_at f.entry s.context.dictionary) (if uses_bit f then first_bit s.bits else true) >>= (λ o. give (found f s o))
 
--- what an instruction gives: its item, or absence, and the state behind it
+-- the result of an instruction: its item, or absence, and the state after it
 abbrev pub Read : Type 0
 Read = Option ItemData × State
 
--- what a body gives: the slots of all its instructions, and the state behind them
+-- the result of a body: the slots of all its instructions, and the state after them
 abbrev pub ReadAll : Type 0
 ReadAll = Slots × State
 
--- an item, or absence, in front of the slots behind it
+-- an item, or absence, in front of the slots after it
 abbrev pub with_slot : Option ItemData → Slots → Slots
 with_slot None vs = absent vs
 with_slot (Some x) vs = present x vs
 
--- A value is handed over when it is known. There is no event for an absent one.
+-- A value is emitted when it is known. There is no event for an absent one.
 abbrev pub handed : ℕ → Option ScalarData → State → Grammar Read
 handed n None s = give (None, s)
 handed n (Some v) s = hand (FieldValue n v) (give (Some (one v), s))
@@ -75,8 +75,8 @@ abbrev pub decimal_with : ℤ → Option ScalarData → Option ScalarData
 decimal_with x None = None
 decimal_with x (Some m) = Some (Dec x (signed_of m))
 
--- An exponent by parts lies in the range of exponents, however it came about. If it is absent, the decimal is, and
--- neither the mantissa nor its bit is there.
+-- An exponent by parts lies in the range of exponents, whether it is sent or not. If it is absent, so is the decimal, and there is neither
+-- a mantissa nor its bit.
 -- FAST 1.1: Template Definition, Decimal Field Instruction; Error Codes, R1.
 abbrev pub mantissa_after : Bounds → ℕ → FieldData → Found → Grammar Read
 mantissa_after l n mantissa (None, s) = give (None, s)
@@ -84,7 +84,7 @@ mantissa_after l n mantissa (Some e, s) =
     of_result (ranged exponent_range R1 (integer_of e)) >>= (λ x.
     field_in l mantissa s >>= (λ m. handed n (decimal_with x m.0) m.1))
 
--- The bits of a map for n bits, or none where there is no map.
+-- The bits of a map for n bits, or none if there is no map.
 -- FAST 1.1: Transfer Encoding, Presence Map.
 abbrev pub map_bits : ℕ → Bool → Grammar (List Bool)
 map_bits n false = give []
@@ -95,18 +95,18 @@ map_bits n true = presence_map (λ m. narrow n m (give (bits m)))
 abbrev pub own_bits : Body → Grammar (List Bool)
 own_bits body = map_bits (bits_of body) (has_map body)
 
--- what groups, elements and sequences say: slots, and the context behind them
+-- the result of groups, elements and sequences: slots, and the context after them
 abbrev pub Segment : Type 0
 Segment = Context → Grammar (Slots × Context)
 
--- a group or an element: its map, and then what its instructions say
+-- a group or an element: its map, and then its instructions
 -- FAST 1.1: Transfer Encoding, Segments; Error Codes, R8.
 abbrev pub segment : Body → (State → Grammar ReadAll) → Segment
 segment body inside c =
     own_bits body >>= (λ b.
     inside (record { context = c; bits = b }) >>= (λ r. give (r.0, r.1.context)))
 
--- so many elements, one after the other
+-- n elements, one after the other
 -- FAST 1.1: Template Definition, Sequence Field Instruction.
 abbrev pub elements : Segment → ℕ → Context → Grammar (Elements × Context)
 elements inside zero c = give (no_elements, c)
@@ -114,26 +114,26 @@ elements inside (suc n) c =
     hand ElementStart (inside c >>= (λ r.
     hand ElementEnd (elements inside n r.1 >>= (λ rest. give (element r.0 rest.0, rest.1)))))
 
--- a group that is there
+-- a mandatory group, or an optional one that is present
 -- FAST 1.1: Template Definition, Group Field Instruction.
 abbrev pub group_from : ℕ → Segment → State → Grammar Read
 group_from n inside s =
     hand (GroupStart n) (inside s.context >>= (λ r.
     hand GroupEnd (give (Some (group_item r.0), record s { context = r.1 }))))
 
--- a group, if it is there
+-- a group, if it is present
 -- FAST 1.1: Template Definition, Group Field Instruction.
 abbrev pub group_if : Bool → ℕ → Segment → State → Grammar Read
 group_if true n inside s = group_from n inside s
 group_if false n inside s = give (None, s)
 
--- A group that may be absent takes a bit, which tells whether it is there.
+-- An optional group uses a bit, which is set if it is present.
 -- FAST 1.1: Template Definition, Group Field Instruction.
 abbrev pub group_in : Bool → ℕ → Segment → State → Grammar Read
 group_in false n inside s = group_from n inside s
 group_in true n inside s = group_if (first_bit s.bits) n inside (record s { bits = later_bits s.bits })
 
--- So many elements within the limits: of one sequence first, then of the whole message with those counted before.
+-- A number of elements within the limits: of one sequence first, then of the whole message with those counted before.
 abbrev pub within_limits : Bounds → ℕ → ℕ → Result ℕ Code
 within_limits l before n = if nat_le n l.max_elements then (if nat_le (before + n) l.max_total then Ok n else Err L5) else Err L2
 
@@ -142,11 +142,11 @@ within_limits l before n = if nat_le n l.max_elements then (if nat_le (before + 
 abbrev pub length_in : Bounds → Context → ScalarData → Result ℕ Code
 length_in l c v = within_limits l c.counted (nat_abs (integer_of v))
 
--- so many elements more are counted
+-- n elements more are counted
 abbrev pub count_more : ℕ → Context → Context
 count_more n c = record c { counted = c.counted + n }
 
--- A sequence behind its length. An absent length is an absent sequence.
+-- A sequence after its length. An absent length is an absent sequence.
 -- FAST 1.1: Template Definition, Sequence Field Instruction.
 abbrev pub sequence_from : Bounds → ℕ → Segment → Found → Grammar Read
 sequence_from l n inside (None, s) = give (None, s)
@@ -186,39 +186,39 @@ abbrev pub template_of : Tree → Option ScalarData → Result (ℕ × TemplateD
 template_of t None = Err D9
 template_of t (Some v) = with_id (nat_abs (integer_of v)) 0 t.templates
 
--- A template with the key `reset` forgets all entries but the identifier's.
+-- A template with the key `reset` resets all entries but the identifier's.
 -- FAST 1.1: Template Definition, Dictionaries and Previous Values.
 abbrev pub reset_if : Bool → State → State
 reset_if true s = record s { context = with_dictionary (reset s.context.dictionary) s.context }
 reset_if false s = s
 
--- a message of a template from the state behind its identifier on
+-- a message of a template from the state after its identifier on
 -- FAST 1.1: Transfer Encoding, Messages.
 abbrev pub message_of : Bounds → ℕ → TemplateData → State → Grammar (MessageData × Dictionary)
 message_of l n t s =
     hand (MessageStart n) (body_term l t.body (reset_if t.reset s) >>= (λ r.
     hand MessageEnd (give (record { template = n; slots = r.0 }, r.1.context.dictionary))))
 
--- Behind the identifier: a template that has it, whose segment doesn't want a narrower map, and its instructions.
+-- After the identifier: a template that has it, whose segment does not require a shorter map, and its instructions.
 -- FAST 1.1: Transfer Encoding, Messages.
 abbrev pub message_behind : Tree → Bounds → List ℕ → Found → Grammar (MessageData × Dictionary)
 message_behind t l m id =
     of_result (template_of t id.0) >>= (λ u.
     narrow (message_bits u.1) m (message_of l u.0 u.1 id.1))
 
--- A message: its map, the identifier as a field under the map's first bit, and what stands behind that.
+-- A message: its map, the identifier as a field under the map's first bit, and the rest after that.
 -- FAST 1.1: Transfer Encoding, Messages.
 unfoldable pub message_term : Tree → Bounds → Dictionary → Grammar (MessageData × Dictionary)
 message_term t l d =
     presence_map (λ m.
     field_in l identifier (begin d (bits m)) >>= message_behind t l m)
 
--- the same as a phrase
+-- a message as a phrase
 -- FAST 1.1: Transfer Encoding, Messages.
 abbrev pub message : Tree → Limits → Dictionary → Phrase (MessageData × Dictionary)
 message t l d = phrase_of l.strict (message_term t (bounds l) d)
 
--- The bytes spell the message, and lead from one dictionary to the other.
+-- The bytes encode the message, and lead from one dictionary to the other.
 -- FAST 1.1: Transfer Encoding, Messages.
 unfoldable pub SpellsMessage : Tree → Limits → Dictionary → MessageData → List ℕ → Dictionary → Type 0
 SpellsMessage t l d m w d' = message t l d w (events t m) (whole (m, d'))

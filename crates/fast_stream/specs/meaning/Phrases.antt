@@ -1,17 +1,16 @@
--- Phrases: parts of a stream. A phrase says of each list of bytes whether it is the phrase whole, with what the
--- phrase then gives; or a front of it that is cut short; or the shortest front that decides a fault. Beside the
--- bytes stand the events that they hand over.
+-- Phrases: parts of a stream. A phrase says of each list of bytes whether it is the complete phrase, with the result of the phrase; or a
+-- proper prefix of it; or the shortest prefix that decides a fault. The events that the bytes emit are listed with them.
 use Rattle.std.specs.Prelude.{◌≡◌, ◌⊎◌, ℕ, List, [], ◌∷◌, ◌++◌, Result, Ok, Err}
 use Rattle.fast_value.specs.declared.codes.Code.{Code}
 use Rattle.fast_stream.specs.meaning.Events.{EventData}
 
--- what bytes are of a phrase: the whole of it, a front cut short, or a front that decides a fault
+-- the bytes of a phrase: the complete phrase, a proper prefix, or a prefix that decides a fault
 pub data Reached (A : Type 0) : Type 0 where
   whole : A → Reached A
   cut : Reached A
   wrong : Code → Reached A
 
--- which bytes, with which events, come to what
+-- a relation of bytes, their events, and what they reach
 abbrev pub Phrase : Type 0 → Type 1
 Phrase A = List ℕ → List EventData → Reached A → Type 0
 
@@ -34,12 +33,11 @@ settles (Err d) w es (whole b) = ⊥
 settles (Err d) w es cut = ⊥
 settles (Err d) w es (wrong c) = (w ≡ []) × (es ≡ []) × (c ≡ d)
 
--- Some front of the bytes is the first phrase whole, and the rest is what the next one, which may look at the
--- first one's result, says of it.
+-- Some prefix of the bytes is the complete first phrase, and the rest is read by the next one, which may depend on the result of the first.
 abbrev pub GoesOn : {A B : Type 0} → Phrase A → (A → Phrase B) → List ℕ → List EventData → Reached B → Type 0
 GoesOn {A} p k w es r = (u v : List ℕ) × (fs gs : List EventData) × (a : A) × p u fs (whole a) × k a v gs r × (w ≡ u ++ v) × (es ≡ fs ++ gs)
 
--- One phrase after the other. They are cut, or wrong, in the first or in the second.
+-- One phrase after the other. They are truncated, or wrong, in the first or in the second.
 infixl 10 ◌followed_by◌
 unfoldable pub ◌followed_by◌ : {A B : Type 0} → Phrase A → (A → Phrase B) → List ℕ → List EventData → Reached B → Type 0
 ◌followed_by◌ p k w es (whole b) = GoesOn p k w es (whole b)

@@ -9,25 +9,25 @@ use Rattle.fast_stream.specs.meaning.Events.{EventData, events}
 use Rattle.fast_stream.specs.meaning.Phrases.{cut, wrong}
 use Rattle.fast_stream.specs.meaning.Messages.{message, SpellsMessage}
 
--- where a stream stands: between two messages, inside one, or at a fault, with the number of bytes that decided it
+-- the end of a stream: between two messages, inside one, or at a fault, with the number of bytes that decided it
 pub data End : Type 0 where
   between : End
   inside : End
   faulted : Code → ℕ → End
 
--- The bytes are whole messages, one after the other, from one dictionary to the other.
+-- The bytes are complete messages, one after the other, from one dictionary to the other.
 -- FAST 1.1: Transfer Encoding, Streams and Messages.
 abbrev pub SpellsAll : Tree → Limits → Dictionary → List MessageData → List ℕ → Dictionary → Type 0
 SpellsAll t l d [] w d' = (w ≡ []) × (d' ≡ d)
 SpellsAll t l d (m ∷ ms) w d' = (u v : List ℕ) × (mid : Dictionary) × SpellsMessage t l d m u mid × SpellsAll t l mid ms v d' × (w ≡ u ++ v)
 
--- Whole messages from the fresh dictionary on, with their events, lead to this dictionary.
+-- Complete messages from the fresh dictionary on, with their events, lead to this dictionary.
 -- FAST 1.1: Transfer Encoding, Streams and Messages.
 abbrev pub Chain : Tree → Limits → List ℕ → List EventData → Dictionary → Type 0
 Chain t l w es d = (ms : List MessageData) × SpellsAll t l (fresh t.entries) ms w d × (es ≡ flat_map (events t) ms)
 
--- The bytes are whole messages; then perhaps a message of at least a byte that is cut short, or the shortest front
--- of one that decides a fault, and after a fault any bytes.
+-- The bytes are complete messages; then perhaps a message of at least a byte that is truncated, or the shortest prefix of one that decides
+-- a fault, and after a fault any bytes.
 -- FAST 1.1: Transfer Encoding, Streams and Messages.
 unfoldable pub Stream : Tree → Limits → List ℕ → List EventData → End → Type 0
 Stream t l w es between = (d : Dictionary) × Chain t l w es d
