@@ -1,4 +1,4 @@
--- What the Rust types that the operators answer hold.
+-- The data of the Rust types that the operators return.
 use Rattle.std.specs.Prelude.{ℕ, List, Option, Some, None, option_map, Result, Ok, Err}
 use Rattle.fast_value.specs.meaning.Kinds.{ScalarData, integer_of, value_of_integer}
 use Rattle.fast_value.specs.meaning.Values.{scalar_data}
@@ -15,7 +15,7 @@ use Rattle.fast_dict.specs.declared.operators.unsent.Left.TheVariants.{Absent, E
 use Rattle.fast_dict.specs.declared.operators.texts.Kept.{Kept as LentKept}
 use Rattle.fast_dict.specs.declared.operators.texts.Kept.TheVariants.{AppendTo, PrependTo}
 
--- what the entry of an initial value holds next
+-- the next contents of the entry of an initial value
 abbrev pub started : Kind → Option ScalarData → PreviousData → PreviousData
 started kind (Some v) p = assigned kind v
 started kind None p = p
@@ -24,7 +24,7 @@ started kind None p = p
 abbrev pub increased : Kind → ScalarData → ScalarData
 increased kind v = value_of_integer kind (incremented (range_of kind) (integer_of v))
 
--- an outcome as the table of the operators has it
+-- an outcome as in the table of the operators
 abbrev pub outcome_data : LentOutcome → Outcome
 outcome_data o = record { value = option_map scalar_data o.value; next = previous_data o.next }
 
@@ -33,7 +33,7 @@ abbrev pub outcome_answer : Result LentOutcome Code → Result Outcome Code
 outcome_answer (Ok o) = Ok (outcome_data o)
 outcome_answer (Err c) = Err c
 
--- What is left of a field of which no value is sent, under a previous value.
+-- The outcome for a field of which no value is sent, under a previous value.
 -- FAST 1.1: Template Definition, Field Operators.
 abbrev pub left_data : Left → FieldData → PreviousData → Outcome
 left_data Absent f p = record { value = None; next = p }
@@ -44,7 +44,7 @@ left_data Copied f p = record { value = value_in p; next = p }
 left_data Increased f (assigned kind v) = record { value = Some (increased f.kind v); next = assigned f.kind (increased f.kind v) }
 left_data Increased f p = record { value = None; next = p }
 
--- what is left, or the fault
+-- the outcome for such a field, or the fault
 abbrev pub left_answer : Result Left Code → FieldData → PreviousData → Result Outcome Code
 left_answer (Ok x) f p = Ok (left_data x f p)
 left_answer (Err c) f p = Err c
@@ -54,16 +54,16 @@ abbrev pub scalar_answer : Result Scalar Code → Result ScalarData Code
 scalar_answer (Ok v) = Ok (scalar_data v)
 scalar_answer (Err c) = Err c
 
--- what a text delta keeps, as the table of the operators has it
+-- the bytes that a string delta keeps, as in the table of the operators
 abbrev pub kept_data : LentKept → Kept
 kept_data (AppendTo v) = append_to v.now
 kept_data (PrependTo v) = prepend_to v.now
 
--- what a text delta keeps, or the fault
+-- the bytes that a string delta keeps, or the fault
 abbrev pub kept_answer : Result LentKept Code → Result Kept Code
 kept_answer (Ok k) = Ok (kept_data k)
 kept_answer (Err c) = Err c
 
--- a joined text as a value that the entry then holds, or the fault
+-- a joined string as a value that the entry then holds, or the fault
 abbrev pub kept_text : Kind → List ℕ → Result Outcome Code
 kept_text kind text = checked_text kind text >>= keeps kind

@@ -8,28 +8,28 @@ use Rattle.fast_dict.specs.meaning.Stores.{Terms, IsText, IsStorable}
 use Rattle.fast_dict.specs.declared.commands.StoreCommand.{StoreCommand}
 use Rattle.fast_dict.specs.declared.commands.StoreCommand.TheVariants.{Set, SetEmpty, Reset, ResetAll}
 
--- a change: a value or absence kept at an entry, or a reset of all entries but the identifier's, or of all
+-- a change: a value or absence stored at an entry, or a reset of all entries but the identifier's, or of all
 pub data CommandData : Type 0 where
   assign : ℕ → Kind → ScalarData → CommandData
   make_empty : ℕ → CommandData
   reset_others : CommandData
   reset_every : CommandData
 
--- what the Rust type says
+-- the data of the Rust type
 abbrev pub command_data : StoreCommand → CommandData
 command_data (Set entry kind v) = assign entry kind (scalar_data v)
 command_data (SetEmpty entry) = make_empty entry
 command_data Reset = reset_others
 command_data ResetAll = reset_every
 
--- the change meets the conditions of its call, at a store of so many entries
+-- the change meets the conditions of its call, at a store of this number of entries
 abbrev pub IsRunnable : Terms → ℕ → CommandData → Type 0
 IsRunnable t entries (assign entry kind v) = (entry < entries) × IsStorable t entry v
 IsRunnable t entries (make_empty entry) = entry < entries
 IsRunnable t entries reset_others = Unit {0}
 IsRunnable t entries reset_every = Unit {0}
 
--- the change is the assignment of a text
+-- the change is the assignment of a string
 abbrev pub SetsText : CommandData → Type 0
 SetsText (assign entry kind v) = IsText v
 SetsText c = ⊥

@@ -1,9 +1,9 @@
--- Dictionaries. In the product Previous is the view of the Rust enum of that name.
+-- Dictionaries. In the code Previous is the view of the Rust enum of that name.
 use Rattle.std.specs.Prelude.{ℕ, List, [], ◌∷◌, replicate, slice_index_or, slice_set, length, Option, Some, None}
 use Rattle.fast_value.specs.declared.kinds.Kind.{Kind}
 use Rattle.fast_value.specs.meaning.Kinds.{ScalarData}
 
--- what an entry holds
+-- the contents of an entry
 -- FAST 1.1: Template Definition, Dictionaries and Previous Values.
 pub data PreviousData : Type 0 where
   undefined : PreviousData
@@ -17,7 +17,7 @@ value_in undefined = None
 value_in empty = None
 value_in (assigned kind v) = Some v
 
--- A finite map from the entries to what they hold: the entry's number is the place in the list.
+-- A finite map from the entries to their contents: the entry's number is the index in the list.
 -- FAST 1.1: Template Definition, Dictionaries and Previous Values.
 abbrev pub Dictionary : Type 0
 Dictionary = List PreviousData
@@ -33,7 +33,7 @@ abbrev pub reset : Dictionary → Dictionary
 reset [] = []
 reset (identifier ∷ others) = identifier ∷ fresh (length others)
 
--- What an operator reads and writes. Without an entry there is nothing to read, and nothing is written.
+-- The previous value that an operator reads and writes. Without an entry there is nothing to read, and nothing is written.
 -- FAST 1.1: Template Definition, Dictionaries and Previous Values.
 abbrev pub previous_at : Option ℕ → Dictionary → PreviousData
 previous_at None d = undefined

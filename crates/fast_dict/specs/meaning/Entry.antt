@@ -6,7 +6,7 @@ use Rattle.fast_dict.specs.meaning.Dictionary.{PreviousData, undefined, empty, a
 use Rattle.fast_dict.specs.declared.entry.Entry.{Entry}
 use Rattle.fast_dict.specs.declared.entry.Entry.TheVariants.{Undefined, Empty, UInt32, Int32, UInt64, Int64, Decimal, Ascii, Unicode, Bytes, OtherUnsigned, OtherSigned, OtherDecimal, OtherAscii, OtherUnicode, OtherBytes}
 
--- what an entry holds, with the text that stands in its slot
+-- the contents of an entry, with the string in its slot
 abbrev pub with_text : Entry → List ℕ → PreviousData
 with_text Undefined v = undefined
 with_text Empty v = empty
@@ -25,7 +25,7 @@ with_text (OtherAscii kind size) v = assigned kind (AsciiText v)
 with_text (OtherUnicode kind size) v = assigned kind (UnicodeText v)
 with_text (OtherBytes kind size) v = assigned kind (ByteVector v)
 
--- the length of an entry's text, 0 if it has none
+-- the length of an entry's string, 0 if it has none
 abbrev pub text_length : Entry → ℕ
 text_length (Ascii size) = size
 text_length (Unicode size) = size

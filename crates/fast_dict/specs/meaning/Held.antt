@@ -6,13 +6,13 @@ use Rattle.fast_dict.specs.meaning.Dictionary.{PreviousData, undefined, empty, a
 use Rattle.fast_dict.specs.declared.held.Held.{Held}
 use Rattle.fast_dict.specs.declared.held.Held.TheVariants.{Undefined, Empty, Assigned}
 
--- what an entry holds
+-- the contents of an entry
 abbrev pub held_data : Held → PreviousData
 held_data Undefined = undefined
 held_data Empty = empty
 held_data (Assigned kind v) = assigned kind (value_data v)
 
--- the length of an entry's text, 0 if it has none
+-- the length of an entry's string, 0 if it has none
 abbrev pub text_size : PreviousData → ℕ
 text_size (assigned kind v) = length (text_of v)
 text_size p = 0

@@ -1,10 +1,10 @@
--- What the Rust type of previous values holds.
+-- The data of the Rust type of previous values.
 use Rattle.fast_value.specs.meaning.Values.{scalar_data}
 use Rattle.fast_dict.specs.meaning.Dictionary.{PreviousData, undefined, empty, assigned}
 use Rattle.fast_dict.specs.declared.previous.Previous.{Previous}
 use Rattle.fast_dict.specs.declared.previous.Previous.TheVariants.{Undefined, Empty, Assigned}
 
--- a previous value as the dictionary's definition has it
+-- a previous value as in the definition of dictionaries
 abbrev pub previous_data : Previous → PreviousData
 previous_data Undefined = undefined
 previous_data Empty = empty

@@ -1,4 +1,4 @@
--- What an encoder sends for a value: whether it sets the bit, and which item stands behind it.
+-- The content that an encoder sends for a value: whether it sets the bit, and the item after it.
 use Rattle.std.specs.Prelude.{◌≡◌, ◌⊎◌, ℕ, suc, ◌-◌, ◌<◌, ◌≤◌, Bool, true, false, nat_eq, if◌then◌else◌, List, ◌∷◌, length, reverse, take, drop, pos, negsuc, ◌-ℤ◌, Option, Some, None, Ok}
 use Rattle.fast_value.specs.meaning.Kinds.{ScalarData, Family, integers, decimals, texts, family, integer_of, exponent_of, mantissa_of, text_of, value_of_text}
 use Rattle.fast_tree.specs.declared.operators.Operator.{Operator}
@@ -7,26 +7,26 @@ use Rattle.fast_tree.specs.meaning.Tree.{FieldData, uses_bit}
 use Rattle.fast_dict.specs.meaning.Dictionary.{PreviousData}
 use Rattle.fast_dict.specs.meaning.Operators.{Sent, nothing, null, value, integer_delta, decimal_delta, text_delta, Op, delta_base, tail_base}
 
--- The lengths of the longest common front and back of two texts.
+-- the length of the longest common prefix of two strings
 abbrev pub common_front : List ℕ → List ℕ → ℕ
 common_front (x ∷ xs) (y ∷ ys) = if nat_eq x y then suc (common_front xs ys) else 0
 common_front xs ys = 0
 
--- the length of the longest common back of two texts
+-- the length of the longest common suffix of two strings
 abbrev pub common_back : List ℕ → List ℕ → ℕ
 common_back xs ys = common_front (reverse xs) (reverse ys)
 
--- The delta that appends to what is kept of the base: of v, what stands behind the common front.
+-- The delta that appends to the bytes kept of the base: of v, the part after the common prefix.
 -- FAST 1.1: Template Definition, Delta Operator.
 abbrev pub appending : List ℕ → List ℕ → Sent
 appending base v = text_delta (pos (length base - common_front base v)) (drop (common_front base v) v)
 
--- The delta that prepends: of v, what stands before the common back.
+-- The delta that prepends: of v, the part before the common suffix.
 -- FAST 1.1: Template Definition, Delta Operator.
 abbrev pub prepending : List ℕ → List ℕ → Sent
 prepending base v = text_delta (negsuc (length base - common_back base v)) (take (length v - common_back base v) v)
 
--- Where both forms send parts of one length, the appending one wins: a text is sent for the front only if more is common at the back.
+-- If both forms send parts of one length, the appending one is used: the part is prepended only if the common suffix is longer.
 -- FAST 1.1: Template Definition, Delta Operator.
 abbrev pub IsTextDelta : List ℕ → List ℕ → Sent → Type 0
 IsTextDelta base v item =
@@ -48,8 +48,8 @@ IsDelta (integers range) base v item = item ≡ integer_delta (integer_of v -ℤ
 IsDelta decimals base v item = item ≡ decimal_delta (exponent_of v -ℤ exponent_of base) (mantissa_of v -ℤ mantissa_of base)
 IsDelta texts base v item = IsTextDelta (text_of base) (text_of v) item
 
--- What stands in the stream for a value, or for absence: NULL for absence, the initial value of a constant without a
--- byte, a delta or tail on a base that is there and of the field's kind, and else the value itself.
+-- The content of the stream for a value, or for absence: NULL for absence, the initial value of a constant without a byte, a delta or tail
+-- on a base that exists and is of the field's type, and else the value itself.
 -- FAST 1.1: Template Definition, Field Operators.
 abbrev pub SentBy : Operator → FieldData → PreviousData → Option ScalarData → Sent → Type 0
 SentBy Constant f p v item = (v ≡ f.initial) × (item ≡ nothing)
@@ -58,17 +58,17 @@ SentBy Delta f p (Some v) item = (base : ScalarData) × (delta_base f p ≡ Ok b
 SentBy Tail f p (Some v) item = (base : ScalarData) × (part : List ℕ) × (tail_base f p ≡ Ok base) × IsTail (text_of base) (text_of v) part × (item ≡ value (value_of_text f.kind part))
 SentBy operator f p (Some v) item = item ≡ value v
 
--- what stands in the stream for the field's value, or for its absence
+-- the content of the stream for the field's value, or for its absence
 -- FAST 1.1: Template Definition, Field Operators.
 abbrev pub SentFor : FieldData → PreviousData → Option ScalarData → Sent → Type 0
 SentFor f p v item = SentBy f.operator f p v item
 
--- With the bit clear, nothing sent gives just this value or absence.
+-- With the bit clear and nothing sent, the field has exactly this value or absence.
 -- FAST 1.1: Template Definition, Field Operators.
 abbrev pub GoesUnsent : FieldData → PreviousData → Option ScalarData → Type 0
 GoesUnsent f p v = (next : PreviousData) × (uses_bit f ≡ true) × Op f p false nothing v next
 
--- The bit is clear wherever that will do. Else it is set, and the value stands in the stream.
+-- The bit is clear if that gives the value. Else it is set, and the value is in the stream.
 -- FAST 1.1: Template Definition, Field Operators, read from the other side.
 abbrev pub Rule : FieldData → PreviousData → Option ScalarData → Bool → Sent → Type 0
 Rule f p v false item = GoesUnsent f p v × (item ≡ nothing)

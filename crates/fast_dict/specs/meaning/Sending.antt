@@ -1,4 +1,4 @@
--- What is sent, as the Rust type has it.
+-- The data of the Rust type of the content sent.
 use Rattle.std.specs.Prelude.{ℕ, List, Bool, true}
 use Rattle.fast_value.specs.declared.kinds.Kind.{Kind}
 use Rattle.fast_value.specs.meaning.Kinds.{value_of_text}
@@ -9,7 +9,7 @@ use Rattle.fast_dict.specs.meaning.Operators.{Sent, nothing, null, value, intege
 use Rattle.fast_dict.specs.declared.operators.table.Sent.{Sent as LentSent}
 use Rattle.fast_dict.specs.declared.operators.table.Sent.TheVariants.{Nothing, Null, Value, IntegerDelta, DecimalDelta, TextDelta}
 
--- what was sent, as the table of the operators has it
+-- the content of the stream, as in the table of the operators
 abbrev pub sent_data : LentSent → Sent
 sent_data Nothing = nothing
 sent_data Null = null
@@ -18,12 +18,12 @@ sent_data (IntegerDelta k) = integer_delta k
 sent_data (DecimalDelta k j) = decimal_delta k j
 sent_data (TextDelta k part) = text_delta k part.now
 
--- No text has to be joined of what is kept of the base and what is sent.
+-- No string has to be joined from the bytes kept of the base and the part that is sent.
 abbrev pub NeedsNoJoin : Operator → Bool → Sent → Type 0
 NeedsNoJoin Delta bit (text_delta k part) = ⊥
 NeedsNoJoin Tail true (value v) = ⊥
 NeedsNoJoin operator bit item = Unit {0}
 
--- a text of a kind as the value that is sent
+-- a string of a type as the value that is sent
 abbrev pub text_item : Kind → List ℕ → Sent
 text_item kind v = value (value_of_text kind v)

@@ -1,4 +1,4 @@
--- A dictionary whose texts stand in slots of one block.
+-- A dictionary whose strings are in slots of one block.
 use Rattle.std.specs.Prelude.{◌≡◌, ℕ, zero, suc, ◌+◌, ◌*◌, ◌<◌, ◌≤◌, refl, true, false, List, [], ◌∷◌, length, take, drop, slice_index_or, Option, Some, None, is_some, vec_len}
 use Rattle.std.proofs.Common.{ap, arith}
 use Rattle.std.proofs.lemmas.List.{length-take}
@@ -10,16 +10,16 @@ use Rattle.fast_dict.specs.declared.entry.Entry.{Entry}
 use Rattle.fast_dict.specs.declared.entry.Entry.TheVariants.{Undefined, Empty, UInt32, Int32, UInt64, Int64, Decimal, Ascii, Unicode, Bytes, OtherUnsigned, OtherSigned, OtherDecimal, OtherAscii, OtherUnicode, OtherBytes}
 use Rattle.fast_dict.specs.declared.slots.Slots.{Slots}
 
--- the text in the slot that begins at a place of the block, if there is a slot
+-- the string in the slot that begins at an offset of the block, if there is a slot
 abbrev pub text_in : List ℕ → Option ℕ → ℕ → List ℕ
 text_in block None size = []
 text_in block (Some place) size = take size (drop place block)
 
--- what one entry holds
+-- the contents of one entry
 abbrev pub entry_data : List ℕ → Option ℕ → Entry → PreviousData
 entry_data block place e = with_text e (text_in block place (text_length e))
 
--- what the entries hold, by where their slots begin
+-- the contents of the entries, by the offsets of their slots
 abbrev pub entries_data : List ℕ → List (Option ℕ) → List Entry → Dictionary
 entries_data block places [] = []
 entries_data block [] (e ∷ es) = entry_data block None e ∷ entries_data block [] es
@@ -29,11 +29,11 @@ entries_data block (p ∷ ps) (e ∷ es) = entry_data block p e ∷ entries_data
 abbrev pub slots_dictionary : Slots → Dictionary
 slots_dictionary s = entries_data s.block.items s.places.items s.entries.items
 
--- A text can stand where there is a slot. No memory is wanted.
+-- An entry can hold a string if it has a slot. Nothing allocates.
 abbrev pub slots_terms : Slots → Terms
 slots_terms s = record { entries = length s.entries.items; max_text = s.max_text; takes_text = λ e. is_some (slice_index_or s.places.items e None); can_refuse = false }
 
--- The entry holds an ASCII text under its own kind, in a slot.
+-- The entry holds an ASCII string under its own type, in a slot.
 abbrev pub HoldsAscii : Slots → ℕ → Type 0
 HoldsAscii s e = (e < length (slots_dictionary s)) × ((n : ℕ) × (slice_index_or s.entries.items e Undefined ≡ Ascii n)) × (is_some (slice_index_or s.places.items e None) ≡ true)
 
@@ -65,12 +65,12 @@ get-entries b [] (e ∷ es) (suc i) = get-entries b [] es i
 get-entries b (p ∷ ps) (e ∷ es) zero = refl
 get-entries b (p ∷ ps) (e ∷ es) (suc i) = get-entries b ps es i
 
--- no text is longer than the entry says
+-- no string is longer than the entry says
 pub length-text_in : (b : List ℕ) (p : Option ℕ) (size : ℕ) → length (text_in b p size) ≤ size
 length-text_in b None size = omega arith
 length-text_in b (Some place) size = let k = length-take size (drop place b) in rw k (omega arith)
 
--- an entry's text is no longer than the entry says
+-- an entry's string is no longer than the entry says
 pub size-entry : (e : Entry) (v : List ℕ) → length v ≤ text_length e → text_size (with_text e v) ≤ text_length e
 size-entry Undefined v h = omega arith
 size-entry Empty v h = omega arith
@@ -89,7 +89,7 @@ size-entry (OtherAscii kind size) v h = h
 size-entry (OtherUnicode kind size) v h = h
 size-entry (OtherBytes kind size) v h = h
 
--- no text is longer than the greatest length
+-- no string is longer than the greatest length
 pub slots_texts_fit : (s : Slots) (i : ℕ) → text_size (slice_index_or (slots_dictionary s) i undefined) ≤ s.max_text
 slots_texts_fit s i =
     let e : Entry = slice_index_or s.entries.items i Undefined in
