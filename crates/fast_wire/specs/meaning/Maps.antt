@@ -16,13 +16,13 @@ seven_bits byte = map (λ k. nat_eq ((byte / 2 ^ k) % 2) 1) (6 ∷ 5 ∷ 4 ∷ 3
 abbrev pub bits : List ℕ → List Bool
 bits w = flat_map seven_bits w
 
--- The bit in front, and those after it. Behind the last bit stand zeros for ever.
+-- The first bit. The bits after the last one are all zero.
 -- FAST 1.1: Transfer Encoding, Presence Map.
 abbrev pub first_bit : List Bool → Bool
 first_bit [] = false
 first_bit (bit ∷ rest) = bit
 
--- the bits behind the first one
+-- the bits after the first one
 -- FAST 1.1: Transfer Encoding, Presence Map.
 abbrev pub later_bits : List Bool → List Bool
 later_bits [] = []
@@ -33,19 +33,19 @@ later_bits (bit ∷ rest) = rest
 abbrev pub HasSpareByte : List ℕ → Type 0
 HasSpareByte w = (front : List ℕ) × (byte last : ℕ) × (w ≡ front ++ byte ∷ last ∷ []) × (last % 128 ≡ 0)
 
--- the bytes that a map of so many bits may have
+-- the bytes that a map of n bits may have
 -- FAST 1.1: Error Codes, R8.
 abbrev pub bytes_for : ℕ → ℕ
 bytes_for n = max 1 ((n + 6) / 7)
 
--- The bytes are a map as far as they alone show it.
+-- The bytes are a map, without regard to its segment.
 -- FAST 1.1: Transfer Encoding, Presence Map.
 pub record IsMap (strict : Bool) (w : List ℕ) : Type 0 where
   pub entity : IsEntity w
   pub short : length w ≤ map_limit
   pub shortest : IsTrue strict → ¬ (HasSpareByte w)
 
--- Of these cells, none of which has the stop bit, the first `len` hold all set bits, and no fewer of them would, but for the first.
+-- The first `len` of these cells, none of which has the stop bit, hold all set bits, and no fewer of them would, except for the first.
 pub record IsBuilt (cells : List ℕ) (len : ℕ) : Type 0 where
   pub count : length cells ≡ map_limit
   pub some : 1 ≤ len
