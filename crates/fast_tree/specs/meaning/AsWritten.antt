@@ -1,11 +1,11 @@
--- A template set as it is written, before references are put in place.
+-- A template set as it is written, before references are expanded.
 use Rattle.std.specs.Prelude.{◌≡◌, ◌⊎◌, ℕ, ◌≤◌, Bool, false, List, [], ◌∷◌, ◌++◌, length as list_length, All, Option, Some, None}
 use Rattle.fast_value.specs.declared.kinds.Kind.{Kind}
 use Rattle.fast_value.specs.declared.kinds.Kind.TheVariants.{UInt32, Int32, Int64}
 use Rattle.fast_tree.specs.declared.operators.Operator.{Operator}
 use Rattle.fast_tree.specs.declared.operators.Operator.TheVariants.{None as no_operator}
 
--- An operator with its initial value, key and dictionary, each as a text and only where it is written.
+-- An operator with its initial value, key and dictionary, each as a string and only if it is written.
 -- FAST 1.1: Template Definition, Field Operators.
 pub record Written : Type 0 where
   pub operator : Operator
@@ -18,7 +18,7 @@ abbrev pub plain : Written
 plain = record { operator = no_operator; value = None; key = None; dictionary = None }
 
 mutual
-  -- each begins with its name, and but for a reference goes on with whether it is optional
+  -- an instruction: first its name, and then, except for a reference, whether it is optional
   -- FAST 1.1: Template Definition, Field Instructions.
   pub data Declared : Type 0 where
     scalar : List ℕ → Bool → Kind → Written → Declared
@@ -44,15 +44,14 @@ pub record DeclaredTemplate : Type 0 where
   pub dictionary : List ℕ
   pub fields : DeclaredList
 
--- Which entry it is, of those with one key: a scalar's, or one that is never named by itself.
+-- The part that an entry belongs to, of those with one key: a scalar, or one that has no name of its own.
 pub data Part : Type 0 where
   whole : Part
   exponent : Part
   mantissa : Part
   length : Part
 
--- An operator where it is used: the kind and presence of what it is used on, and the key and the part that it has
--- if it names no key.
+-- A use of an operator: the type and presence of the part on which it is used, and the key and the part that it has if it names no key.
 pub record Use : Type 0 where
   pub kind : Kind
   pub optional : Bool
@@ -77,7 +76,7 @@ abbrev pub length_use : List ℕ → Bool → Option (List ℕ) → Written → 
 length_use name optional None w = record { kind = UInt32; optional = optional; name = name; part = length; written = w }
 length_use name optional (Some own) w = scalar_use own optional UInt32 w
 
--- all uses of operators in text order, and all references
+-- all uses of operators in the order of the file, and all references
 abbrev mutual
   pub uses : Declared → List Use
   uses (scalar name optional kind w) = scalar_use name optional kind w ∷ []
@@ -102,7 +101,7 @@ abbrev mutual
   all_references no_more = []
   all_references (more d ds) = references d ++ all_references ds
 
--- 1 to 64 letters, digits, `_`, `-` and `.`
+-- a letter, a digit, `_`, `-` or `.`
 abbrev pub IsNameByte : ℕ → Type 0
 IsNameByte c = (0x41 ≤ c) × (c ≤ 0x5A) ⊎ (0x61 ≤ c) × (c ≤ 0x7A) ⊎ (0x30 ≤ c) × (c ≤ 0x39) ⊎ (c ≡ 0x5F) ⊎ (c ≡ 0x2D) ⊎ (c ≡ 0x2E)
 

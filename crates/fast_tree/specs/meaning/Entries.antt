@@ -4,21 +4,21 @@ use Rattle.fast_tree.specs.declared.operators.Operator.{Operator}
 use Rattle.fast_tree.specs.declared.operators.Operator.TheVariants.{Copy, Increment, Delta, Tail}
 use Rattle.fast_tree.specs.meaning.AsWritten.{DeclaredTemplate, Part, whole, Use, all_uses}
 
--- A dictionary: the global one, that of a template in whose text the operator stands, or one with a name.
+-- A dictionary: the global one, that of the template in which the operator is written, or one with a name.
 -- FAST 1.1: Template Definition, Dictionaries and Previous Values.
 pub data Place : Type 0 where
   global : Place
   of_template : ℕ → Place
   named : List ℕ → Place
 
--- A dictionary entry by name. Equal names are one entry, whatever is kept there.
+-- A dictionary entry by name. Equal names are one entry, for all contents.
 -- FAST 1.1: Template Definition, Dictionaries and Previous Values.
 pub record Entry : Type 0 where
   pub place : Place
   pub key : List ℕ
   pub part : Part
 
--- where an operator stands: its template's number and that template's dictionary
+-- the scope of an operator: its template's number and that template's dictionary
 pub record Scope : Type 0 where
   pub template : ℕ
   pub dictionary : List ℕ
@@ -50,12 +50,12 @@ keeps_value Delta = true
 keeps_value Tail = true
 keeps_value operator = false
 
--- The entries by number. The identifier has 0; the others stand here from 1 on, each once.
+-- The entries by number. The identifier has 0; the others follow from 1 on, each once.
 abbrev pub EntryNumber : List Entry → Scope → Use → Option ℕ → Type 0
 EntryNumber entries s u None = keeps_value u.written.operator ≡ false
 EntryNumber entries s u (Some n) = (k : ℕ) × (e : Entry) × (keeps_value u.written.operator ≡ true) × IsEntry s u e × (slice_get entries k ≡ Some e) × (n ≡ suc k)
 
--- the scope of a template's text
+-- the scope of a template
 -- FAST 1.1: Template Definition, Dictionaries and Previous Values.
 abbrev pub scope_of : ℕ → DeclaredTemplate → Scope
 scope_of n t = record { template = n; dictionary = t.dictionary }
@@ -65,12 +65,12 @@ abbrev pub in_scope : Scope → List Use → List (Scope × Use)
 in_scope s [] = []
 in_scope s (u ∷ us) = (s, u) ∷ in_scope s us
 
--- The uses of operators in text order, each with the template in which it stands.
+-- The uses of operators in the order of the file, each with the template in which it is written.
 abbrev pub uses_from : ℕ → List DeclaredTemplate → List (Scope × Use)
 uses_from k [] = []
 uses_from k (t ∷ ts) = in_scope (scope_of k t) (all_uses t.fields) ++ uses_from (suc k) ts
 
--- The entries of these uses behind those that were seen, each where it is first used.
+-- The entries of these uses after those that were seen, each at its first use.
 abbrev pub Collects : List Entry → List (Scope × Use) → List Entry → Type 0
 Collects seen [] entries = entries ≡ seen
 Collects seen (u ∷ us) entries =

@@ -8,14 +8,14 @@ use Rattle.fast_tree.specs.meaning.Tree.{FieldData, Label, Instruction, field, p
 use Rattle.fast_tree.specs.meaning.Nodes.{field_data, body_of}
 use Rattle.std.specs.Prelude.{Option}
 
--- what a shape holds: bodies are lists of node numbers
+-- the data of a shape: bodies are lists of node numbers
 pub data ShapeData : Type 0 where
   a_field : FieldData → ShapeData
   a_decimal : FieldData → FieldData → ShapeData
   a_group : Bool → List ℕ → ShapeData
   a_sequence : FieldData → List ℕ → ShapeData
 
--- what a node holds
+-- the data of a node
 pub record NodeData : Type 0 where
   pub name : List ℕ
   pub shape : ShapeData
@@ -43,7 +43,7 @@ abbrev pub instructions_of : ℕ → List NodeData → List Instruction
 instructions_of own [] = []
 instructions_of own (n ∷ ns) = instruction_from (record { node = own; name = n.name }) (suc own) (instructions_of (suc own) ns) n.shape ∷ instructions_of (suc own) ns
 
--- What a template holds: its body is a list of node numbers.
+-- The data of a template: its body is a list of node numbers.
 pub record TemplateOutline : Type 0 where
   pub name : List ℕ
   pub id : Option ℕ

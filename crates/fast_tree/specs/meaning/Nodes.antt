@@ -10,7 +10,7 @@ use Rattle.fast_tree.specs.declared.instructions.Node.{Node}
 use Rattle.fast_tree.specs.declared.instructions.Template.{Template}
 use Rattle.fast_tree.specs.meaning.Tree.{FieldData, Label, Instruction, field, parts, group, sequence, Body, end, step, TemplateData}
 
--- what a field instruction says
+-- the data of a field instruction
 abbrev pub field_data : FieldInstruction → FieldData
 field_data f = record { kind = f.kind; optional = f.optional; operator = f.operator; initial = option_map value_data f.initial; entry = f.entry }
 
@@ -18,7 +18,7 @@ field_data f = record { kind = f.kind; optional = f.optional; operator = f.opera
 abbrev pub label_of : ℕ → Node → Label
 label_of own n = record { node = own; name = string_bytes n.name }
 
--- what stands at a number that no node has
+-- the instruction at a number that no node has
 abbrev pub no_instruction : Instruction
 no_instruction = field (record { node = 0; name = [] }) (record { kind = UInt32; optional = false; operator = no_operator; initial = None; entry = None })
 

@@ -1,4 +1,4 @@
--- What a template set may have, and what it can cost at most: depth, events, turns, stored units.
+-- The limits of a template set, and the most that it can cost: depth, events, turns, stored units.
 use Rattle.std.specs.Prelude.{ℕ, suc, ◌+◌, ◌*◌, max, min, List, [], ◌∷◌, map}
 use Rattle.fast_value.specs.declared.settings.Limits.{Limits}
 use Rattle.fast_tree.specs.meaning.Tree.{Instruction, field, parts, group, sequence, Body, end, step, Tree}
@@ -7,15 +7,15 @@ use Rattle.fast_tree.specs.meaning.Tree.{Instruction, field, parts, group, seque
 abbrev pub segment_limit : ℕ
 segment_limit = 1022
 
--- the deepest nesting of groups and sequences, and the longest chain of references
+-- the greatest depth of groups and sequences, and the longest chain of references
 abbrev pub nesting_limit : ℕ
 nesting_limit = 64
 
--- the most nodes of a set with references in place
+-- the most nodes of a set with references expanded
 abbrev pub node_limit : ℕ
 node_limit = 65536
 
--- how deep groups and sequences nest in a body
+-- the depth to which groups and sequences nest in a body
 abbrev mutual
   pub depth : Instruction → ℕ
   depth (field l f) = 0
@@ -32,18 +32,18 @@ abbrev pub greatest : List ℕ → ℕ
 greatest [] = 0
 greatest (n ∷ ns) = max n (greatest ns)
 
--- H: the deepest nesting of a set
+-- H: the depth of a set
 abbrev pub set_depth : Tree → ℕ
 set_depth t = greatest (map (λ u. body_depth u.body) t.templates)
 
--- What is counted of a message: for a field, for a sequence without its elements, for a message beside its body. A
--- group and an element count 2 beside theirs.
+-- The counts of a message: for a field, for a sequence without its elements, for a message beside its body. A group and an element count 2
+-- beside theirs.
 pub record Weights : Type 0 where
   pub field : ℕ
   pub sequence : ℕ
   pub message : ℕ
 
--- the events: one for a field, a start and an end for all else
+-- the events: one for a field, a start and an end for all others
 abbrev pub event_weights : Weights
 event_weights = record { field = 1; sequence = 2; message = 2 }
 
@@ -63,7 +63,7 @@ abbrev mutual
   body_size u l end = 0
   body_size u l (step i is) = size u l i + body_size u l is
 
--- the same without the elements of sequences
+-- the most that an instruction and a body can count, without the elements of sequences
 abbrev mutual
   pub outer : Weights → Instruction → ℕ
   outer u (field at f) = u.field
@@ -103,7 +103,7 @@ message_cap t l = min (product_cap event_weights t l) (sum_cap event_weights t l
 abbrev pub turn_cap : Tree → Limits → ℕ
 turn_cap t l = min (product_cap turn_weights t l) (sum_cap turn_weights t l)
 
--- S: the most bytes and records that a decoder stores: two texts in hand and one for each entry, the entries, and a
--- frame with its map for the message and for each level of nesting
+-- S: the most bytes and records that a decoder stores: two buffered strings and one for each entry, the entries, and a frame with its map
+-- for the message and for each level of nesting
 abbrev pub stored_cap : Tree → Limits → ℕ
 stored_cap t l = (t.entries + 2) * l.max_text + t.entries + 147 * (set_depth t + 1)

@@ -1,4 +1,4 @@
--- A checked template set as a tree. References are in place, and each dictionary entry has its number.
+-- A checked template set as a tree. References are expanded, and each dictionary entry has its number.
 use Rattle.std.specs.Prelude.{◌≡◌, slice_get, ℕ, ◌+◌, Bool, true, false, if◌then◌else◌, nat_lt, List, Option, Some, None}
 use Rattle.fast_tree.specs.declared.operators.Operator.{Operator}
 use Rattle.fast_tree.specs.declared.operators.Operator.TheVariants.{None as no_operator, Constant, Default, Copy, Increment, Delta, Tail}
@@ -6,8 +6,8 @@ use Rattle.fast_value.specs.declared.kinds.Kind.{Kind}
 use Rattle.fast_value.specs.declared.kinds.Kind.TheVariants.{UInt32}
 use Rattle.fast_value.specs.meaning.Kinds.{ScalarData}
 
--- What is sent under one operator: a scalar, a sequence's length, an exponent or a mantissa. The entry is the
--- number of the dictionary entry that the operator reads and writes, if it is one that does.
+-- A value that is sent under one operator: a scalar, a sequence's length, an exponent or a mantissa. The entry is the number of the
+-- dictionary entry that the operator reads and writes, if it uses one.
 -- FAST 1.1: Template Definition, Field Operators.
 pub record FieldData : Type 0 where
   pub kind : Kind
