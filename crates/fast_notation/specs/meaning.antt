@@ -1,4 +1,4 @@
--- What is meant: the contracts of public functions rest on these definitions.
+-- Definitions on which the contracts of public functions rest.
 pub mod Notation
 pub mod Uses
 pub mod InPlace

@@ -1,4 +1,4 @@
--- Which tree a written template set stands for.
+-- The tree of a written template set.
 use Rattle.std.specs.Prelude.{◌≡◌, ◌≢◌, ℕ, suc, ◌≤◌, List, [], length, All, AllPairs, Some}
 use Rattle.toml.specs.Data.{Members}
 use Rattle.fast_tree.specs.meaning.Tree.{Instruction, field, parts, group, sequence, Body, end, step, bits_of, message_bits, Tree}
@@ -21,8 +21,8 @@ abbrev mutual
   AreNarrowInside end = Unit {0}
   AreNarrowInside (step i is) = IsNarrowInside i × AreNarrowInside is
 
--- The document stands for the tree. There is such a tree exactly where the document is in none of the ways at fault
--- that have a code: shape, suits and initial values, names and identifiers, references, depth, bits, nodes.
+-- The document stands for the tree. There is such a tree exactly if the document has none of the faults that have a code: shape, suits and
+-- initial values, names and identifiers, references, depth, bits, nodes.
 pub record IsTree (document : Members) (t : Tree) : Type 0 where
   pub written : List DeclaredTemplate
   pub entries : List Entry

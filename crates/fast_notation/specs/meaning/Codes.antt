@@ -1,9 +1,9 @@
--- The names of what can be wrong with a template set.
+-- The names of the faults of a template set.
 use Rattle.std.specs.Prelude.{List, ℕ, codes}
 use Rattle.fast_notation.specs.declared.codes.StaticCode.{StaticCode}
 use Rattle.fast_notation.specs.declared.codes.StaticCode.TheVariants.{S1, S2, S3, S4, S5, D8, C1, C2, C3, C4, C5, C6, Memory}
 
--- the name of what is wrong with a template text
+-- the name of a fault of a template file
 abbrev pub static_code_text : StaticCode → List ℕ
 static_code_text S1 = codes "S1"
 static_code_text S2 = codes "S2"

@@ -1,4 +1,4 @@
--- The faults of a set that is written.
+-- The faults of a written set.
 use Rattle.std.specs.Prelude.{ℕ, List, Option, Some, None}
 use Rattle.fast_notation.specs.declared.codes.StaticCode.{StaticCode}
 use Rattle.fast_notation.specs.declared.codes.StaticCode.TheVariants.{Memory}
@@ -6,7 +6,7 @@ use Rattle.fast_notation.specs.declared.codes.StaticFault.{StaticFault}
 use Rattle.fast_tree.specs.meaning.AsWritten.{DeclaredTemplate}
 use Rattle.fast_notation.specs.meaning.Refused.{StandsAt}
 
--- The code's condition stands at the template that is named. Want of memory names none.
+-- The code's condition holds at the named template. A failed allocation names none.
 abbrev pub IsFaultAt : List DeclaredTemplate → StaticCode → Option ℕ → Type 0
 IsFaultAt ts code (Some k) = StandsAt ts code k
 IsFaultAt ts Memory None = Unit {0}

@@ -1,4 +1,4 @@
--- Which fault of a set that is written is told, where several stand in it.
+-- The fault of a written set that is reported, if it has several.
 use Rattle.std.specs.Prelude.{◌≡◌, ◌⊎◌, ℕ, ◌<◌, ◌≤◌, List, All, Option, Some, IfSome, sum_by, take}
 use Rattle.toml.specs.Data.{table, Items, Members, get_item}
 use Rattle.fast_notation.specs.declared.codes.StaticCode.{StaticCode}
@@ -30,13 +30,13 @@ pass_of Memory = 9
 abbrev pub ComesBefore : ℕ → ℕ → ℕ → ℕ → Type 0
 ComesBefore p j n k = (p < n) ⊎ (p ≡ n) × (j < k)
 
--- One fault is told before another: that of an earlier pass, and of one pass that of the earlier template. Less is said of
--- chains that are too long: they may be told where a template that is no earlier refers to itself.
+-- One fault is reported before another: that of an earlier pass, and of one pass that of the earlier template. Less is said of chains that
+-- are too long: they may be reported if a template that is no earlier refers to itself.
 abbrev pub IsToldBefore : StaticCode → ℕ → StaticCode → ℕ → Type 0
 IsToldBefore c j C4 k = (pass_of c < pass_of C3) ⊎ (pass_of c ≤ pass_of C4) × (j < k)
 IsToldBefore c j code k = ComesBefore (pass_of c) j (pass_of code) k
 
--- No fault stands in the set that is told before one of this code at this template.
+-- The set has no fault that is reported before one of this code at this template.
 abbrev pub IsFirst : List DeclaredTemplate → StaticCode → ℕ → Type 0
 IsFirst ts code k = (c : StaticCode) (j : ℕ) → IsToldBefore c j code k → ¬ (StandsAt ts c j)
 
@@ -44,7 +44,7 @@ IsFirst ts code k = (c : StaticCode) (j : ℕ) → IsToldBefore c j code k → �
 abbrev pub IsFirstUnwritten : Option Members → ℕ → Type 0
 IsFirstUnwritten read k = (document ms : Members) (xs : Items) (j : ℕ) → read ≡ Some document → HasTables document xs → j < k → get_item j xs ≡ Some (table ms) → (t : DeclaredTemplate) × WritesTemplate ms t
 
--- The first fault of a text.
+-- The first fault of a file.
 abbrev pub IsFirstFault : Option Members → StaticCode → Option ℕ → Type 0
 IsFirstFault read code template =
     ((document : Members) (ts : List DeclaredTemplate) → read ≡ Some document → WritesSet document ts → IfSome template (IsFirst ts code))
@@ -54,7 +54,7 @@ IsFirstFault read code template =
 abbrev pub AreChained : List DeclaredTemplate → List DeclaredTemplate → Type 0
 AreChained all ts = All (λ t. Fits all nesting_limit t.fields × (depth_in all nesting_limit t.fields ≤ nesting_limit)) ts
 
--- What the passes over chains have shown before a fault of this code at this template.
+-- The properties that the passes over chains have shown before a fault of this code at this template.
 abbrev pub IsFirstInChains : List DeclaredTemplate → StaticCode → ℕ → Type 0
 IsFirstInChains ts C3 k = (j : ℕ) → j < k → ¬ (StandsAt ts C3 j)
 IsFirstInChains ts C4 k = AreChained ts (take k ts)

@@ -1,4 +1,4 @@
--- References in place: which instructions the text of a template stands for.
+-- References expanded in place: the instructions that a template stands for.
 use Rattle.std.specs.Prelude.{◌≡◌, ℕ, suc, Bool, List, [], ◌∷◌, slice_get, Option, Some}
 use Rattle.fast_value.specs.declared.kinds.Kind.{Kind}
 use Rattle.fast_tree.specs.meaning.Tree.{FieldData, Label, field, parts, group, sequence, Body, end, step, TemplateData}
@@ -11,14 +11,14 @@ use Rattle.fast_notation.specs.meaning.Uses.{IsField}
 abbrev pub label : ℕ → List ℕ → Label
 label n name = record { node = n; name = name }
 
--- one body behind another
+-- one body after another
 infixr 20 ◌then◌
 abbrev pub ◌then◌ : Body → Body → Body
 end then is = is
 (step i is) then js = step i (is then js)
 
--- The instructions stand in a template's text. With references in place, in a chain of no more than so many, they
--- are the body, whose nodes are numbered from the first number up to the second.
+-- The instructions are written in a template. With references expanded, in a chain of at most the given length, they are the body, whose
+-- nodes are numbered from the first number up to the second.
 -- FAST 1.1: Template Definition, Template Reference Instruction.
 pub data InPlace (ts : List DeclaredTemplate) (entries : List Entry) : ℕ → Scope → DeclaredList → ℕ → Body → ℕ → Type 0 where
   nothing : {chain : ℕ} {s : Scope} {n : ℕ} → InPlace ts entries chain s no_more n end n

@@ -5,7 +5,7 @@ use Rattle.fast_tree.specs.declared.instructions.Template.{Template}
 use Rattle.fast_tree.specs.meaning.Tree.{Label, Instruction, field, parts, group, sequence, Body, end, step, TemplateData}
 use Rattle.fast_tree.specs.meaning.Nodes.{label_of, instructions_from, template_data}
 
--- the labels of an instruction and of all that it holds, in preorder
+-- the labels of an instruction and of all that it contains, in preorder
 abbrev mutual
   pub labels : Instruction → List Label
   labels (field l f) = l ∷ []

@@ -1,5 +1,4 @@
--- The TOML notation: which document writes which template set. A document that writes none is not of the stated
--- shape.
+-- The TOML notation: which document writes which template set. A document that writes none is not of the stated shape.
 use Rattle.std.specs.Prelude.{◌≡◌, ◌≢◌, ◌⊎◌, ℕ, ◌<◌, ◌≤◌, ◌^◌, Bool, false, List, [], ◌∷◌, length, Contains, codes, pos, Option, Some, None, IfSome, IsNone}
 use Rattle.toml.specs.Data.{Data, string, integer, boolean, array, table, Items, no_items, item, Members, no_members, member, get_member}
 use Rattle.fast_value.specs.declared.kinds.Kind.{Kind}
@@ -8,7 +7,7 @@ use Rattle.fast_tree.specs.declared.operators.Operator.{Operator}
 use Rattle.fast_tree.specs.declared.operators.Operator.TheVariants.{None as no_operator, Constant, Default, Copy, Increment, Delta, Tail}
 use Rattle.fast_tree.specs.meaning.AsWritten.{Written, plain, Declared, scalar, by_parts, group, sequence, reference, DeclaredList, no_more, more, DeclaredTemplate, IsName}
 
--- the name of a kind in the notation
+-- the name of a type in the notation
 abbrev pub kind_name : Kind → List ℕ
 kind_name UInt32 = codes "uInt32"
 kind_name Int32 = codes "int32"
@@ -34,8 +33,8 @@ abbrev pub HasOnly : List (List ℕ) → Members → Type 0
 HasOnly keys no_members = Unit {0}
 HasOnly keys (member k d ms) = Contains keys k × HasOnly keys ms
 
--- What stands at a key: a text, or nothing; and a text, a truth value, an array of tables, or else what is
--- understood where nothing stands.
+-- The value at a key: a string, if there is one. The next definitions are for a name, a boolean, and an array of tables, each with its
+-- value if there is none.
 abbrev pub TextAt : List ℕ → Members → Option (List ℕ) → Type 0
 TextAt key ms None = get_member key ms ≡ None
 TextAt key ms (Some text) = get_member key ms ≡ Some (string text)
@@ -44,7 +43,7 @@ TextAt key ms (Some text) = get_member key ms ≡ Some (string text)
 abbrev pub NameAt : List ℕ → Members → List ℕ → Type 0
 NameAt key ms name = TextAt key ms (Some name) × IsName name
 
--- the key has a truth value, or is missing and false
+-- the key has a boolean, or is missing and false
 abbrev pub FlagAt : List ℕ → Members → Bool → Type 0
 FlagAt key ms b = (get_member key ms ≡ Some (boolean b)) ⊎ (get_member key ms ≡ None) × (b ≡ false)
 
@@ -63,7 +62,7 @@ IsInUseUnder Constant w = IsNone w.key × IsNone w.dictionary
 IsInUseUnder Default w = IsNone w.key × IsNone w.dictionary
 IsInUseUnder operator w = IfSome w.key IsName × IfSome w.dictionary IsDictionary
 
--- the keys of the operator are those that it takes
+-- the keys of the operator are those that it allows
 abbrev pub IsInUse : Written → Type 0
 IsInUse w = IsInUseUnder w.operator w
 
@@ -83,7 +82,7 @@ pub record WritesOperator (ms : Members) (w : Written) : Type 0 where
 abbrev pub WritesPart : List ℕ → List (List ℕ) → Members → Written → Members → Type 0
 WritesPart key keys ms w os = (get_member key ms ≡ Some (table os)) × HasOnly keys os × WritesOperator os w ⊎ (get_member key ms ≡ None) × (os ≡ no_members) × (w ≡ plain)
 
--- the kind of a table
+-- the type of a table
 abbrev pub kind_key : Members → List ℕ → Type 0
 kind_key ms text = TextAt (codes "kind") ms (Some text)
 

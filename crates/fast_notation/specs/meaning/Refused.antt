@@ -1,4 +1,4 @@
--- Where the conditions of the codes stand in a written template set that stands for no tree.
+-- The conditions of the codes, in a written template set that stands for no tree.
 use Rattle.std.specs.Prelude.{◌≡◌, ◌≢◌, ◌⊎◌, ℕ, zero, suc, ◌<◌, List, All, Any, Contains, slice_get, take, Some}
 use Rattle.fast_notation.specs.declared.codes.StaticCode.{StaticCode}
 use Rattle.fast_notation.specs.declared.codes.StaticCode.TheVariants.{S1, S2, S3, S4, S5, D8, C1, C2, C3, C4, C5, C6, Memory}
@@ -10,18 +10,18 @@ use Rattle.fast_notation.specs.meaning.Uses.{IsS2, IsS3, IsS4, IsS5}
 use Rattle.fast_notation.specs.meaning.InPlace.{InPlace, AreInPlace}
 use Rattle.fast_notation.specs.meaning.Checked.{AreNarrowInside}
 
--- So many references lead from one template to the other, each from the text of the template before.
+-- A number of references lead from one template to the other, each from the template before.
 -- FAST 1.1: Template Definition, Template Reference Instruction.
 abbrev pub Reaches : List DeclaredTemplate → ℕ → ℕ → ℕ → Type 0
 Reaches ts zero a b = a ≡ b
 Reaches ts (suc n) a b = (mid : ℕ) × (t u : DeclaredTemplate) × (slice_get ts a ≡ Some t) × (slice_get ts mid ≡ Some u) × Contains (all_references t.fields) u.name × Reaches ts n mid b
 
--- The template's instructions with references in place.
+-- The template's instructions with references expanded.
 -- FAST 1.1: Template Definition, Template Reference Instruction.
 abbrev pub IsBodyOf : List DeclaredTemplate → ℕ → Body → Type 0
 IsBodyOf ts k body = (entries : List Entry) × (t : DeclaredTemplate) × (n m : ℕ) × (slice_get ts k ≡ Some t) × InPlace ts entries nesting_limit (scope_of k t) t.fields n body m
 
--- The condition of a code stands in the written set, at the template of this number. (S1 is that no set is written.)
+-- The condition of a code holds in the written set, at the template of this number. (S1 is that no set is written.)
 -- FAST 1.1: Error Codes, S1 to S5 and D8.
 abbrev pub StandsAt : List DeclaredTemplate → StaticCode → ℕ → Type 0
 StandsAt ts S1 k = ⊥

@@ -1,4 +1,4 @@
--- What is wrong with a text that writes no template set.
+-- The fault of a file that writes no template set.
 use Rattle.std.specs.Prelude.{◌≡◌, ℕ, ◌<◌, ◌≤◌, ◌^◌, codes, Option, Some, None}
 use Rattle.toml.specs.Data.{array, table, Items, no_items, item, Members, no_members, member, get_item}
 use Rattle.fast_notation.specs.declared.codes.StaticCode.{StaticCode}
@@ -16,7 +16,7 @@ AreTables (item d xs) = (ms : Members) × (d ≡ table ms) × AreTables xs
 abbrev pub HasTables : Members → Items → Type 0
 HasTables document xs = (document ≡ member (codes "template") (array xs) no_members) × AreTables xs × (1 ≤ items_count xs) × (items_count xs < 2 ^ 32)
 
--- What is wrong with a text that `toml` reads as a document, or doesn't read, and at which template.
+-- The fault of a file that `toml` reads as a document, or does not read, and the template at which it is.
 abbrev pub IsUnwritten : Option Members → StaticCode → Option ℕ → Type 0
 IsUnwritten read S1 None = (document : Members) (xs : Items) → read ≡ Some document → ¬ (HasTables document xs)
 IsUnwritten read S1 (Some k) = (document ms : Members) × (xs : Items) × (read ≡ Some document) × HasTables document xs × (get_item k xs ≡ Some (table ms)) × ((t : DeclaredTemplate) → ¬ (WritesTemplate ms t))

@@ -1,4 +1,4 @@
--- The uses of operators: what a written one stands for, and how it can be at fault.
+-- The uses of operators: the field of a written one, and its faults.
 use Rattle.std.specs.Prelude.{◌≡◌, ℕ, Bool, true, false, List, Option, Some, None}
 use Rattle.fast_value.specs.meaning.Kinds.{ScalarData, integer_of, Family, integers, decimals, texts, family, exponent_range, IsWithin}
 use Rattle.fast_value.specs.meaning.Initial.{IsInitial}
@@ -22,7 +22,7 @@ abbrev pub IsInitialInPart : Part → ScalarData → Type 0
 IsInitialInPart exponent v = IsWithin exponent_range (integer_of v)
 IsInitialInPart part v = Unit {0}
 
--- The text of the initial value means this value.
+-- The string of the initial value stands for this value.
 -- FAST 1.1: Template Definition, Initial Value.
 abbrev pub IsInitialOf : Use → Option (List ℕ) → Option ScalarData → Type 0
 IsInitialOf u None None = Unit {0}
@@ -30,13 +30,13 @@ IsInitialOf u None (Some v) = ⊥
 IsInitialOf u (Some text) None = ⊥
 IsInitialOf u (Some text) (Some v) = IsInitial u.kind text v × IsInitialInPart u.part v
 
--- The codes that a use of an operator can raise: it doesn't suit the family; the initial value is no text of one; a
--- constant has none; a mandatory default has none.
+-- The codes of a use of an operator: it does not suit the family; the initial value is not one of the type; a constant has none; a
+-- mandatory default has none.
 -- FAST 1.1: Error Codes, S2.
 abbrev pub IsS2 : Use → Type 0
 IsS2 u = suits u.written.operator (family u.kind) ≡ false
 
--- the initial value is no text of one
+-- the initial value is not one of the type
 -- FAST 1.1: Error Codes, S3.
 abbrev pub IsS3 : Use → Type 0
 IsS3 u = (v : Option ScalarData) → ¬ (IsInitialOf u u.written.value v)
@@ -51,7 +51,7 @@ IsS4 u = (u.written.operator ≡ Constant) × (u.written.value ≡ None)
 abbrev pub IsS5 : Use → Type 0
 IsS5 u = (u.written.operator ≡ Default) × (u.optional ≡ false) × (u.written.value ≡ None)
 
--- The field that a use of an operator stands for.
+-- The field of a use of an operator.
 pub record IsField (entries : List Entry) (s : Scope) (u : Use) (f : FieldData) : Type 0 where
   pub kind : f.kind ≡ u.kind
   pub optional : f.optional ≡ u.optional
