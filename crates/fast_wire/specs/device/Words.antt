@@ -24,6 +24,6 @@ pub record IsFrontWord (word : ℕ) (bytes : List ℕ) : Type 0 where
   pub enough : 8 ≤ length bytes
   pub same : word ≡ from_le_bytes w64 (take 8 bytes)
 
--- The word is that of four bytes which stand for the same integer as these do.
+-- The word is that of four bytes which encode the same integer as these do.
 abbrev pub IsSpread : ℕ → List ℕ → Type 0
 IsSpread word front = (w : List ℕ) × (length w ≡ 4) × All (λ byte. byte < 256) w × (word ≡ word_of w) × (signed w ≡ signed front)
