@@ -20,7 +20,7 @@ pub record AreNodeWidths (nodes : List Node) (widths : List ℕ) : Type 0 where
   pub long : length widths ≡ length nodes
   pub each : (n : ℕ) (v : Node) → slice_get nodes n ≡ Some v → slice_index widths n ≡ bits_of (body_among nodes (numbers_of v.shape))
 
--- The widths are the bits that the messages of the templates use, the identifier's among them.
+-- The widths are the bits that the messages of the templates use, that of the identifier included.
 pub record AreTemplateWidths (nodes : List Node) (templates : List Template) (widths : List ℕ) : Type 0 where
   pub long : length widths ≡ length templates
   pub each : (i : ℕ) (t : Template) → slice_get templates i ≡ Some t → slice_index widths i ≡ message_bits (template_data (instructions_from 0 nodes) t)
