@@ -1,4 +1,4 @@
--- What a builder builds on, where it stands, and what it builds.
+-- The input of a builder, its position, and the nodes that it builds.
 use Rattle.std.specs.Prelude.{ℕ, List, Vec}
 use Rattle.std.specs.Global.{Global}
 use Rattle.std.specs.HashMap.{get_by_text}
@@ -23,11 +23,11 @@ entries_in b = entries_of b.entries.now
 abbrev pub IsBuilder : Builder → Type 0
 IsBuilder b = IsIndexed (get_by_text b.set.now.names) (templates_in b) (entries_in b)
 
--- The instructions can be built there, behind so many nodes.
+-- The instructions can be built there, after n nodes.
 abbrev pub CanBuildAt : Builder → BuildContext → DeclaredList → ℕ → Type 0
 CanBuildAt b at ds n = CanBuild (templates_in b) (entries_in b) at.chain (scope_data at.scope) ds n
 
--- The instructions that stand there are built behind the old nodes, with their numbers behind those that were there.
+-- The instructions of the context are built after the old nodes, with their numbers after those that were there.
 abbrev pub IsBuiltAt : Builder → BuildContext → DeclaredList → Vec Node Global → Vec Node Global → List ℕ → List ℕ → Type 0
 IsBuiltAt b at ds old new before after =
     IsBuilt (templates_in b) (entries_in b) at.chain (scope_data at.scope) ds (data_of old) (data_of new) before after

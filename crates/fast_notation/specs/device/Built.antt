@@ -1,4 +1,4 @@
--- The nodes that instructions are spread into, and when they are built.
+-- The nodes of instructions, and the conditions under which they are built.
 use Rattle.std.specs.Prelude.{◌≡◌, ◌≢◌, ℕ, ◌+◌, ◌*◌, ◌≤◌, zero, suc, List, [], ◌∷◌, ◌++◌, All, AllPairs, IsSome, length, map, flat_map, Option, Vec}
 use Rattle.std.specs.Global.{Global}
 use Rattle.fast_tree.specs.declared.instructions.Node.{Node}
@@ -26,7 +26,7 @@ abbrev pub top_numbers : Body → List ℕ
 top_numbers end = []
 top_numbers (step i is) = own_number i ∷ top_numbers is
 
--- the nodes of an instruction and of all that it holds, and those of a body, in preorder
+-- the nodes of an instruction and of all that it contains, and those of a body, in preorder
 abbrev mutual
   pub spread : Instruction → List NodeData
   spread (field l f) = record { name = l.name; shape = a_field f } ∷ []
@@ -44,7 +44,7 @@ with_shape [] n s = []
 with_shape (x ∷ xs) zero s = record { name = x.name; shape = s } ∷ xs
 with_shape (x ∷ xs) (suc n) s = x ∷ with_shape xs n s
 
--- what nodes hold
+-- the data of nodes
 abbrev pub data_of : Vec Node Global → List NodeData
 data_of v = map node_data v.items
 
@@ -62,15 +62,14 @@ pub record IsIndexed (look : List ℕ → Option ℕ) (ts : List DeclaredTemplat
   pub collected : Collects [] (uses_from 0 ts) entries
   pub few : length entries ≤ 2 * node_limit
 
--- The instructions can be built behind so many nodes, with references in place in a chain of no more than so many.
+-- The instructions can be built after n nodes, with references expanded in a chain of at most the given length.
 pub record CanBuild (ts : List DeclaredTemplate) (entries : List Entry) (chain : ℕ) (s : Scope) (ds : DeclaredList) (n : ℕ) : Type 0 where
   pub ready : All (IsReady entries s) (all_uses ds)
   pub known : All (λ name. IsSome (place_of_name name ts)) (all_references ds)
   pub fits : Fits ts chain ds
   pub few : n + nodes_in ts chain ds ≤ node_limit
 
--- The instructions with references in place are a body, whose nodes stand behind the old ones, and whose numbers
--- stand behind those that were there.
+-- The instructions with references expanded are a body, whose nodes follow the old ones, and whose numbers follow those that were there.
 pub record IsBuilt (ts : List DeclaredTemplate) (entries : List Entry) (chain : ℕ) (s : Scope) (ds : DeclaredList) (old new : List NodeData) (before after : List ℕ) : Type 0 where
   pub body : Body
   pub in_place : InPlace ts entries chain s ds (length old) body (length new)
@@ -81,7 +80,7 @@ pub record IsBuilt (ts : List DeclaredTemplate) (entries : List Entry) (chain : 
 abbrev pub outline_of : TemplateData → TemplateOutline
 outline_of u = record { name = u.name; id = u.id; reset = u.reset; body = top_numbers u.body }
 
--- The first templates of a set with references in place, their nodes, and how they name these.
+-- The first templates of a set with references expanded, their nodes, and how they name these.
 pub record AreBuilt (all : List DeclaredTemplate) (entries : List Entry) (ts : List DeclaredTemplate) (nodes : List NodeData) (outlines : List TemplateOutline) : Type 0 where
   pub templates : List TemplateData
   pub in_place : AreInPlace all entries 0 ts 0 templates (length nodes)

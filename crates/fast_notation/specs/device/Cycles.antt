@@ -4,7 +4,7 @@ use Rattle.std.specs.Global.{Global}
 use Rattle.std.specs.List.{filter_map}
 use Rattle.fast_tree.specs.meaning.AsWritten.{DeclaredTemplate, all_references}
 
--- the numbers of the templates that a template refers to
+-- the numbers of the templates to which a template refers
 abbrev pub targets_of : (List ℕ → Option ℕ) → DeclaredTemplate → List ℕ
 targets_of index t = filter_map index (all_references t.fields)
 
@@ -16,7 +16,7 @@ numbers v = v.items
 abbrev pub Refers : List (Vec ℕ Global) → ℕ → ℕ → Type 0
 Refers graph a b = (v : Vec ℕ Global) × (slice_get graph a ≡ Some v) × Contains v.items b
 
--- So many references lead from the first to the second.
+-- A number of references lead from the first to the second.
 unfoldable pub Leads : List (Vec ℕ Global) → ℕ → ℕ → ℕ → Type 0
 Leads graph zero a b = a ≡ b
 Leads graph (suc n) a b = (mid : ℕ) × Refers graph a mid × Leads graph n mid b
@@ -32,7 +32,7 @@ pub record IsCyclic (graph : List (Vec ℕ Global)) (k : ℕ) : Type 0 where
   pub more : ℕ
   pub leads : Leads graph (suc more) k k
 
--- The rank of a template is no greater than this one, and where it is strict it is less.
+-- The rank of a template is no greater than this one, or, if strict, less.
 abbrev pub LeadsDown : List ℕ → Bool → ℕ → ℕ → Type 0
 LeadsDown ranks strict rank k = (next : ℕ) × (slice_get ranks k ≡ Some next) × (next ≤ rank) × (strict ≡ true → next < rank)
 

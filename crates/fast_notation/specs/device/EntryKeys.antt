@@ -1,4 +1,4 @@
--- Operators in their texts, and the entries that are kept for them, without their memory.
+-- Operators in the scopes of their templates, and the entries that are kept for them, without their memory.
 use Rattle.std.specs.Prelude.{◌≡◌, true, List, map, Contains, string_bytes}
 use Rattle.fast_notation.specs.declared.scopes.TextScope.{TextScope}
 use Rattle.fast_notation.specs.declared.scopes.OperatorUse.{OperatorUse}
@@ -11,7 +11,7 @@ use Rattle.fast_tree.specs.meaning.Entries.{Place, global, of_template, named, E
 use Rattle.fast_notation.specs.device.Sound.{part_data}
 use Rattle.fast_notation.specs.device.WrittenSets.{operator_data}
 
--- the scope of a text
+-- the data of a scope
 abbrev pub scope_data : TextScope → Scope
 scope_data s = record { template = s.template; dictionary = s.dictionary.now }
 

@@ -1,4 +1,4 @@
--- How many nodes instructions come to and how deep they nest, counted up to the greatest number that is held.
+-- The number of nodes of instructions and their nesting depth, counted up to the greatest number that is held.
 use Rattle.std.specs.Prelude.{◌≡◌, ◌⊎◌, ℕ, zero, suc, ◌+◌, ◌<◌, ◌≤◌, max, min, List, [], ◌∷◌, length, slice_get, Option, Some, None, option_map}
 use Rattle.fast_notation.specs.declared.extents.Extent.{Extent}
 use Rattle.fast_tree.specs.meaning.AsWritten.{Declared, scalar, by_parts, group, sequence, reference, DeclaredList, no_more, more, DeclaredTemplate}
@@ -26,12 +26,12 @@ beside a b = record { nodes = capped (a.nodes + b.nodes); depth = max a.depth b.
 abbrev pub around : Extent → Extent
 around a = record { nodes = capped (a.nodes + 1); depth = capped (a.depth + 1) }
 
--- what stands there, if it is known
+-- the value, if it is known
 abbrev pub if_known : Option (Option Extent) → Option Extent
 if_known None = None
 if_known (Some e) = e
 
--- the extent of the template of a number, if it is known
+-- the extent of the template with a number, if it is known
 abbrev pub extent_at : List (Option Extent) → Option ℕ → Option Extent
 extent_at extents None = None
 extent_at extents (Some k) = if_known (slice_get extents k)
@@ -40,12 +40,12 @@ extent_at extents (Some k) = if_known (slice_get extents k)
 abbrev pub named_extent : (List ℕ → Option ℕ) → List (Option Extent) → List ℕ → Option Extent
 named_extent index extents name = extent_at extents (index name)
 
--- what is done with an extent, if it is known
+-- the next step on an extent, if it is known
 abbrev pub and_then : Option Extent → (Extent → Option Extent) → Option Extent
 and_then None next = None
 and_then (Some e) next = next e
 
--- the extent of an instruction, and of instructions behind others, by those of what references name
+-- the extent of an instruction, and of instructions one after the other, by those of the templates to which references lead
 abbrev mutual
   pub extent_in : (List ℕ → Option Extent) → Declared → Option Extent
   extent_in of (scalar name optional kind w) = Some single
@@ -69,21 +69,21 @@ next_extents of [] ts = []
 next_extents of (e ∷ es) [] = []
 next_extents of (e ∷ es) (t ∷ ts) = or_extent e (extent_by of t.fields nothing) ∷ next_extents of es ts
 
--- the nodes of what is known
+-- the number of nodes, if it is known
 abbrev pub known_nodes : Option Extent → ℕ
 known_nodes None = 0
 known_nodes (Some e) = e.nodes
 
--- The instructions fit in less than so many rounds, and come to this extent.
+-- The instructions fit in fewer than n rounds, and have this extent.
 unfoldable pub IsExtent : List DeclaredTemplate → ℕ → DeclaredList → Extent → Type 0
 IsExtent ts zero ds e = ⊥
 IsExtent ts (suc n) ds e = Fits ts n ds × (e.nodes ≡ capped (nodes_in ts n ds)) × (e.depth ≡ capped (depth_in ts n ds))
 
--- So many references lead on from the template.
+-- A number of references lead on from the template.
 unfoldable pub LeadsOn : List DeclaredTemplate → ℕ → ℕ → Type 0
 LeadsOn ts n k = (b : ℕ) × Reaches ts n k b
 
--- What is known of each template after so many rounds.
+-- The extents that are known after n rounds.
 pub record AreExtents (ts : List DeclaredTemplate) (n : ℕ) (extents : List (Option Extent)) : Type 0 where
   pub long : length extents ≡ length ts
   pub known : (k : ℕ) (t : DeclaredTemplate) (e : Extent) → slice_get ts k ≡ Some t → slice_get extents k ≡ Some (Some e) → IsExtent ts n t.fields e
@@ -94,6 +94,6 @@ abbrev pub IsShallow : Option Extent → Type 0
 IsShallow None = ⊥
 IsShallow (Some e) = e.depth ≤ nesting_limit
 
--- Nothing is known of the template of this number, or it is too deep.
+-- The extent of the template of this number is not known, or it is too deep.
 abbrev pub IsDeepAt : List (Option Extent) → ℕ → Type 0
 IsDeepAt extents k = (slice_get extents k ≡ Some None) ⊎ ((e : Extent) × (slice_get extents k ≡ Some (Some e)) × (nesting_limit < e.depth))

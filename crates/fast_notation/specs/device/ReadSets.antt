@@ -1,4 +1,4 @@
--- Sets that are read: what is built of the templates that a text writes.
+-- Sets that are read: the nodes that are built for the templates of a file.
 use Rattle.std.specs.Prelude.{◌≡◌, ◌≢◌, ℕ, suc, ◌<◌, ◌≤◌, ◌^◌, List, [], All, AllPairs, length, map, sum_by, Option}
 use Rattle.fast_notation.specs.declared.building.BuiltSet.{BuiltSet}
 use Rattle.fast_tree.specs.meaning.AsWritten.{DeclaredTemplate, all_uses}
@@ -11,7 +11,7 @@ use Rattle.fast_notation.specs.device.References.{KnowsReferences}
 use Rattle.fast_tree.specs.meaning.Sizes.{nesting_limit, node_limit}
 use Rattle.fast_notation.specs.device.Sound.{IsSound}
 
--- The templates of a text, of which an index by name is known, can be built.
+-- The templates of a file, of which an index by name is known, can be built.
 pub record IsChecked (look : List ℕ → Option ℕ) (ts : List DeclaredTemplate) : Type 0 where
   pub many : length ts < 2 ^ 32
   pub index : (q : List ℕ) → look q ≡ place_of_name q ts

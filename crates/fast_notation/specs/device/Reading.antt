@@ -1,4 +1,4 @@
--- What the tables of a template text hold, key by key, computed: nothing where it is not of the stated shape.
+-- The contents of the tables of a template file, key by key, as functions: None if they are not of the stated shape.
 use Rattle.std.specs.Prelude.{ℕ, suc, ◌&&◌, ◌||◌, nat_le, nat_lt, nat_eq, if◌then◌else◌, Bool, true, false, not, List, [], ◌∷◌, length, codes, pos, Option, Some, None, is_some, is_none}
 use Rattle.std.specs.List.{list_all}
 use Rattle.std.specs.Str.{bytes_eq}
@@ -21,15 +21,15 @@ None >>= f = None
 abbrev pub checked : {A : Type 0} → Bool → A → Option A
 checked b x = if b then Some x else None
 
--- the byte may stand in a name
+-- the byte may occur in a name
 abbrev pub is_name_byte : ℕ → Bool
 is_name_byte c = (nat_le 0x41 c && nat_le c 0x5A) || (nat_le 0x61 c && nat_le c 0x7A) || (nat_le 0x30 c && nat_le c 0x39) || nat_eq c 0x5F || nat_eq c 0x2D || nat_eq c 0x2E
 
--- the text is a name
+-- the string is a name
 abbrev pub is_name : List ℕ → Bool
 is_name s = list_all is_name_byte s && nat_le 1 (length s) && nat_le (length s) 64
 
--- the text names a dictionary
+-- the string names a dictionary
 abbrev pub is_dictionary : List ℕ → Bool
 is_dictionary s = is_name s && not (bytes_eq s (codes "type"))
 
@@ -43,13 +43,13 @@ abbrev pub has_only : List (List ℕ) → Members → Bool
 has_only keys no_members = true
 has_only keys (member k d ms) = is_one_of keys k && has_only keys ms
 
--- a text, or nothing
+-- a string, or nothing
 abbrev pub text_of : Option Data → Option (Option (List ℕ))
 text_of None = Some None
 text_of (Some (string s)) = Some (Some s)
 text_of (Some d) = None
 
--- a truth value, or nothing, which is false
+-- a boolean, or nothing, which is false
 abbrev pub flag_of : Option Data → Option Bool
 flag_of None = Some false
 flag_of (Some (boolean b)) = Some b
@@ -61,11 +61,11 @@ items_of None = Some no_items
 items_of (Some (array xs)) = Some xs
 items_of (Some d) = None
 
--- the text there has to be a name
+-- the string there has to be a name
 abbrev pub name_of : Option Data → Option (List ℕ)
 name_of o = text_of o >>= (λ t. t >>= (λ s. checked (is_name s) s))
 
--- the kind of this name
+-- the type of this name
 abbrev pub kind_named : List ℕ → Option Kind
 kind_named s =
     if bytes_eq s (codes "uInt32") then Some UInt32
@@ -90,7 +90,7 @@ operator_named s =
     else if bytes_eq s (codes "tail") then Some Tail
     else None
 
--- the operator, which is none where nothing is written
+-- the operator, which is none if nothing is written
 abbrev pub operator_or_none : Option (List ℕ) → Option Operator
 operator_or_none None = Some no_operator
 operator_or_none (Some s) = operator_named s
@@ -99,24 +99,24 @@ operator_or_none (Some s) = operator_named s
 abbrev pub operator_of : Option Data → Option Operator
 operator_of o = text_of o >>= operator_or_none
 
--- a name, where something is written
+-- a name, if something is written
 abbrev pub name_or_none : Option (List ℕ) → Bool
 name_or_none None = true
 name_or_none (Some s) = is_name s
 
--- a dictionary's name, where something is written
+-- a dictionary's name, if something is written
 abbrev pub dictionary_or_none : Option (List ℕ) → Bool
 dictionary_or_none None = true
 dictionary_or_none (Some s) = is_dictionary s
 
--- the operator takes what is written
+-- the operator allows the keys that are written
 abbrev pub takes : Operator → Written → Bool
 takes no_operator w = is_none w.value && is_none w.key && is_none w.dictionary
 takes Constant w = is_none w.key && is_none w.dictionary
 takes Default w = is_none w.key && is_none w.dictionary
 takes operator w = name_or_none w.key && dictionary_or_none w.dictionary
 
--- what the four keys of an operator write
+-- the operator that the four keys write
 abbrev pub written_of : Members → Option Written
 written_of ms =
     operator_of (get_member (codes "op") ms) >>= (λ operator.
@@ -149,7 +149,7 @@ length_of (Some (table os)) =
     else None
 length_of (Some d) = None
 
--- a field of a kind
+-- a field of a type
 abbrev pub scalar_of : Kind → Members → Option Declared
 scalar_of kind ms =
     if has_only (codes "kind" ∷ codes "name" ∷ codes "optional" ∷ operator_keys) ms
@@ -168,7 +168,7 @@ parts_of ms =
     part_of operator_keys (get_member (codes "mantissa") ms) >>= (λ m. Some (by_parts name optional e m)))))
     else None
 
--- a group, by what stands at its `fields`
+-- a group, by the value at its `fields`
 abbrev pub group_of : Members → Option DeclaredList → Option Declared
 group_of ms inner =
     if has_only (codes "kind" ∷ codes "name" ∷ codes "optional" ∷ codes "fields" ∷ []) ms
@@ -177,7 +177,7 @@ group_of ms inner =
     inner >>= (λ ds. Some (group name optional ds))))
     else None
 
--- a sequence, by what stands at its `fields`
+-- a sequence, by the value at its `fields`
 abbrev pub sequence_of : Members → Option DeclaredList → Option Declared
 sequence_of ms inner =
     if has_only (codes "kind" ∷ codes "name" ∷ codes "optional" ∷ codes "fields" ∷ codes "length" ∷ []) ms
@@ -198,12 +198,12 @@ reference_of ms =
 abbrev pub has_part : Members → Bool
 has_part ms = is_some (get_member (codes "exponent") ms) || is_some (get_member (codes "mantissa") ms)
 
--- a field of a kind, which is a decimal by parts where it has one
+-- a field of a type, which is a decimal by parts if it has one
 abbrev pub field_of : Kind → Members → Option Declared
 field_of Decimal ms = if has_part ms then parts_of ms else scalar_of Decimal ms
 field_of kind ms = scalar_of kind ms
 
--- the instruction of a table whose `kind` is this text
+-- the instruction of a table whose `kind` is this string
 abbrev pub of_kind : List ℕ → Members → Option DeclaredList → Option Declared
 of_kind kind ms inner =
     if bytes_eq kind (codes "group") then group_of ms inner
@@ -221,7 +221,7 @@ in_front (Some d) (Some ds) = Some (more d ds)
 in_front (Some d) None = None
 in_front None ds = None
 
--- what a table says, what stands at its `fields`, and the instructions of an array's items
+-- the instruction of a table, the value at its `fields`, and the instructions of an array's items
 abbrev mutual
   pub declared_of : Data → Option Declared
   declared_of (table ms) = of_table ms (fields_of ms)
@@ -245,7 +245,7 @@ id_of None = Some None
 id_of (Some (integer (pos n))) = checked (nat_lt n 4294967296) (Some n)
 id_of (Some d) = None
 
--- the dictionary of a template, which is the global one where nothing is written
+-- the dictionary of a template, which is the global one if none is written
 abbrev pub dictionary_named : Option (List ℕ) → Option (List ℕ)
 dictionary_named None = Some (codes "global")
 dictionary_named (Some s) = checked (is_dictionary s) s
@@ -275,12 +275,12 @@ abbrev pub all_templates : Items → Option (List DeclaredTemplate)
 all_templates no_items = Some []
 all_templates (item d ds) = template_in d >>= (λ t. all_templates ds >>= (λ ts. Some (t ∷ ts)))
 
--- how many members there are
+-- the number of members
 abbrev pub members_count : Members → ℕ
 members_count no_members = 0
 members_count (member k d ms) = suc (members_count ms)
 
--- how many items there are
+-- the number of items
 abbrev pub items_count : Items → ℕ
 items_count no_items = 0
 items_count (item d ds) = suc (items_count ds)

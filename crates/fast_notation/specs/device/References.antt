@@ -1,4 +1,4 @@
--- The references of a set that is written.
+-- The references of a written set.
 use Rattle.std.specs.Prelude.{List, All, IsSome}
 use Rattle.fast_notation.specs.declared.written.WrittenInstruction.{WrittenInstruction}
 use Rattle.fast_tree.specs.meaning.AsWritten.{DeclaredTemplate, all_references}

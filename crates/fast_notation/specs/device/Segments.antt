@@ -4,7 +4,7 @@ use Rattle.fast_tree.specs.meaning.Tree.{Body, bits_of, TemplateData, message_bi
 use Rattle.fast_tree.specs.meaning.Sizes.{segment_limit}
 use Rattle.fast_notation.specs.meaning.Checked.{AreNarrowInside}
 
--- the segment has at most so many bits, and those inside it at most those of a presence map
+-- the segment has at most n bits, and those inside it at most those of a presence map
 abbrev pub IsNarrowSegment : ℕ → Body → Type 0
 IsNarrowSegment limit body = (bits_of body ≤ limit) × AreNarrowInside body
 

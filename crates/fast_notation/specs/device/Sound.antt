@@ -1,4 +1,4 @@
--- Uses of operators that are at no fault, and those that are.
+-- Uses of operators without a fault, and those with one.
 use Rattle.std.specs.Prelude.{ℕ, Bool, List, [], Any, Option}
 use Rattle.fast_value.specs.declared.kinds.Kind.{Kind}
 use Rattle.fast_value.specs.meaning.Kinds.{ScalarData}
@@ -12,18 +12,18 @@ use Rattle.fast_tree.specs.meaning.AsWritten.{Part, whole, exponent, mantissa, l
 use Rattle.fast_notation.specs.meaning.Uses.{IsInitialOf, IsInitialInPart, IsS2, IsS3, IsS4, IsS5}
 use Rattle.fast_notation.specs.device.WrittenSets.{fields_data}
 
--- which entry it is, as the definitions have it
+-- the part of an entry, as in the definitions
 abbrev pub part_data : OperatorPart → Part
 part_data Whole = whole
 part_data Exponent = exponent
 part_data Mantissa = mantissa
 part_data Length = length
 
--- A use of an operator, whatever the name of the field.
+-- A use of an operator, without the name of the field.
 abbrev pub bare_use : OperatorPart → Kind → Bool → Written → Use
 bare_use part kind optional w = record { kind = kind; optional = optional; name = []; part = part_data part; written = w }
 
--- the text of an initial value means this value in its part
+-- the string of an initial value stands for this value in its part
 abbrev pub IsInitialAt : OperatorPart → Kind → List ℕ → ScalarData → Type 0
 IsInitialAt part kind text v = IsInitial kind text v × IsInitialInPart (part_data part) v
 

@@ -1,4 +1,4 @@
--- Which table of a template set is not read, and as what.
+-- The table of a template set that is not read, and its fault.
 use Rattle.std.specs.Prelude.{◌≡◌, ℕ, Option, Some, None}
 use Rattle.toml.specs.Data.{Data, Items, get_item}
 use Rattle.fast_notation.specs.declared.codes.StaticCode.{StaticCode}

@@ -33,8 +33,7 @@ abbrev pub HasOnly : List (List ℕ) → Members → Type 0
 HasOnly keys no_members = Unit {0}
 HasOnly keys (member k d ms) = Contains keys k × HasOnly keys ms
 
--- The value at a key: a string, if there is one. The next definitions are for a name, a boolean, and an array of tables, each with its
--- value if there is none.
+-- The key has the string, or is missing if there is none.
 abbrev pub TextAt : List ℕ → Members → Option (List ℕ) → Type 0
 TextAt key ms None = get_member key ms ≡ None
 TextAt key ms (Some text) = get_member key ms ≡ Some (string text)
