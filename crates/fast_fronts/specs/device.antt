@@ -1,2 +1,2 @@
--- Devices of contracts within the crates and of proofs.
+-- Definitions for the contracts of internal functions and for proofs.
 pub mod Fronts

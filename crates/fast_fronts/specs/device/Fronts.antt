@@ -7,13 +7,13 @@ use Rattle.fast_wire.specs.meaning.Faulty.{IsWrongInt}
 use Rattle.fast_fronts.specs.declared.fronts.First.{First}
 use Rattle.fast_fronts.specs.declared.fronts.First.TheVariants.{Whole, Wrong, Cut}
 
--- What the bytes begin with: an integer, which the result stands for by `meant`; a wrong front; or a front of an entity.
+-- The front of the bytes: an integer, which `meant` gives of the result; bytes that decide a fault; or a proper prefix of an entity.
 abbrev pub IsFirstInt : {T : Type 0} → (T → Option ℤ) → Bool → Range → Bool → First T → List ℕ → Type 0
 IsFirstInt meant strict range nullable (Whole x n) bytes = (n ≤ length bytes) × SpellsInt strict range nullable (meant x) (take n bytes)
 IsFirstInt meant strict range nullable (Wrong fault n) bytes = (n ≤ length bytes) × IsWrongInt strict range nullable fault (take n bytes)
 IsFirstInt meant strict range nullable Cut bytes = HaveNoStop bytes × (length bytes < 10)
 
--- what was read of an entity of this length
+-- the result of reading an entity of this length
 abbrev pub first_of : {T : Type 0} → Result T WireFault → ℕ → First T
 first_of (Ok x) len = Whole x len
 first_of (Err fault) len = Wrong fault len
