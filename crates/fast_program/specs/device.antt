@@ -1,4 +1,4 @@
--- Devices of contracts within the crates and of proofs: what codes say of nodes, and the runs of programs.
+-- Definitions for the contracts of internal functions and for proofs: the nodes of codes, and the runs of programs.
 pub mod Codes
 pub mod Ops
 pub mod Runs

@@ -1,4 +1,4 @@
--- What a code says of the shape of its node.
+-- The shape of a node, by its code.
 use Rattle.std.specs.Prelude.{◌≡◌, ℕ, Bool, true, false, Some, Vec}
 use Rattle.std.specs.Global.{Global}
 use Rattle.fast_value.specs.declared.kinds.Kind.{Kind}
@@ -20,13 +20,12 @@ use Rattle.fast_program.specs.declared.codes.Code.TheVariants.{AsciiPlain, Ascii
 use Rattle.fast_program.specs.declared.codes.Code.TheVariants.{UnicodePlain, UnicodeNullablePlain, UnicodeDelta, UnicodeNullableDelta}
 use Rattle.fast_program.specs.declared.codes.Code.TheVariants.{BytesPlain, BytesNullablePlain, BytesTail, BytesNullableTail}
 
--- The shape is a field of the kind under the operator, which may be absent or not; where the operator keeps a value, it has
--- this entry.
+-- The shape is a field of the type under the operator, optional or mandatory; if the operator keeps a value, it has this entry.
 abbrev pub IsFieldCoded : Kind → Operator → Bool → ℕ → Shape → Type 0
 IsFieldCoded kind operator optional entry shape =
     (f : FieldInstruction) × (shape ≡ Field f) × (f.kind ≡ kind) × (f.operator ≡ operator) × (f.optional ≡ optional) × (keeps_value operator ≡ true → f.entry ≡ Some entry)
 
--- The shape is a constant that is there.
+-- The shape is a mandatory constant.
 abbrev pub IsConstantCoded : Shape → Type 0
 IsConstantCoded shape = (f : FieldInstruction) × (shape ≡ Field f) × (f.operator ≡ constant) × (f.optional ≡ false)
 
@@ -34,22 +33,22 @@ IsConstantCoded shape = (f : FieldInstruction) × (shape ≡ Field f) × (f.oper
 abbrev pub IsPartsCoded : Shape → Type 0
 IsPartsCoded shape = (e m : FieldInstruction) × (shape ≡ by_parts e m)
 
--- The shape is a decimal by parts: an exponent under the operator, which may be absent or not, and a mantissa under delta that is
--- there and has this entry.
+-- The shape is a decimal by parts: an exponent under the operator, optional or mandatory, and a mandatory mantissa under delta, which has
+-- this entry.
 abbrev pub IsChangedPartsCoded : Operator → Bool → ℕ → Shape → Type 0
 IsChangedPartsCoded operator optional entry shape =
     (e m : FieldInstruction) × (shape ≡ by_parts e m) × (e.operator ≡ operator) × (e.optional ≡ optional) × (m.operator ≡ Delta) × (m.optional ≡ false) × (m.entry ≡ Some entry)
 
--- The shape is a group, which may be absent or not.
+-- The shape is a group, optional or mandatory.
 abbrev pub IsGroupCoded : Bool → Shape → Type 0
 IsGroupCoded optional shape = (body : Vec ℕ Global) × (shape ≡ a_group optional body)
 
--- The shape is a sequence whose length has no operator and may be absent or not.
+-- The shape is a sequence whose length has no operator, optional or mandatory.
 abbrev pub IsSequenceCoded : Bool → Shape → Type 0
 IsSequenceCoded optional shape =
     (length : FieldInstruction) × (body : Vec ℕ Global) × (shape ≡ a_sequence length body) × (length.operator ≡ no_operator) × (length.optional ≡ optional)
 
--- What a code can say of a shape.
+-- The claims of codes on shapes.
 pub data Claim : Type 0 where
   anything : Claim
   never : Claim
@@ -60,7 +59,7 @@ pub data Claim : Type 0 where
   group_of : Bool → Claim
   sequence_of : Bool → Claim
 
--- what a code says
+-- the claim of a code
 abbrev pub says : Code → Claim
 says General = anything
 says End = never
@@ -139,7 +138,7 @@ says OptionalGroup = group_of true
 says Sequence = sequence_of false
 says OptionalSequence = sequence_of true
 
--- The shape, with the entry, is what is claimed.
+-- The claim holds for the shape, with the entry.
 abbrev pub IsClaimed : Claim → ℕ → Shape → Type 0
 IsClaimed anything entry shape = Unit {0}
 IsClaimed never entry shape = ⊥
@@ -154,16 +153,16 @@ IsClaimed (sequence_of optional) entry shape = IsSequenceCoded optional shape
 unfoldable pub IsCoded : Code → ℕ → Shape → Type 0
 IsCoded code entry shape = IsClaimed (says code) entry shape
 
--- The code suits each field of the kind under the operator, which may be absent or not.
+-- The code suits each field of the type under the operator, optional or mandatory.
 abbrev pub IsCodeFor : Kind → Operator → Bool → Code → Type 0
 IsCodeFor kind operator optional code = (entry : ℕ) (shape : Shape) → IsFieldCoded kind operator optional entry shape → IsCoded code entry shape
 
--- The code suits each decimal by this exponent and a mantissa under delta that is there.
+-- The code suits each decimal by this exponent and a mandatory mantissa under delta.
 abbrev pub IsPartsCode : FieldInstruction → Code → Type 0
 IsPartsCode exponent code =
     (entry : ℕ) (m : FieldInstruction) → m.operator ≡ Delta → m.optional ≡ false → m.entry ≡ Some entry → IsCoded code entry (by_parts exponent m)
 
--- The code suits each group that may be absent or not.
+-- The code suits each group, optional or mandatory.
 abbrev pub IsGroupCode : Bool → Code → Type 0
 IsGroupCode optional code = (entry : ℕ) (body : Vec ℕ Global) → IsCoded code entry (a_group optional body)
 

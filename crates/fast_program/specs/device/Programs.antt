@@ -13,7 +13,7 @@ use Rattle.fast_program.specs.device.Starts.{IsStartOf, AreInOrder}
 abbrev pub SuitNodes : List Op → List Node → Type 0
 SuitNodes ops ns = (i : ℕ) (op : Op) → slice_get ops i ≡ Some op → is_end op.code ≡ false → (x : Node) × (slice_get ns op.node ≡ Some x) × IsOpOf op op.node x.shape
 
--- Ops behind which others were put: runs are what they were, and what suits the nodes, or tells where it stands, does so still.
+-- Ops to which others were appended: runs are unchanged, and ops that suit the nodes, or hold their own indexes, still do.
 pub record Extends (ns : List Node) (old new : List Op) : Type 0 where
   pub kept : (at : ℕ) (body : List ℕ) → Begins old at body → Begins new at body
   pub suit : SuitNodes old ns → SuitNodes new ns
@@ -26,7 +26,7 @@ AreStarts Is ops [] (x ∷ xs) = ⊥
 AreStarts Is ops (s ∷ starts) [] = ⊥
 AreStarts Is ops (s ∷ starts) (x ∷ xs) = Is ops s x × AreStarts Is ops starts xs
 
--- At a place the run of a node's body begins.
+-- The run of a node's body begins at an index.
 abbrev pub BeginsNode : List Op → ℕ → Node → Type 0
 BeginsNode ops at x = Begins ops at (numbers_of x.shape)
 
