@@ -5,8 +5,8 @@ use Rattle.fast_wire.specs.meaning.Maps.{map_limit}
 use Rattle.fast_cursor.specs.declared.pending.MapFront.{MapFront}
 use Rattle.fast_cursor.specs.declared.pending.MapFront.TheVariants.{Whole, TooLong, Cut}
 
--- The bytes in hand and those of the piece: some of the latter make the map whole, or too long, or all of them are in hand,
--- and the map is cut.
+-- The buffered bytes and those of the piece: some of the latter complete the map, or make it too long, or all of them are buffered, and the
+-- map is split.
 abbrev pub IsMapTaken : List ℕ → List ℕ → List ℕ → MapFront → Type 0
 IsMapTaken front rest after (Whole n) = (0 < n) × (n ≤ length rest) × (length (front ++ take n rest) ≤ map_limit) × IsEntity (front ++ take n rest) × (after ≡ front ++ take n rest)
 IsMapTaken front rest after (TooLong n) = (0 < n) × (n ≤ length rest) × (length front + n ≡ map_limit) × HaveNoStop (front ++ take n rest)

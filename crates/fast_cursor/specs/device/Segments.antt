@@ -1,4 +1,4 @@
--- What the fields of a cursor mean.
+-- The meaning of the fields of a cursor.
 use Rattle.std.specs.Prelude.{◌≡◌, ℕ, zero, suc, ◌+◌, ◌*◌, ◌≤◌, List, [], ◌∷◌, take, drop, length, Option, Some, None, option_map}
 use Rattle.fast_wire.specs.meaning.Maps.{map_limit}
 use Rattle.fast_program.specs.declared.ops.Op.{Op}
@@ -10,48 +10,48 @@ use Rattle.fast_cursor.specs.declared.frames.Elements.{Elements}
 use Rattle.fast_cursor.specs.declared.frames.Frame.{Frame}
 use Rattle.fast_cursor.specs.declared.cursor.Cursor.TheInside.{Inside}
 
--- what is still to come of a sequence
+-- the elements of a sequence that follow
 abbrev pub elements_data : List Op → Elements → ElementsData
 elements_data ops e = record { more = e.more; body = run_at ops e.start; width = e.width }
 
--- what is to come behind an element, which a frame tells by a mark that is not zero
+-- the elements that follow one, if a frame's mark is not zero
 abbrev pub marked : ℕ → Elements → Option Elements
 marked zero e = None
 marked (suc n) e = Some e
 
--- what a frame keeps of a sequence, if the segment that it is around is an element
+-- the elements of a sequence in a frame, if the segment that it is around is an element
 abbrev pub frame_elements : Frame → Option Elements
 frame_elements f = marked f.is_element (record { more = f.more; start = f.start; width = f.width })
 
--- the node in front, if one is left
+-- the first node, if one is left
 abbrev pub first_node : List ℕ → Option ℕ
 first_node [] = None
 first_node (node ∷ nodes) = Some node
 
--- The first bytes of the cells that begin at a place.
+-- The first bytes of the cells that begin at an index.
 abbrev pub map_at : List ℕ → ℕ → ℕ → List ℕ
 map_at cells start len = take len (drop start cells)
 
--- a frame, whose map's cells begin at a place
+-- a frame, whose map's cells begin at an index
 abbrev pub frame_data : List Op → List ℕ → ℕ → Frame → FrameData
 frame_data ops cells start f = record { after = run_at ops f.after; map = map_at cells start f.map.len; used = used_at (map_at cells start f.map.len) f.map.end f.map.word; ends = f.map.end; elements = option_map (elements_data ops) (frame_elements f) }
 
--- Frames that come the outermost first, on those around them: the cells of the first one's map begin at the place.
+-- Frames, the outermost first, on those around them: the cells of the first one's map begin at the index.
 abbrev pub frames_on : List Op → List ℕ → ℕ → List Frame → List FrameData → List FrameData
 frames_on ops cells start [] outer = outer
 frames_on ops cells start (f ∷ fs) outer = frames_on ops cells (start + map_limit) fs (frame_data ops cells start f ∷ outer)
 
--- The frames' places, the outermost first: the cells of the first one's map begin at the place.
+-- The frames' positions, the outermost first: the cells of the first one's map begin at the index.
 abbrev pub ArePlaces : List ℕ → ℕ → List Frame → Type 0
 ArePlaces cells start [] = Unit {0}
 ArePlaces cells start (f ∷ fs) = IsPlace (map_at cells start f.map.len) f.map × ArePlaces cells (start + map_limit) fs
 
--- The run of the elements that are to come, if any are.
+-- The run of the elements that follow, if any do.
 abbrev pub IsRunOf : List Op → Option Elements → Type 0
 IsRunOf ops None = Unit {0}
 IsRunOf ops (Some e) = IsRun ops e.start
 
--- The run that goes on behind a frame, and that of the elements that are to come.
+-- The run that goes on after a frame, and that of the elements that follow.
 pub record IsRunning (ops : List Op) (f : Frame) : Type 0 where
   pub after : IsRun ops f.after
   pub elements : IsRunOf ops (frame_elements f)
@@ -72,8 +72,8 @@ cursor_data c = record {
   depth = length c.frames.items;
 }
 
--- The cells are those of one map for each level, and the innermost segment's begin behind those around it. Nothing is left at
--- the program's first op, and each op tells where it stands.
+-- The cells are those of one map for each level, and the innermost segment's begin after those around it. Nothing is left at the program's
+-- first op, and each op holds its own index.
 pub record IsCursor (c : Inside) : Type 0 where
   pub within : c.level ≤ length c.frames.items
   pub cells : length c.maps.items ≡ map_limit * (length c.frames.items + 1)
