@@ -1,4 +1,4 @@
--- What is decided for a field, by the operators, and where its value then stands.
+-- The outcomes of fields by the operators, and the sources of their values.
 use Rattle.std.specs.Prelude.{◌≡◌, ℕ, Bool, true, false, List, ℤ, Option, Some, None, Result, Ok, Err}
 use Rattle.fast_value.specs.declared.codes.Code.{Code}
 use Rattle.fast_value.specs.meaning.Kinds.{ScalarData, U, I, Dec, integer_of}
@@ -15,7 +15,7 @@ use Rattle.fast_units.specs.declared.progress.Progress.TheVariants.{Whole, Wrong
 use Rattle.fast_units.specs.declared.fields.Number.{Number}
 use Rattle.fast_units.specs.declared.fields.Number.TheVariants as As
 
--- whether a field stands in the stream
+-- whether a field has bytes in the stream
 abbrev pub needs_bytes : Operator → Bool → Bool
 needs_bytes no_operator bit = true
 needs_bytes Delta bit = true
@@ -33,7 +33,7 @@ abbrev pub sent_number : Option Number → Sent
 sent_number None = null
 sent_number (Some n) = value (number_data n)
 
--- where a number stands that is at hand, or NULL
+-- the source of a number, or of NULL
 abbrev pub source_of : Option Number → ValueSource
 source_of None = From.Absent
 source_of (Some (As.Unsigned n)) = From.Unsigned n
@@ -44,12 +44,12 @@ source_of (Some (As.Decimal e m)) = From.Decimal e m
 abbrev pub base_integer : FieldData → PreviousData → Result ℤ Code
 base_integer f p = delta_base f p >>= (λ v. Ok (integer_of v))
 
--- This outcome is decided for the field, and it stands at the source, whatever texts were read; or this fault is decided.
+-- This outcome is decided for the field, and its value has this source, for all strings that were read; or this fault is decided.
 abbrev pub IsDecided : Result Outcome Code → FieldData → Dictionary → Dictionary → Result ValueSource Code → Type 0
 IsDecided decided f old new (Ok source) = (o : Outcome) × (decided ≡ Ok o) × ((scratch piece : List ℕ) → IsSettled o f source old new scratch piece)
 IsDecided decided f old new (Err c) = decided ≡ Err c
 
--- what is decided behind so many bytes
+-- the result that is decided by this number of bytes
 abbrev pub progress_of : Result ValueSource Code → ℕ → Progress ValueSource
 progress_of (Ok source) n = Whole source n
 progress_of (Err c) n = Wrong c n

@@ -1,4 +1,4 @@
--- What a field leaves when it is whole: the bytes it took, its value, and the dictionary.
+-- The result of a complete field: the bytes it has, its value, and the dictionary.
 use Rattle.std.specs.Prelude.{◌≡◌, ℕ, ◌<◌, ◌≤◌, true, List, ◌++◌, length, take, is_some, Option, Some, None}
 use Rattle.fast_value.specs.meaning.Kinds.{ScalarData, U, I, Dec, texts, family, value_of_text}
 use Rattle.fast_tree.specs.declared.operators.Operator.TheVariants.{Tail}
@@ -14,13 +14,13 @@ use Rattle.fast_units.specs.declared.progress.Progress.TheVariants.{Whole, Wrong
 use Rattle.fast_units.specs.declared.source.ValueSource.{ValueSource}
 use Rattle.fast_units.specs.declared.source.ValueSource.TheVariants as From
 
--- The initial value can be put at the entry.
+-- The initial value can be stored at the entry.
 abbrev pub HasRoomFor : Terms → ℕ → Option ScalarData → Type 0
 HasRoomFor terms e None = Unit {0}
 HasRoomFor terms e (Some v) = IsStorable terms e v
 
--- A dictionary of so many entries and these terms serves the field: an operator that keeps a value has an entry there, and
--- whatever the field can keep has room at it; only texts have tails.
+-- A dictionary of this number of entries and these terms serves the field: an operator that keeps a value has an entry there, and all
+-- values that the field can store have room at it; only strings have tails.
 pub record Serves (entries : ℕ) (terms : Terms) (f : FieldData) : Type 0 where
   pub kept : keeps_value f.operator ≡ is_some f.entry
   pub within : (e : ℕ) → f.entry ≡ Some e → e < entries
@@ -28,7 +28,7 @@ pub record Serves (entries : ℕ) (terms : Terms) (f : FieldData) : Type 0 where
   pub texts_fit : (e : ℕ) → f.entry ≡ Some e → family f.kind ≡ texts → terms.takes_text e ≡ true
   pub initial_fits : (e : ℕ) → f.entry ≡ Some e → HasRoomFor terms e f.initial
 
--- What stands at a source, by the field, its dictionary, the scratch, and the bytes that were read last.
+-- The value at a source, by the field, its dictionary, the scratch, and the bytes that were read last.
 abbrev pub value_at : ValueSource → FieldData → Dictionary → List ℕ → List ℕ → Option ScalarData
 value_at From.Absent f d scratch piece = None
 value_at (From.Unsigned n) f d scratch piece = Some (U n)
@@ -39,18 +39,18 @@ value_at From.Initial f d scratch piece = f.initial
 value_at From.Scratch f d scratch piece = Some (value_of_text f.kind scratch)
 value_at From.Piece f d scratch piece = Some (value_of_text f.kind piece)
 
--- The outcome of the field: its value stands at the source, and of the dictionary its entry alone has changed.
+-- The outcome of the field: its value has the source, and of the dictionary its entry alone has changed.
 pub record IsSettled (o : Outcome) (f : FieldData) (source : ValueSource) (old new : Dictionary) (scratch piece : List ℕ) : Type 0 where
   pub value : o.value ≡ value_at source f new scratch piece
   pub dictionary : new ≡ write_at f.entry o.next old
 
--- The reader takes the bytes and gives an outcome of the field, which stands there.
+-- The reader consumes the bytes and gives an outcome of the field, with this source.
 pub record GivesField (r : Reader Outcome) (w : List ℕ) (f : FieldData) (source : ValueSource) (old new : Dictionary) (scratch piece : List ℕ) : Type 0 where
   pub outcome : Outcome
   pub turns : Turns r w (Done outcome)
   pub settled : IsSettled outcome f source old new scratch piece
 
--- What the bytes in hand and those behind them make of the last unit of a field.
+-- The result of the buffered bytes and those after them as the last unit of a field.
 abbrev pub IsLastUnit : Reader Outcome → FieldData → List ℕ → List ℕ → Dictionary → Dictionary → List ℕ → Progress ValueSource → Type 0
 IsLastUnit r f front rest old new scratch (Whole source n) = (0 < n) × (n ≤ length rest) × GivesField r (front ++ take n rest) f source old new scratch (take n rest)
 IsLastUnit r f front rest old new scratch (Wrong c n) = (0 < n) × (n ≤ length rest) × Turns r (front ++ take n rest) (Stop c)

@@ -1,4 +1,4 @@
--- The units of a field behind its first one.
+-- The units of a field after its first one.
 use Rattle.std.specs.Prelude.{◌≡◌, ◌≢◌, ℕ, ◌-◌, ◌<◌, ◌≤◌, List, ◌++◌, length, take, Ok}
 use Rattle.fast_value.specs.declared.kinds.Kind.TheVariants.{Ascii}
 use Rattle.fast_value.specs.declared.settings.Limits.{Limits}
@@ -21,7 +21,7 @@ use Rattle.fast_units.specs.declared.stages.FieldStep.TheVariants.{Settled, Next
 use Rattle.fast_units.specs.declared.progress.Progress.{Progress}
 use Rattle.fast_units.specs.declared.progress.Progress.TheVariants.{Whole, Wrong, Cut}
 
--- The field from this unit on. What a subtraction length keeps is found again from the previous value, which is as it was.
+-- The field from this unit on. The bytes that a subtraction length keeps are found again from the previous value, which is unchanged.
 abbrev pub term_behind : Bounds → FieldData → PreviousData → Stage → Grammar Outcome
 term_behind l f p (Mantissa e) = stage_term l f p (behind_exponent e)
 term_behind l f p (MantissaDelta e) = stage_term l f p (behind_exponent_delta e)
@@ -29,7 +29,7 @@ term_behind l f p (Vector n) = stage_term l f p (behind_size n)
 term_behind l f p (Part k) = of_result (subtraction_step f p k) >>= (λ kept. stage_term l f p (behind_kept kept))
 term_behind l f p (PartVector k n) = of_result (subtraction_step f p k) >>= (λ kept. stage_term l f p (behind_part_size kept n))
 
--- The stage is one of the field, and there is room for what it reads.
+-- The stage is one of the field, and there is room for the bytes that it reads.
 abbrev pub IsStageOf : Bounds → FieldData → PreviousData → Stage → Type 0
 IsStageOf l f p (Mantissa e) = (family f.kind ≡ decimals) × (f.operator ≢ Delta) × (f.operator ≢ Constant)
 IsStageOf l f p (MantissaDelta e) = (family f.kind ≡ decimals) × (f.operator ≡ Delta)
@@ -37,7 +37,7 @@ IsStageOf l f p (Vector n) = (family f.kind ≡ texts) × (f.kind ≢ Ascii) × 
 IsStageOf l f p (Part k) = (family f.kind ≡ texts) × (f.operator ≡ Delta) × ((kept : Kept) × (subtraction_step f p k ≡ Ok kept))
 IsStageOf l f p (PartVector k n) = (family f.kind ≡ texts) × (f.kind ≢ Ascii) × (f.operator ≡ Delta) × ((kept : Kept) × (subtraction_step f p k ≡ Ok kept) × (n ≤ l.max_text - kept_length kept))
 
--- What the bytes in hand and those behind them make of a unit of a field, by the reader of this unit and what follows it.
+-- The result of the buffered bytes and those after them as a unit of a field, by the reader of this unit and the rest.
 abbrev pub IsFieldUnit : Limits → Reader Outcome → FieldData → List ℕ → List ℕ → Dictionary → Dictionary → List ℕ → Progress FieldStep → Type 0
 IsFieldUnit l r f front rest old new scratch (Whole (Settled source) n) = (0 < n) × (n ≤ length rest) × GivesField r (front ++ take n rest) f source old new scratch (take n rest)
 IsFieldUnit l r f front rest old new scratch (Whole (Next stage) n) = (0 < n) × (n ≤ length rest) × (new ≡ old) × IsStageOf (bounds l) f (previous_at f.entry old) stage

@@ -1,4 +1,4 @@
--- How a reader takes bytes, of which some are in hand from earlier pieces.
+-- Readers that consume bytes, of which some are buffered from earlier pieces.
 use Rattle.std.specs.Prelude.{◌≡◌, ℕ, ◌<◌, ◌≤◌, List, [], ◌∷◌, ◌++◌, length, take}
 use Rattle.fast_stream.specs.device.Readers.{Reader, Done, Stop, Byte}
 use Rattle.fast_stream.specs.device.Running.{after_byte}
@@ -10,23 +10,23 @@ use Rattle.fast_units.specs.declared.progress.Progress.TheVariants.{Whole, Wrong
 abbrev pub Waits : {A : Type 0} → Reader A → Type 0
 Waits {A} r = (f : ℕ → Reader A) × (r ≡ Byte f)
 
--- The reader waits for each of the bytes, and hands nothing over before the last.
+-- The reader waits for each of the bytes, and emits nothing before the last.
 abbrev pub Quiet : {A : Type 0} → Reader A → List ℕ → Type 0
 Quiet r [] = Unit {0}
 Quiet r (b ∷ w) = Waits r × Quiet (after_byte r b) w
 
--- The reader takes the bytes, and is then the other.
+-- The reader consumes the bytes, and is then the other.
 pub record Turns {A : Type 0} (r : Reader A) (w : List ℕ) (q : Reader A) : Type 0 where
   pub quiet : Quiet r w
   pub becomes : after_bytes r w ≡ q
 
--- The reader takes the bytes, and waits for more.
+-- The reader consumes the bytes, and waits for more.
 pub record Stays {A : Type 0} (r : Reader A) (w : List ℕ) : Type 0 where
   pub quiet : Quiet r w
   pub waits : Waits (after_bytes r w)
 
--- What the bytes in hand and those behind them make of a unit: some of the latter make it whole, or wrong; or all of them
--- are taken, and it is cut.
+-- The result of the buffered bytes and those after them as a unit: some of the latter complete it, or decide a fault; or all of them are
+-- consumed, and it is split.
 abbrev pub IsUnit : {A T : Type 0} → Reader A → (T → A) → List ℕ → List ℕ → Progress T → Type 0
 IsUnit r meant front rest (Whole x n) = (0 < n) × (n ≤ length rest) × Turns r (front ++ take n rest) (Done (meant x))
 IsUnit r meant front rest (Wrong c n) = (0 < n) × (n ≤ length rest) × Turns r (front ++ take n rest) (Stop c)

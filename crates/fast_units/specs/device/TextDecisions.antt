@@ -1,4 +1,4 @@
--- What the operators' functions leave of a text field, behind its units.
+-- The result of a string field by the functions of the operators, after its units.
 use Rattle.std.specs.Prelude.{◌≡◌, ℕ, ◌-◌, ◌<◌, true, List, ℤ, Option, Result, Ok, Err}
 use Rattle.fast_value.specs.declared.codes.Code.{Code}
 use Rattle.fast_value.specs.declared.settings.Limits.{Limits}
@@ -20,38 +20,38 @@ use Rattle.fast_units.specs.declared.stages.FieldStep.TheVariants.{Settled, Next
 use Rattle.fast_units.specs.declared.progress.Progress.{Progress}
 use Rattle.fast_units.specs.declared.progress.Progress.TheVariants.{Whole, Wrong}
 
--- What the operator decides is settled, or it is a fault.
+-- The outcome of the operator is settled, or it is a fault.
 abbrev pub IsTextDecided : Result Outcome Code → FieldData → Dictionary → Dictionary → List ℕ → List ℕ → Result ValueSource Code → Type 0
 IsTextDecided d f old new scratch piece (Ok source) = (o : Outcome) × (d ≡ Ok o) × IsSettled o f source old new scratch piece
 IsTextDecided d f old new scratch piece (Err c) = d ≡ Err c
 
--- Behind a unit the field is whole and settled, or another unit follows, or it is a fault.
+-- After a unit the field is complete and settled, or another unit follows, or it is a fault.
 abbrev pub IsStepped : Limits → Reader Outcome → FieldData → Dictionary → Dictionary → List ℕ → List ℕ → Result FieldStep Code → Type 0
 IsStepped l r f old new scratch piece (Ok (Settled source)) = (o : Outcome) × (r ≡ Done o) × IsSettled o f source old new scratch piece
 IsStepped l r f old new scratch piece (Ok (Next stage)) = (new ≡ old) × IsStageOf (bounds l) f (previous_at f.entry old) stage
     × (r ≡ reader_of l.strict (term_behind (bounds l) f (previous_at f.entry old) stage))
 IsStepped l r f old new scratch piece (Err c) = r ≡ Stop c
 
--- What is read of a field from its first unit on, and from a later one on.
+-- The reader of a field from its first unit on, and from a later one on.
 abbrev pub first_reader : Limits → FieldData → Dictionary → Reader Outcome
 first_reader l f d = reader_of l.strict (field_term (bounds l) f (previous_at f.entry d) true)
 
 abbrev pub reader_behind : Limits → FieldData → Dictionary → Stage → Reader Outcome
 reader_behind l f d stage = reader_of l.strict (term_behind (bounds l) f (previous_at f.entry d) stage)
 
--- What is read behind the size of a vector, or NULL, and behind that of a part.
+-- The rest of a field after the size of a vector, or NULL, and after that of a part.
 abbrev pub behind_size : Bounds → FieldData → PreviousData → Option ℤ → Grammar Outcome
 behind_size l f p size = (sized l.max_text size >>= (λ v. give (sent_text f.kind v))) >>= (λ x. of_result (decide f p true x))
 
 abbrev pub behind_part_size : Bounds → FieldData → PreviousData → Kept → Option ℤ → Grammar Outcome
 behind_part_size l f p kept size = sized (l.max_text - kept_length kept) size >>= part_change f p kept
 
--- an answer behind so many bytes
+-- a result that is decided by this number of bytes
 abbrev pub answered : {T : Type 0} → Result T Code → ℕ → Progress T
 answered (Ok x) n = Whole x n
 answered (Err c) n = Wrong c n
 
--- the last answer of a field as that of a unit
+-- the result of a field's last unit as that of any unit
 abbrev pub settled : Result ValueSource Code → Result FieldStep Code
 settled (Ok source) = Ok (Settled source)
 settled (Err c) = Err c

@@ -1,4 +1,4 @@
--- The units of a field that is neither a length nor a part of a decimal: which one is in hand, and what bytes of it have come.
+-- The units of a field that is neither a length nor a part of a decimal: the partial one, and the bytes of it that have been read.
 use Rattle.std.specs.Prelude.{◌≡◌, ◌≢◌, ℕ, ◌-◌, ◌<◌, Bool, true, false, List, [], ◌++◌, length, ℤ, Ok}
 use Rattle.fast_value.specs.declared.kinds.Kind.TheVariants.{Ascii}
 use Rattle.fast_value.specs.meaning.Limits.{Bounds}
@@ -17,16 +17,16 @@ use Rattle.fast_units.specs.declared.source.ValueSource.{ValueSource}
 use Rattle.fast_units.specs.declared.progress.Progress.{Progress}
 use Rattle.fast_units.specs.declared.progress.Progress.TheVariants.{Whole, Wrong, Cut}
 
--- The field stands in the stream.
+-- The field is in the stream.
 pub record IsSent (f : FieldData) (bit : Bool) : Type 0 where
   pub varies : f.operator ≢ Constant
   pub as_sent : (l : Bounds) (p : PreviousData) → field_term l f p bit ≡ field_term l f p true
 
--- The field begins with an ASCII text.
+-- The field begins with an ASCII string.
 abbrev pub IsAsciiFirst : FieldData → Type 0
 IsAsciiFirst f = (f.kind ≡ Ascii) × (f.operator ≢ Delta)
 
--- The stage reads an integer: so a part's size.
+-- The stage reads an integer, such as a part's size.
 abbrev pub IsNumberStage : FieldData → Stage → Type 0
 IsNumberStage f (Mantissa e) = Unit {0}
 IsNumberStage f (MantissaDelta e) = Unit {0}
@@ -34,11 +34,11 @@ IsNumberStage f (Vector n) = ⊥
 IsNumberStage f (Part k) = f.kind ≢ Ascii
 IsNumberStage f (PartVector k n) = ⊥
 
--- These bytes of the part of a text delta have come.
+-- These bytes of the part of a string delta have been read.
 abbrev pub IsPartFront : Bounds → FieldData → PreviousData → ℤ → List ℕ → Type 0
 IsPartFront l f p k front = (kept : Kept) × (subtraction_step f p k ≡ Ok kept) × ascii_text false (l.max_text - kept_length kept) front [] cut
 
--- The stage reads a text or a run of bytes, of which these have come.
+-- The stage reads a string or a run of bytes, of which these have been read.
 abbrev pub IsBytesStage : Bounds → FieldData → PreviousData → Stage → List ℕ → Type 0
 IsBytesStage l f p (Mantissa e) front = ⊥
 IsBytesStage l f p (MantissaDelta e) front = ⊥
@@ -46,7 +46,7 @@ IsBytesStage l f p (Vector n) front = length front < n
 IsBytesStage l f p (Part k) front = (f.kind ≡ Ascii) × IsPartFront l f p k front
 IsBytesStage l f p (PartVector k n) front = length front < n
 
--- The stage reads a text or a run of bytes, and none of them has come; or it reads an integer.
+-- The stage reads a string or a run of bytes, of which none has been read; or it reads an integer.
 abbrev pub IsNextStage : Bounds → FieldData → PreviousData → Stage → Type 0
 IsNextStage l f p (Mantissa e) = Unit {0}
 IsNextStage l f p (MantissaDelta e) = Unit {0}
@@ -54,13 +54,13 @@ IsNextStage l f p (Vector n) = 0 < n
 IsNextStage l f p (Part k) = Unit {0}
 IsNextStage l f p (PartVector k n) = 0 < n
 
--- what is in hand of an integer: nothing, once it is whole, and all bytes, where it is cut
+-- the buffered bytes of an integer: none, once it is complete, and all bytes, if it is split
 abbrev pub IsEntityKept : {T : Type 0} → List ℕ → List ℕ → List ℕ → Progress T → Type 0
 IsEntityKept front rest after (Whole x n) = after ≡ []
 IsEntityKept front rest after (Wrong c n) = Unit {0}
 IsEntityKept front rest after Cut = after ≡ front ++ rest
 
--- a stage that comes next begins
+-- the next stage begins
 abbrev pub IsNextOf : Bounds → FieldData → PreviousData → Progress FieldStep → Type 0
 IsNextOf l f p (Whole (Next stage) n) = IsNextStage l f p stage
 IsNextOf l f p other = Unit {0}

@@ -1,4 +1,4 @@
--- Words for what clauses on fields say again and again: of a dictionary in memory, of an instruction, and of bytes in hand.
+-- Abbreviations for clauses on fields: of a dictionary in memory, of an instruction, and of buffered bytes.
 use Rattle.std.specs.Prelude.{◌≡◌, ℕ, ◌<◌, ◌≤◌, Bool, true, List, ◌++◌, length, Some, Result}
 use Rattle.fast_value.specs.declared.codes.Code.{Code}
 use Rattle.fast_value.specs.meaning.Limits.{Bounds}
@@ -29,19 +29,19 @@ ServesField slots field = Serves (length (slots_dictionary slots)) (slots_terms 
 abbrev pub HasEntryOf : Slots → FieldInstruction → Type 0
 HasEntryOf slots field = (e : ℕ) → (field_data field).entry ≡ Some e → e < length (slots_dictionary slots)
 
--- what the field's entry holds
+-- the contents of the field's entry
 abbrev pub previous_of : Slots → FieldInstruction → PreviousData
 previous_of slots field = previous_at (field_data field).entry (slots_dictionary slots)
 
--- what is read of the field where it stands in the stream
+-- the reader of the field if it is in the stream
 abbrev pub sent_reader : Bool → Bounds → Slots → FieldInstruction → Reader Outcome
 sent_reader strict l slots field = reader_of strict (field_term l (field_data field) (previous_of slots field) true)
 
--- What the bytes in hand and those behind them make of the field's last unit.
+-- The result of the buffered bytes and those after them as the field's last unit.
 abbrev pub IsLastUnitOf : Reader Outcome → FieldInstruction → List ℕ → List ℕ → Slots → Slots → List ℕ → Progress ValueSource → Type 0
 IsLastUnitOf r field front rest old new scratch p = IsLastUnit r (field_data field) front rest (slots_dictionary old) (slots_dictionary new) scratch p
 
--- What they make of a unit of the field.
+-- The result of the buffered bytes and those after them as a unit of the field.
 abbrev pub IsUnitOf : Limits → Reader Outcome → FieldInstruction → List ℕ → List ℕ → Slots → Slots → List ℕ → Progress FieldStep → Type 0
 IsUnitOf l r field front rest old new scratch p = IsFieldUnit l r (field_data field) front rest (slots_dictionary old) (slots_dictionary new) scratch p
 
@@ -49,14 +49,14 @@ IsUnitOf l r field front rest old new scratch p = IsFieldUnit l r (field_data fi
 abbrev pub IsDecidedIn : Result Outcome Code → FieldInstruction → Slots → Slots → Result ValueSource Code → Type 0
 IsDecidedIn decided field old new result = IsDecided decided (field_data field) (slots_dictionary old) (slots_dictionary new) result
 
--- The dictionary takes texts within the limit, which is no less than the least there may be.
+-- The dictionary holds strings within the limit, which is no less than the least that is allowed.
 abbrev pub HasTextLimit : Slots → Limits → Type 0
 HasTextLimit slots limits = ((slots_terms slots).max_text ≡ limits.max_text) × (16 ≤ limits.max_text)
 
--- There is room for each text that the dictionary takes.
+-- There is room for each string that the dictionary can hold.
 abbrev pub HasRoomFor : Slots → Held → Type 0
 HasRoomFor slots scratch = (slots_terms slots).max_text ≤ scratch.capacity
 
--- Where an entity is cut, its bytes are kept.
+-- If an entity is split, its bytes are kept.
 abbrev pub IsKeptCut : {T : Type 0} → List ℕ → List ℕ → List ℕ → Progress T → Type 0
 IsKeptCut front rest kept p = p ≡ Cut → kept ≡ front ++ rest
