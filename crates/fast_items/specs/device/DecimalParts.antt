@@ -1,4 +1,4 @@
--- The parts of a decimal by parts: integers that are looked at before they are kept.
+-- The parts of a decimal by parts: integers that are read before they are stored.
 use Rattle.std.specs.Prelude.{◌≡◌, ◌⊎◌, ℕ, ◌<◌, ◌≤◌, Bool, true, false, List, [], length, ℤ, Option, Some, None, Ok}
 use Rattle.fast_value.specs.declared.kinds.Kind.TheVariants.{Int64}
 use Rattle.fast_value.specs.meaning.Limits.{Bounds}
@@ -25,12 +25,12 @@ part_item (Some x) = Some (Signed x)
 abbrev pub KeepsPart : FieldInstruction → Slots → Slots → Option ℤ → Type 0
 KeepsPart field old new x = slots_dictionary new ≡ write_at (field_data field).entry (item_held field.kind (part_item x)) (slots_dictionary old)
 
--- The dictionary serves the field, whose entry holds what it held where it was looked at.
+-- The dictionary serves the field, whose entry is unchanged since it was read.
 pub record IsAsSeen (field : FieldInstruction) (seen slots : Slots) : Type 0 where
   pub serves : ServesField slots field
   pub same : previous_of slots field ≡ previous_of seen field
 
--- The part stands whole in these bytes, and is then kept.
+-- The part is in these bytes completely, and is then stored.
 abbrev pub IsPartSent : FieldInstruction → Bool → List ℕ → Slots → Option ℤ → ℕ → Type 0
 IsPartSent field strict rest seen x n = (old new : Slots) (l : Bounds) (scratch : List ℕ) → IsAsSeen field seen old → KeepsPart field old new x
     → IsLastUnitOf (sent_reader strict l old field) field [] rest old new scratch (Whole (source_of (part_item x)) n)
@@ -40,7 +40,7 @@ abbrev pub IsPartKnown : FieldInstruction → Bool → Slots → Option ℤ → 
 IsPartKnown field bit seen x = (old : Slots) → IsAsSeen field seen old
     → IsDecidedIn (decide (field_data field) (previous_of old field) bit nothing) field old old (Ok (source_of (part_item x)))
 
--- One or the other.
+-- The part is sent, or nothing is.
 abbrev pub IsPartBy : Bool → FieldInstruction → Bool → Bool → List ℕ → Slots → Option ℤ → ℕ → Type 0
 IsPartBy true field bit strict rest seen x n = (0 < n) × (n ≤ length rest) × IsPartSent field strict rest seen x n
 IsPartBy false field bit strict rest seen x n = (n ≡ 0) × IsPartKnown field bit seen x
@@ -48,7 +48,7 @@ IsPartBy false field bit strict rest seen x n = (n ≡ 0) × IsPartKnown field b
 abbrev pub IsPart : FieldInstruction → Bool → Bool → List ℕ → Slots → Option ℤ → ℕ → Type 0
 IsPart field bit strict rest seen x n = IsPartBy (needs_bytes field.operator bit) field bit strict rest seen x n
 
--- An exponent that is not sent is its initial value, or what its entry holds.
+-- An exponent that is not sent is its initial value, or the value of its entry.
 abbrev pub IsUsualExponent : FieldInstruction → Type 0
 IsUsualExponent field = (field.operator ≡ Default) ⊎ (field.operator ≡ Copy)
 

@@ -1,4 +1,4 @@
--- What is said of every field that is as a node's code tells: of this kind, absent or not, under this operator, with this entry.
+-- Statements about all fields of a node's code: of this type, optional or mandatory, under this operator, with this entry.
 use Rattle.std.specs.Prelude.{◌≡◌, ℕ, ◌<◌, ◌≤◌, Bool, true, false, List, [], length, take, drop, Option, Some, Ok}
 use Rattle.fast_value.specs.declared.kinds.Kind.{Kind}
 use Rattle.fast_value.specs.meaning.Limits.{Bounds}
@@ -19,33 +19,33 @@ use Rattle.fast_units.specs.declared.source.ValueSource.{ValueSource}
 use Rattle.fast_units.specs.declared.progress.Progress.TheVariants.{Whole}
 use Rattle.fast_items.specs.declared.taken.TakenItem.{TakenItem}
 
--- A field of the kind, which may be absent or not, under the operator; where that keeps a value, it has this entry.
+-- A field of the type, optional or mandatory, under the operator; if that keeps a value, it has this entry.
 pub record IsFieldAs (f : FieldData) (its_kind : Kind) (may_be_absent : Bool) (its_operator : Operator) (its_entry : ℕ) : Type 0 where
   pub kind : f.kind ≡ its_kind
   pub optional : f.optional ≡ may_be_absent
   pub operator : f.operator ≡ its_operator
   pub entry : keeps_value its_operator ≡ true → f.entry ≡ Some its_entry
 
--- Where the operator keeps a value, the entry is one of the dictionary.
+-- If the operator keeps a value, the entry is one of the dictionary.
 abbrev pub IsEntryFor : Slots → Operator → ℕ → Type 0
 IsEntryFor slots operator entry = keeps_value operator ≡ true → entry < length (slots_dictionary slots)
 
--- what is read of the field where it stands in the stream
+-- the reader of the field if it is in the stream
 abbrev pub reader_in : Slots → Bool → Bounds → FieldData → Reader Outcome
 reader_in slots strict l f = reader_of strict (field_term l f (previous_at f.entry (slots_dictionary slots)) true)
 
--- Each field that is so, and stands in the stream, is this item, whole in these bytes.
+-- Each such field that is in the stream is this item, complete in these bytes.
 abbrev pub IsSentItem : Kind → Bool → Operator → ℕ → Bool → List ℕ → Slots → Slots → TakenItem → Type 0
 IsSentItem kind optional operator entry strict rest old new r = (f : FieldData) (l : Bounds) (scratch : List ℕ)
     → IsFieldAs f kind optional operator entry → Serves (length (slots_dictionary old)) (slots_terms old) f
     → IsLastUnit (reader_in old strict l f) f [] rest (slots_dictionary old) (slots_dictionary new) scratch (Whole (source_of r.item) r.bytes)
 
--- Each field that is so, and does not stand in the stream though it has a bit, is this number, or absent.
+-- Each such field that is not in the stream though it has a bit is this number, or absent.
 abbrev pub IsUnsentItem : Kind → Bool → Operator → ℕ → Slots → Slots → Option Number → Type 0
 IsUnsentItem kind optional operator entry old new item = (f : FieldData)
     → IsFieldAs f kind optional operator entry → Serves (length (slots_dictionary old)) (slots_terms old) f
     → IsDecided (decide f (previous_at f.entry (slots_dictionary old)) false nothing) f (slots_dictionary old) (slots_dictionary new) (Ok (source_of item))
 
--- The reader takes so many of the bytes, and gives the field; what stands in the piece are these bytes from there on.
+-- The reader consumes n of the bytes, and gives the field; a value in the piece is in these bytes from the given offset on.
 abbrev pub GivesWhole : Reader Outcome → FieldData → List ℕ → Dictionary → Dictionary → List ℕ → ValueSource → ℕ → ℕ → Type 0
 GivesWhole r f rest old new scratch source from n = (0 < n) × (n ≤ length rest) × GivesField r (take n rest) f source old new scratch (drop from (take n rest))

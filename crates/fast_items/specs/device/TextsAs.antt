@@ -1,4 +1,4 @@
--- What is said of every field of texts that is as a node's code tells.
+-- Statements about all string fields of a node's code.
 use Rattle.std.specs.Prelude.{◌≡◌, ℕ, ◌-◌, ◌<◌, ◌≤◌, Bool, true, List, length, take, drop, ℤ, Some, Ok}
 use Rattle.fast_value.specs.declared.kinds.Kind.{Kind}
 use Rattle.fast_value.specs.declared.settings.Limits.{Limits}
@@ -25,13 +25,14 @@ use Rattle.fast_units.specs.declared.source.ValueSource.TheVariants as From
 use Rattle.fast_units.specs.declared.stages.Stage.{Stage}
 use Rattle.fast_units.specs.declared.stages.Stage.TheVariants.{Part}
 
--- Each field that is so, and stands in the stream, is this text, or NULL, whole in these bytes.
+-- Each such field that is in the stream is this string, or NULL, complete in these bytes.
 abbrev pub IsWholeText : Kind → Bool → Operator → ℕ → Bool → Limits → List ℕ → Slots → Slots → TakenText → Type 0
 IsWholeText kind optional operator entry strict limits rest old new r = (f : FieldData) (scratch : List ℕ)
     → IsFieldAs f kind optional operator entry → Serves (length (slots_dictionary old)) (slots_terms old) f
     → GivesWhole (reader_in old strict (bounds limits) f) f rest (slots_dictionary old) (slots_dictionary new) scratch r.source r.from r.bytes
 
--- The entry held a text of the kind; the part is joined to what the subtraction length keeps of it, and the entry holds that.
+-- The entry held a string of the type; the part is joined to the bytes that the subtraction length keeps of it, and the entry holds the
+-- result.
 pub record IsJoined (kind : Kind) (entry : ℕ) (subtraction : ℤ) (part : List ℕ) (room : ℕ) (old new : Dictionary) : Type 0 where
   pub base : List ℕ
   pub held : previous_at (Some entry) old ≡ assigned kind (value_of_text kind base)
@@ -41,7 +42,7 @@ pub record IsJoined (kind : Kind) (entry : ℕ) (subtraction : ℤ) (part : List
   pub checked : checked_text kind (joined kept part) ≡ Ok (value_of_text kind (joined kept part))
   pub becomes : new ≡ write_at (Some entry) (assigned kind (value_of_text kind (joined kept part))) old
 
--- The entry holds a text of the kind, and beside what the subtraction length keeps of it there is room for so many bytes.
+-- The entry holds a string of the type, and there is room for this number of bytes beside those that the subtraction length keeps of it.
 pub record LeavesRoom (kind : Kind) (entry : ℕ) (subtraction : ℤ) (room left : ℕ) (d : Dictionary) : Type 0 where
   pub base : List ℕ
   pub held : previous_at (Some entry) d ≡ assigned kind (value_of_text kind base)
@@ -49,34 +50,34 @@ pub record LeavesRoom (kind : Kind) (entry : ℕ) (subtraction : ℤ) (room left
   pub keeps : kept_of base subtraction ≡ Ok kept
   pub leaves : left ≡ room - kept_length kept
 
--- The entry held a text of the kind; the tail takes the place of its end, and the entry holds that.
+-- The entry held a string of the type; the tail replaces its end, and the entry holds the result.
 pub record IsTailed (kind : Kind) (entry : ℕ) (part : List ℕ) (old new : Dictionary) : Type 0 where
   pub base : List ℕ
   pub held : previous_at (Some entry) old ≡ assigned kind (value_of_text kind base)
   pub checked : checked_text kind (with_tail base part) ≡ Ok (value_of_text kind (with_tail base part))
   pub becomes : new ≡ write_at (Some entry) (assigned kind (value_of_text kind (with_tail base part))) old
 
--- Each field that is so and is a delta of which the subtraction length has come is whole behind so many of these bytes, and its
--- entry holds the text.
+-- Each such field that is a delta of which the subtraction length has been read is complete after this number of bytes, and its entry holds
+-- the string.
 abbrev pub IsSentPart : Kind → ℕ → ℤ → Bool → Limits → List ℕ → Slots → Slots → ℕ → Type 0
 IsSentPart kind entry subtraction strict limits rest old new n = (f : FieldData) (optional : Bool) (scratch piece : List ℕ)
     → IsFieldAs f kind optional Delta entry → Serves (length (slots_dictionary old)) (slots_terms old) f
     → GivesField (reader_of strict (term_behind (bounds limits) f (previous_at f.entry (slots_dictionary old)) (Part subtraction))) (take n rest) f From.Entry
     (slots_dictionary old) (slots_dictionary new) scratch piece
 
--- A text is lent from the piece, or there is none.
+-- A string is borrowed from the piece, or there is none.
 abbrev pub IsLentSource : ValueSource → Type 0
 IsLentSource From.Absent = Unit {0}
 IsLentSource From.Piece = Unit {0}
 IsLentSource source = ⊥
 
--- A text stands at the entry that keeps it, or there is none.
+-- A string is at the entry that keeps it, or there is none.
 abbrev pub IsKeptSource : ValueSource → Type 0
 IsKeptSource From.Absent = Unit {0}
 IsKeptSource From.Entry = Unit {0}
 IsKeptSource source = ⊥
 
--- The field stands in the stream, and its units before this stage are whole in so many of the bytes. The others are some of the stage's.
+-- The field is in the stream, and its units before this stage are complete in the first of the bytes. The others belong to the stage.
 pub record HasBegun (strict : Bool) (l : Bounds) (f : FieldData) (p : PreviousData) (rest : List ℕ) (its_stage : Stage) (from : ℕ) : Type 0 where
   pub some : 0 < from
   pub within : from ≤ length rest
@@ -84,7 +85,7 @@ pub record HasBegun (strict : Bool) (l : Bounds) (f : FieldData) (p : PreviousDa
   pub bytes : IsBytesStage l f p its_stage (drop from rest)
   pub turns : Turns (reader_of strict (field_term l f p true)) (take from rest) (reader_of strict (term_behind l f p its_stage))
 
--- Each field that is so, and stands in the stream, begins so in these bytes.
+-- Each such field that is in the stream begins in this way in these bytes.
 abbrev pub IsBegunText : Kind → Bool → Operator → ℕ → Bool → ℕ → List ℕ → Slots → BegunText → Type 0
 IsBegunText kind optional operator entry strict room rest slots r = (f : FieldData) (l : Bounds) → l.max_text ≡ room
     → IsFieldAs f kind optional operator entry → Serves (length (slots_dictionary slots)) (slots_terms slots) f
