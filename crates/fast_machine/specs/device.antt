@@ -1,4 +1,4 @@
--- Devices of contracts within the crates and of proofs: invariants, models of state, relations in between.
+-- Definitions for the contracts of internal functions and for proofs: invariants, models of state, and relations between them.
 pub mod Handing
 pub mod Positions
 pub mod UnitTaken

@@ -1,4 +1,4 @@
--- What a machine has in hand: what it waits for, or where it has stopped.
+-- The part of a stream that a machine waits for, or at which it has stopped.
 use Rattle.std.specs.Prelude.{ℕ, Option, Some, None}
 use Rattle.fast_cursor.specs.device.Segments.{first_node}
 use Rattle.fast_machine.specs.declared.in_hand.Due.{Due}
@@ -21,6 +21,6 @@ abbrev pub awaited_at : Waiting → Due → Due
 awaited_at (Awaited.SegmentMap bits) next = SegmentMap
 awaited_at waiting next = next
 
--- what a machine waits for
+-- the part that a machine waits for
 abbrev pub awaited : Machine → Due
 awaited m = awaited_at m.waiting (stopped_at m)

@@ -1,4 +1,4 @@
--- Bytes that are kept in hand of a unit which goes on behind them.
+-- Buffered bytes of a unit that goes on after them.
 use Rattle.std.specs.Prelude.{◌≡◌, ◌≢◌, ℕ, ◌+◌, List, ◌++◌}
 use Rattle.fast_value.specs.declared.settings.Limits.{Limits}
 use Rattle.fast_machine.specs.declared.machine.Machine.{Machine}
@@ -6,14 +6,14 @@ use Rattle.fast_machine.specs.declared.machine.Waiting.{Waiting}
 use Rattle.fast_machine.specs.declared.machine.Waiting.TheVariants.{Map}
 use Rattle.fast_machine.specs.device.Positions.{Set, front_at, IsReady}
 
--- Inside a message all of the bytes came to those in hand, and the machine waits for more of the same unit.
+-- Inside a message all of the bytes were added to those buffered, and the machine waits for more of the same unit.
 pub record IsGatheredBy (set : Set) (l : Limits) (before after : Machine) (rest : List ℕ) : Type 0 where
   pub inside : before.waiting ≢ Map
   pub ready : IsReady set l after
   pub front : front_at before.waiting after ≡ front_at before.waiting before ++ rest
   pub same : after ≡ record before { entity = after.entity; text = after.text }
 
--- These bytes alone are in hand, and the machine waits for more of their unit: one turn.
+-- These bytes alone are buffered, and the machine waits for more of their unit: one turn.
 pub record IsKeptAs (waits : Waiting) (m m' : Machine) (bytes : List ℕ) : Type 0 where
   pub same : m' ≡ record m { waiting = waits; text = m'.text; turns = m'.turns }
   pub text : m'.text.text ≡ bytes

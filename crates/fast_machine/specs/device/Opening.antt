@@ -1,4 +1,4 @@
--- Where a segment begins: with its map, if its instructions use any bits.
+-- The start of a segment: with its map, if its instructions use any bits.
 use Rattle.std.specs.Prelude.{ℕ, zero, suc, Result, Ok, Err}
 use Rattle.fast_stream.specs.declared.faults.FaultCode.{FaultCode}
 use Rattle.fast_machine.specs.declared.machine.Machine.{Machine}
@@ -6,17 +6,17 @@ use Rattle.fast_machine.specs.declared.machine.Turn.{Turn}
 use Rattle.fast_machine.specs.declared.machine.Turn.TheVariants.{Handed, Waits}
 use Rattle.fast_machine.specs.declared.machine.Waiting.TheVariants.{SegmentMap}
 
--- how a turn ends at whose end a segment begins whose instructions use so many bits
+-- the end of a turn in which a segment begins whose instructions use this number of bits
 abbrev pub opened_turn : ℕ → Turn
 opened_turn zero = Handed
 opened_turn (suc n) = Waits
 
--- the machine behind it: it waits for the map, if there is one
+-- the machine after it: it waits for the map, if there is one
 abbrev pub awaiting : ℕ → Machine → Machine
 awaiting zero m = m
 awaiting (suc n) m = record m { waiting = SegmentMap (suc n) }
 
--- the same where the sink may have stopped
+-- the end of such a turn, or the fault if the sink stopped
 abbrev pub opened_result : Result ℕ FaultCode → Result Turn FaultCode
 opened_result (Ok n) = Ok (opened_turn n)
 opened_result (Err c) = Err c

@@ -1,4 +1,4 @@
--- Where a machine is in a stream, by what it keeps.
+-- The position of a machine in a stream, by its state.
 use Rattle.std.specs.Prelude.{◌≡◌, ◌⊎◌, ℕ, suc, ◌+◌, ◌<◌, ◌≤◌, Bool, true, false, nat_eq, if◌then◌else◌, List, [], ◌∷◌, length, drop, map, slice_get, ℤ, Option, Some, None, IfSome, Result, Ok, Err}
 use Rattle.fast_wire.specs.meaning.Entities.{HaveNoStop, IsEntity}
 use Rattle.fast_wire.specs.meaning.Maps.{map_limit, bits, first_bit}
@@ -64,15 +64,15 @@ set_of t = record { templates = templates_of t; nodes = nodes_of t; program = pr
 abbrev pub body_in : Set → List ℕ → Body
 body_in set ns = body_among set.nodes ns
 
--- the nodes of the run that begins at a place in a set's program
+-- the nodes of the run that begins at an index of a set's program
 abbrev pub run_in : Set → ℕ → List ℕ
 run_in set start = run_at set.program start
 
--- The run that begins at a place is the body of the node.
+-- The run that begins at an index is the body of the node.
 abbrev pub IsBodyOf : Set → ℕ → ℕ → Type 0
 IsBodyOf set node start = (x : Node) → slice_get set.nodes node ≡ Some x → run_in set start ≡ numbers_of x.shape
 
--- an open segment, by what is still to come of a sequence
+-- an open segment, by the elements of a sequence that follow
 abbrev pub frame_by : Set → FrameData → Option ElementsData → Frame
 frame_by set f None = open_group (body_in set f.after) (bits_behind f.map f.used)
 frame_by set f (Some e) = open_element e.more (body_in set e.body) (body_in set f.after) (bits_behind f.map f.used)
@@ -86,7 +86,7 @@ frames_in set (f ∷ fs) = frame_by set f f.elements ∷ frames_in set fs
 abbrev pub state_in : Dictionary → ℕ → CursorData → State
 state_in d counted c = record { context = record { dictionary = d; counted = counted }; bits = bits_left c }
 
--- what is to be read from the next instruction on
+-- the rest of the message from the next instruction on
 abbrev pub going_on : Set → Bounds → Dictionary → ℕ → CursorData → Grammar Dictionary
 going_on set l d counted c = resume l (frames_in set c.frames) (body_in set c.left) (state_in d counted c)
 
@@ -94,27 +94,27 @@ going_on set l d counted c = resume l (frames_in set c.frames) (body_in set c.le
 abbrev pub bit_of : FieldData → State → Bool
 bit_of f s = if uses_bit f then first_bit s.bits else true
 
--- what is read of the next instruction's field from a later unit on, and behind it
+-- the rest of the message from a later unit of the next instruction's field on
 abbrev pub unit_then : Bounds → List Frame → Body → State → Stage → Grammar Dictionary
 unit_then l fs (step (field at f) is) s stage =
     term_behind l f (previous_at f.entry s.context.dictionary) stage >>= (λ o. handed_then at.node (resume l fs is) (found f s o).0 (found f s o).1)
 unit_then l fs body s stage = resume l fs body s
 
--- what is read of the next decimal from its mantissa on, and behind it
+-- the rest of the message from the mantissa of the next decimal on
 abbrev pub mantissa_then : Bounds → List Frame → Body → State → ℤ → Grammar Dictionary
 mantissa_then l fs (step (parts at e m) is) s x = field_in l m s >>= (λ r. handed_then at.node (resume l fs is) (decimal_with x r.0) r.1)
 mantissa_then l fs body s x = resume l fs body s
 
--- what is read behind a whole map
+-- the rest of the message after a complete map
 abbrev pub behind_map : Set → Bounds → Dictionary → List ℕ → Grammar Dictionary
 behind_map set l d m = field_in l identifier (begin d (bits m)) >>= message_behind_then (tree_in set) l m
 
--- what is read of a segment from its map on
+-- the rest of the message from the map of a segment on
 abbrev pub segment_behind : Set → Bounds → Dictionary → ℕ → CursorData → ℕ → Grammar Dictionary
 segment_behind set l d counted c width =
     presence_map (λ m. narrow width m (resume l (frames_in set c.frames) (body_in set c.left) (record { context = record { dictionary = d; counted = counted }; bits = bits m })))
 
--- what a machine has still to read, from the unit in hand on
+-- the rest of the message, from the partial unit on
 abbrev pub term_at : Waiting → Set → Bounds → Machine → Grammar Dictionary
 term_at Map set l m = message_then (tree_in set) l (slots_dictionary m.slots)
 term_at Identifier set l m = behind_map set l (slots_dictionary m.slots) m.cursor.map
@@ -125,7 +125,7 @@ term_at (Number stage) set l m = unit_then l (frames_in set m.cursor.frames) (bo
 term_at (Bytes stage) set l m = unit_then l (frames_in set m.cursor.frames) (body_in set m.cursor.left) (state_in (slots_dictionary m.slots) m.counted m.cursor) stage
 term_at (Mantissa x) set l m = mantissa_then l (frames_in set m.cursor.frames) (body_in set m.cursor.left) (state_in (slots_dictionary m.slots) m.counted m.cursor) x
 
--- the bytes of the unit in hand that have come
+-- the bytes of the partial unit that have been read
 abbrev pub front_at : Waiting → Machine → List ℕ
 front_at Map m = m.cursor.map
 front_at Identifier m = m.entity.bytes
@@ -136,20 +136,20 @@ front_at (Number stage) m = m.entity.bytes
 front_at (Bytes stage) m = m.text.text
 front_at (Mantissa x) m = m.entity.bytes
 
--- the reader of a message whose map begins with these bytes; without any no message is begun
+-- the reader of a message whose map begins with these bytes; without any no message has begun
 abbrev pub map_reader : Set → Limits → Dictionary → List ℕ → Reader Dictionary
 map_reader set l d [] = Done d
 map_reader set l d (b ∷ w) = after_bytes (reader_of l.strict (message_then (tree_in set) (bounds l) d)) (b ∷ w)
 
--- what is read at a whole map
+-- the reader of a message at its complete map
 abbrev pub mapped_reader : Set → Limits → Dictionary → List ℕ → Reader Dictionary
 mapped_reader set l d w = bind (settles_reader (judged_map l.strict w)) (λ m. reader_of l.strict (behind_map set (bounds l) d m))
 
--- what a machine has still to read, behind the bytes of a unit that have come
+-- the reader of a machine, after the bytes of a unit that have been read
 abbrev pub unit_reader : Waiting → Set → Limits → Machine → Reader Dictionary
 unit_reader w set l m = after_bytes (reader_of l.strict (term_at w set (bounds l) m)) (front_at w m)
 
--- what a machine has still to read, by the unit that it waits for
+-- the reader of a machine, by the unit that it waits for
 abbrev pub meaning_at : Waiting → Set → Limits → Machine → Reader Dictionary
 meaning_at Map set l m = map_reader set l (slots_dictionary m.slots) m.cursor.map
 meaning_at Identifier set l m = unit_reader Identifier set l m
@@ -160,32 +160,32 @@ meaning_at (Number stage) set l m = unit_reader (Number stage) set l m
 meaning_at (Bytes stage) set l m = unit_reader (Bytes stage) set l m
 meaning_at (Mantissa x) set l m = unit_reader (Mantissa x) set l m
 
--- what a machine has still to read
+-- the reader of a machine
 abbrev pub meaning : Set → Limits → Machine → Reader Dictionary
 meaning set l m = meaning_at m.waiting set l m
 
--- A segment has no map, or its map is whole.
+-- A segment has no map, or its map is complete.
 abbrev pub IsMapWhole : List ℕ → Type 0
 IsMapWhole map = (map ≡ []) ⊎ IsEntity map
 
--- What is still to come of a sequence: the nodes are of the set, nest no deeper than there are frames, and use these bits.
+-- The elements of a sequence that follow: the nodes are of the set, nest no deeper than there are frames, and use these bits.
 abbrev pub AreElementsFit : Set → ℕ → ℕ → Option ElementsData → Type 0
 AreElementsFit set depth level None = Unit {0}
 AreElementsFit set depth level (Some e) = AreBelow (length set.nodes) e.body × (suc level + body_depth (body_in set e.body) ≤ depth) × (e.width ≡ bits_of (body_in set e.body))
 
--- An open segment, with so many around it: its nodes are of the set, and nest no deeper than there are frames.
+-- An open segment, with this number of segments around it: its nodes are of the set, and nest no deeper than there are frames.
 pub record IsFrameFit (set : Set) (depth level : ℕ) (f : FrameData) : Type 0 where
   pub below : AreBelow (length set.nodes) f.after
   pub nested : level + body_depth (body_in set f.after) ≤ depth
   pub mapped : IsMapWhole f.map
   pub elements : AreElementsFit set depth level f.elements
 
--- so are all
+-- all frames are of the set
 abbrev pub AreFramesFit : Set → ℕ → List FrameData → Type 0
 AreFramesFit set depth [] = Unit {0}
 AreFramesFit set depth (f ∷ fs) = IsFrameFit set depth (length fs) f × AreFramesFit set depth fs
 
--- The cursor stands in messages of the set.
+-- The cursor is in messages of the set.
 pub record IsPlaced (set : Set) (c : CursorData) : Type 0 where
   pub below : AreBelow (length set.nodes) c.left
   pub nested : length c.frames + body_depth (body_in set c.left) ≤ c.depth
@@ -195,7 +195,7 @@ pub record IsPlaced (set : Set) (c : CursorData) : Type 0 where
 abbrev pub IsStartIn : Set → Start → Type 0
 IsStartIn set s = (t : Template) × (slice_get set.templates s.number ≡ Some t) × IsStartOf set.program s t × (id : ℕ) × (t.id ≡ Some id)
 
--- What a machine is made with, and keeps.
+-- The parts with which a machine is made, and which it keeps.
 pub record IsSupplied (set : Set) (l : Limits) (m : Machine) : Type 0 where
   pub entries : (slots_terms m.slots).entries ≡ set.entries
   pub serves : ServesNodes set.entries (slots_terms m.slots) set.nodes
@@ -217,12 +217,12 @@ BeginsWithInteger (step (parts at e m) is) s = IsSent e (bit_of e s)
 BeginsWithInteger (step (sequence at f body) is) s = IsSent f (bit_of f s)
 BeginsWithInteger body s = ⊥
 
--- The next instruction is an ASCII text, of which these bytes have come.
+-- The next instruction is an ASCII string, of which these bytes have been read.
 abbrev pub BeginsWithText : Limits → Body → State → List ℕ → Type 0
 BeginsWithText l (step (field at f) is) s front = IsSent f (bit_of f s) × IsAsciiFirst f × ascii_text f.optional l.max_text front [] cut
 BeginsWithText l body s front = ⊥
 
--- The next instruction is a decimal by parts, whose mantissa stands in the stream.
+-- The next instruction is a decimal by parts, whose mantissa is in the stream.
 abbrev pub GoesOnWithMantissa : Body → State → Type 0
 GoesOnWithMantissa (step (parts at e m) is) s = IsSent m (bit_of m s)
 GoesOnWithMantissa body s = ⊥
@@ -237,7 +237,7 @@ GoesOnWithBytes l (step (field at f) is) s stage front =
     IsSent f (bit_of f s) × IsStageOf (bounds l) f (previous_at f.entry s.context.dictionary) stage × IsBytesStage (bounds l) f (previous_at f.entry s.context.dictionary) stage front
 GoesOnWithBytes l body s stage front = ⊥
 
--- The machine can take the unit that it waits for.
+-- The machine can read the unit that it waits for.
 abbrev pub CanTake : Waiting → Set → Limits → Machine → Type 0
 CanTake Map set l m = HaveNoStop m.cursor.map × (length m.cursor.map < map_limit) × (m.entity.bytes ≡ []) × (m.cursor ≡ record (resting m.cursor) { map = m.cursor.map })
 CanTake Identifier set l m = IsEntity m.cursor.map × (first_bit (bits m.cursor.map) ≡ true) × (m.cursor ≡ record (resting m.cursor) { map = m.cursor.map })
@@ -253,7 +253,7 @@ pub record IsReady (set : Set) (l : Limits) (m : Machine) : Type 0 where
   pub supplied : IsSupplied set l m
   pub takes : CanTake m.waiting set l m
 
--- The next instruction is a field, and so on.
+-- The next instruction is a field; the next definitions are for the other instructions.
 abbrev pub IsAtField : Set → CursorData → ℕ → FieldData → Type 0
 IsAtField set c n f = (at : Label) × (at.node ≡ n) × (0 < length c.left) × (body_in set c.left ≡ step (field at f) (body_in set (drop 1 c.left)))
 
@@ -266,42 +266,42 @@ IsAtGroup set c n optional body = (at : Label) × (at.node ≡ n) × (0 < length
 abbrev pub IsAtSequence : Set → CursorData → ℕ → FieldData → List ℕ → Type 0
 IsAtSequence set c n f body = (at : Label) × (at.node ≡ n) × (0 < length c.left) × (body_in set c.left ≡ step (sequence at f (body_in set body)) (body_in set (drop 1 c.left)))
 
--- The machine is between two units: no byte is in hand, and what is next may need none.
+-- The machine is between two units: no byte is buffered, and the next step may need none.
 pub record CanTurn (set : Set) (l : Limits) (m : Machine) : Type 0 where
   pub supplied : IsSupplied set l m
   pub placed : IsPlaced set m.cursor
   pub mapped : IsMapWhole m.cursor.map
   pub unused : m.entity.bytes ≡ []
 
--- what is to be read by a machine between two units
+-- the reader of a machine between two units
 abbrev pub turning : Set → Limits → Machine → Reader Dictionary
 turning set l m = reader_of l.strict (going_on set (bounds l) (slots_dictionary m.slots) m.counted m.cursor)
 
--- A machine goes on after a turn: it can take the next one, or the unit that it waits for, or it is at an end.
+-- A machine goes on after a turn: it can make the next one, or read the unit that it waits for, or it is at an end.
 abbrev pub GoesOn : Set → Limits → Machine → Result Turn FaultCode → Type 0
 GoesOn set l m (Ok Silent) = CanTurn set l m
 GoesOn set l m (Ok Handed) = CanTurn set l m
 GoesOn set l m (Ok Waits) = IsReady set l m
 GoesOn set l m (Err c) = Unit {0}
 
--- A whole turn: from what was to be read before to what is to be read behind it.
+-- A complete turn: from the reader before it to the reader after it.
 pub record IsTurn {S : Type 0} (takes stops : S → EventData → S → Type 0) (set : Set) (l : Limits) (r : Reader Dictionary) (s : S) (result : Result Turn FaultCode) (s' : S) (m : Machine) : Type 0 where
   pub moves : Moves takes stops r s result s' (turning set l m) (meaning set l m)
   pub supplied : IsSupplied set l m
   pub goes_on : GoesOn set l m result
 
--- The map of a message is whole, and nothing is read behind it.
+-- The map of a message is complete, and nothing has been read after it.
 pub record IsBehindMap (set : Set) (l : Limits) (m : Machine) : Type 0 where
   pub supplied : IsSupplied set l m
   pub map : IsEntity m.cursor.map
   pub outermost : m.cursor ≡ record (resting m.cursor) { map = m.cursor.map }
   pub unused : m.entity.bytes ≡ []
 
--- what is read of a segment at its whole map
+-- the reader of a segment at its complete map
 abbrev pub segment_reader : Set → Limits → Machine → ℕ → Reader Dictionary
 segment_reader set l m width = bind (settles_reader (judged_map l.strict m.cursor.map)) (λ w. reader_of l.strict (narrow width w (going_on set (bounds l) (slots_dictionary m.slots) m.counted (record m.cursor { map = w }))))
 
--- No message is begun.
+-- No message has begun.
 abbrev pub is_idle_at : Waiting → List ℕ → Bool
 is_idle_at Map map = nat_eq (length map) 0
 is_idle_at waiting map = false
@@ -309,7 +309,7 @@ is_idle_at waiting map = false
 abbrev pub is_idle : Machine → Bool
 is_idle m = is_idle_at m.waiting m.cursor.map
 
--- Nothing was read.
+-- Nothing has been read.
 pub record IsFresh (set : Set) (m : Machine) : Type 0 where
   pub waiting : m.waiting ≡ Map
   pub cursor : m.cursor ≡ resting m.cursor
@@ -317,6 +317,6 @@ pub record IsFresh (set : Set) (m : Machine) : Type 0 where
   pub entity : m.entity.bytes ≡ []
   pub turns : m.turns.count ≡ 0
 
--- the machine, at the place
+-- the machine, at the position
 abbrev pub placed : Machine → Place → Machine
 placed m p = record m { cursor = at_place m.cursor p }

@@ -1,4 +1,4 @@
--- How a machine takes the units of the next instruction, a field that is neither a length nor a part of a decimal.
+-- The units of the next instruction, a field that is neither a length nor a part of a decimal, as a machine reads them.
 use Rattle.std.specs.Prelude.{◌≡◌, ℕ, true, List, ◌++◌}
 use Rattle.fast_value.specs.declared.settings.Limits.{Limits}
 use Rattle.fast_value.specs.meaning.Limits.{Bounds, bounds}
@@ -22,7 +22,7 @@ use Rattle.fast_machine.specs.declared.machine.Machine.{Machine}
 use Rattle.fast_machine.specs.declared.machine.Waiting.{Waiting}
 use Rattle.fast_machine.specs.declared.machine.Waiting.TheVariants.{Map, Identifier, SegmentMap, Field, Text, Number, Bytes, Mantissa}
 
--- The unit in hand is one of a field.
+-- The machine waits for a unit of a field.
 abbrev pub IsOfField : Waiting → Type 0
 IsOfField Map = ⊥
 IsOfField Identifier = ⊥
@@ -33,7 +33,7 @@ IsOfField (Number stage) = Unit {0}
 IsOfField (Bytes stage) = Unit {0}
 IsOfField (Mantissa x) = ⊥
 
--- It is a text, or a later unit of a field.
+-- The machine waits for a string, or a later unit of a field.
 abbrev pub IsOfFieldLater : Waiting → Type 0
 IsOfFieldLater Map = ⊥
 IsOfFieldLater Identifier = ⊥
@@ -44,20 +44,20 @@ IsOfFieldLater (Number stage) = Unit {0}
 IsOfFieldLater (Bytes stage) = Unit {0}
 IsOfFieldLater (Mantissa x) = ⊥
 
--- the field from the unit in hand on
+-- the field from the partial unit on
 abbrev pub scalar_term : Waiting → Bounds → FieldData → PreviousData → Grammar Outcome
 scalar_term (Number stage) l f p = term_behind l f p stage
 scalar_term (Bytes stage) l f p = term_behind l f p stage
 scalar_term waiting l f p = field_term l f p true
 
--- Bytes of the unit in hand were taken, which led from the one machine to the other: all of them are in hand, where it is cut.
+-- Bytes of the partial unit were read, from the one machine to the other: all of them are buffered if it is split.
 pub record IsScalarUnit (l : Limits) (before after : Machine) (f : FieldData) (rest : List ℕ) (progress : Progress FieldStep) : Type 0 where
   pub unit : IsFieldUnit l (reader_of l.strict (scalar_term before.waiting (bounds l) f (previous_at f.entry (slots_dictionary before.slots)))) f (front_at before.waiting before) rest
       (slots_dictionary before.slots) (slots_dictionary after.slots) after.text.text progress
   pub cut : progress ≡ Cut → front_at after.waiting after ≡ front_at before.waiting before ++ rest
   pub same : after ≡ record before { slots = after.slots; entity = after.entity; text = after.text; joined = after.joined }
 
--- The machine can go on behind the bytes of a unit.
+-- The machine can go on after the bytes of a unit.
 abbrev pub CanStep : Set → Limits → Machine → FieldData → FieldStep → Type 0
 CanStep set l m f (Settled source) = CanTurn set l m
 CanStep set l m f (Next stage) = CanTurn set l m × IsSent f (bit_of f (state_in (slots_dictionary m.slots) m.counted m.cursor)) × IsStageOf (bounds l) f (previous_at f.entry (slots_dictionary m.slots)) stage
@@ -68,7 +68,7 @@ CanProgress set l m f (Whole step n) = CanStep set l m f step
 CanProgress set l m f (Wrong c n) = IsSupplied set l m
 CanProgress set l m f Cut = IsReady set l m
 
--- What is still to be read once a unit of the next instruction, a field, is whole.
+-- The rest of the message after a complete unit of the next instruction, a field.
 abbrev pub step_then : Set → Limits → ℕ → FieldData → Machine → List ℕ → FieldStep → Grammar Dictionary
 step_then set l n f m piece (Settled source) = value_then set (bounds l) n (value_at source f (slots_dictionary m.slots) m.text.text piece) f (slots_dictionary m.slots) m.counted m.cursor
 step_then set l n f m piece (Next stage) = unit_then (bounds l) (frames_in set m.cursor.frames) (body_in set m.cursor.left) (state_in (slots_dictionary m.slots) m.counted m.cursor) stage

@@ -1,4 +1,4 @@
--- How a message begins: what the bytes of a piece begin with, and where the machine then stands.
+-- The start of a message: the front of a piece, and the position of the machine after it.
 use Rattle.std.specs.Prelude.{◌≡◌, ◌≢◌, ℕ, ◌<◌, ◌≤◌, List, length, take, slice_get, Some}
 use Rattle.fast_wire.specs.meaning.Entities.{IsEntity}
 use Rattle.fast_wire.specs.meaning.Maps.{bits, later_bits}
@@ -17,7 +17,7 @@ use Rattle.fast_cursor.specs.device.Cursors.{resting}
 use Rattle.fast_machine.specs.declared.machine.Machine.{Machine}
 use Rattle.fast_machine.specs.device.Positions.{Set, tree_in}
 
--- The start is that of the set's template with the identifier, of which none in front of it has that.
+-- The start is that of the set's template with the identifier, the first that has it.
 pub record IsStartWith (set : Set) (id : ℕ) (s : Start) : Type 0 where
   pub template : Template
   pub found : slice_get set.templates s.number ≡ Some template
@@ -25,13 +25,13 @@ pub record IsStartWith (set : Set) (id : ℕ) (s : Start) : Type 0 where
   pub own : template.id ≡ Some id
   pub first : (j : ℕ) (u : Template) → j < s.number → slice_get set.templates j ≡ Some u → u.id ≢ Some id
 
--- what is read of a message of a template behind its map and its identifier
+-- the rest of a message of a template after its map and its identifier
 abbrev pub message_from : Set → Bounds → ℕ → Template → Dictionary → List ℕ → Grammar Dictionary
 message_from set l number t d map =
     message_of_then l number (template_data (instructions_from 0 set.nodes) t) (record { context = record { dictionary = d; counted = 0 }; bits = later_bits (bits map) })
 
--- The bytes begin with a message's map of one byte, and with its identifier, if one is sent, which leaves the second dictionary: so many
--- bytes of a message of the template.
+-- The bytes begin with a message's map of one byte, and with its identifier, if one is sent, which leaves the second dictionary: n bytes of
+-- a message of the template.
 pub record IsMessageAhead (set : Set) (l : Limits) (old new : Dictionary) (rest : List ℕ) (number n : ℕ) : Type 0 where
   pub template : Template
   pub found : slice_get set.templates number ≡ Some template
@@ -40,6 +40,6 @@ pub record IsMessageAhead (set : Set) (l : Limits) (old new : Dictionary) (rest 
   pub map : IsEntity (take 1 rest)
   pub turns : Turns (reader_of l.strict (message_then (tree_in set) (bounds l) old)) (take n rest) (reader_of l.strict (message_from set (bounds l) number template new (take 1 rest)))
 
--- the machine, as if it stood behind that map
+-- the machine, as it would be after that map
 abbrev pub mapped_by : Machine → List ℕ → Machine
 mapped_by m rest = record m { cursor = record (resting m.cursor) { map = take 1 rest } }

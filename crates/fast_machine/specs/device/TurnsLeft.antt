@@ -1,4 +1,4 @@
--- How many turns a machine can still take in a message, and that they are within a number of turns.
+-- The number of turns that a machine can still make in a message, and its bounds.
 use Rattle.std.specs.Prelude.{ℕ, ◌+◌, ◌*◌, ◌-◌, ◌≤◌, List, [], ◌∷◌, Option, Some, None, Result, Ok, Err}
 use Rattle.fast_value.specs.declared.settings.Limits.{Limits}
 use Rattle.fast_tree.specs.meaning.Tree.{Body, Tree}
@@ -12,7 +12,7 @@ use Rattle.fast_machine.specs.declared.machine.Waiting.TheVariants.{Map, Identif
 use Rattle.fast_cursor.specs.device.Cursors.{ElementsData, FrameData, CursorData, entered}
 use Rattle.fast_machine.specs.device.Positions.{Set, tree_in, body_in}
 
--- What bounds the elements of a message: the limit on each sequence, or the limit on all of them together.
+-- The bound on the elements of a message: the limit on each sequence, or the limit on all of them together.
 pub data Way : Type 0 where
   by_sequence : Way
   by_message : Way
@@ -32,7 +32,7 @@ abbrev pub AreWithin : Way → ℕ → Body → Type 0
 AreWithin by_sequence w body = Unit {0}
 AreWithin by_message w body = body_widest turn_weights body ≤ w
 
--- the turns of the elements that are still to come of a sequence
+-- the turns of the elements of a sequence that follow
 abbrev pub elements_turns : Way → Set → Limits → Option ElementsData → ℕ
 elements_turns way set l None = 0
 elements_turns way set l (Some e) = e.more * (2 + body_turns way l (body_in set e.body))
@@ -50,11 +50,11 @@ abbrev pub AreFramesWithin : Way → Set → ℕ → List FrameData → Type 0
 AreFramesWithin way set w [] = Unit {0}
 AreFramesWithin way set w (f ∷ fs) = AreWithin way w (body_in set f.after) × AreElementsWithin way set w f.elements × AreFramesWithin way set w fs
 
--- the turns from a cursor on to the end of the message, with so many elements counted
+-- the turns from a cursor on to the end of the message, with this number of elements counted
 abbrev pub turns_left : Way → Set → Limits → ℕ → ℕ → CursorData → ℕ
 turns_left way set l w counted c = body_turns way l (body_in set c.left) + frames_turns way set l c.frames + (l.max_total - counted) * w
 
--- The turns taken, but for k, and those that are left of the message are within n, and those that are left within the most of a message.
+-- The turns made, except for k, and those that are left of the message are within n, and those that are left within the most of a message.
 pub record IsWithinTurns (way : Way) (set : Set) (l : Limits) (k n turns counted : ℕ) (c : CursorData) : Type 0 where
   pub each : ℕ
   pub body : AreWithin way each (body_in set c.left)
@@ -62,11 +62,11 @@ pub record IsWithinTurns (way : Way) (set : Set) (l : Limits) (k n turns counted
   pub most : turns_left way set l each counted c ≤ most_by way (tree_in set) l + k
   pub all : turns + turns_left way set l each counted c ≤ n + k
 
--- the same of a machine between two units
+-- the turns of a machine between two units are within n
 abbrev pub HasTurns : Way → Set → Limits → ℕ → ℕ → Machine → Type 0
 HasTurns way set l k n m = IsWithinTurns way set l k n m.turns.count m.counted m.cursor
 
--- the same of a machine that has so many elements of a sequence still to begin
+-- the turns of a machine that still begins this number of elements of a sequence are within n
 abbrev pub HasTurnsFrom : Way → Set → Limits → ℕ → ℕ → List ℕ → Machine → Type 0
 HasTurnsFrom way set l n count body m =
     IsWithinTurns way set l 1 n m.turns.count m.counted (entered m.cursor (Some (record { more = count; body = body; width = 0 })) [])
@@ -76,7 +76,7 @@ abbrev pub HasTurnsInMap : List ℕ → Way → Set → Limits → ℕ → ℕ �
 HasTurnsInMap [] way set l n turns = turns ≤ n
 HasTurnsInMap (b ∷ w) way set l n turns = turns + most_by way (tree_in set) l ≤ n
 
--- The turns taken, and those that are left of the message, are within n. Of an instruction in hand one turn is taken already.
+-- The turns made, and those that are left of the message, are within n. Of a partial instruction one turn is made already.
 abbrev pub HasTurnsAt : Waiting → Way → Set → Limits → ℕ → Machine → Type 0
 HasTurnsAt Map way set l n m = HasTurnsInMap m.cursor.map way set l n m.turns.count
 HasTurnsAt Identifier way set l n m = m.turns.count + most_by way (tree_in set) l ≤ n
@@ -87,11 +87,11 @@ HasTurnsAt (Number stage) way set l n m = HasTurns way set l 1 n m
 HasTurnsAt (Bytes stage) way set l n m = HasTurns way set l 1 n m
 HasTurnsAt (Mantissa x) way set l n m = HasTurns way set l 1 n m
 
--- the same by the unit that the machine waits for
+-- the turns are within n, by the unit that the machine waits for
 abbrev pub HasTurnsWaiting : Way → Set → Limits → ℕ → Machine → Type 0
 HasTurnsWaiting way set l n m = HasTurnsAt m.waiting way set l n m
 
--- the same behind a turn, and behind all that needs no byte: after a fault none is left
+-- the turns are within n after a turn, and after all steps that need no byte: after a fault none is left
 abbrev pub HasTurnsBehind : Result Turn FaultCode → Way → Set → Limits → ℕ → Machine → Type 0
 HasTurnsBehind (Ok Silent) way set l n m = HasTurns way set l 0 n m
 HasTurnsBehind (Ok Handed) way set l n m = HasTurns way set l 0 n m
@@ -117,6 +117,6 @@ turns_begun_at (Number stage) map way t l = 0
 turns_begun_at (Bytes stage) map way t l = 0
 turns_begun_at (Mantissa x) map way t l = 0
 
--- Whatever bounds the elements, what is left of a message that is begun is within its most turns.
+-- For each bound on the elements, the rest of a message that has begun is within its most turns.
 abbrev pub IsWithinMessage : Set → Limits → Machine → Type 0
 IsWithinMessage set l m = (way : Way) → (n : ℕ) × HasTurnsWaiting way set l n m

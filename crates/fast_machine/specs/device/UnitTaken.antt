@@ -1,4 +1,4 @@
--- What a machine takes of a unit, and the turn behind it.
+-- The part of a unit that a machine reads, and the turn after it.
 use Rattle.std.specs.Prelude.{◌≡◌, ℕ, ◌<◌, ◌≤◌, true, List, [], length, take, Option, Result}
 use Rattle.fast_value.specs.declared.settings.Limits.{Limits}
 use Rattle.fast_value.specs.meaning.Limits.{bounds}
@@ -22,16 +22,15 @@ use Rattle.fast_machine.specs.declared.machine.Waiting.TheVariants.{Field}
 use Rattle.fast_units.specs.declared.fields.Number.{Number}
 use Rattle.fast_units.specs.declared.progress.Progress.TheVariants.{Whole}
 
--- A machine that has the reader still to read takes some of the bytes, of which only the last hands something over, and a turn
--- behind them ends so.
+-- A machine with this reader consumes some of the bytes, of which only the last emits events, and a turn after them ends with this result.
 pub record IsTakenTo {S : Type 0} (takes stops : S → EventData → S → Type 0) (set : Set) (l : Limits) (from : Reader Dictionary) (rest : List ℕ) (s : S) (n : ℕ) (result : Result Turn FaultCode) (s' : S) (m : Machine) : Type 0 where
   pub some : 0 < n
   pub within : n ≤ length rest
   pub quiet : Quiet (due (tree_in set) l from) (take n rest)
   pub turn : IsTurn takes stops set l (after_bytes (due (tree_in set) l from) (take n rest)) s result s' m
 
--- A machine waited for a field, of which some bytes may be in hand, and those that come end its last unit: this number, or NULL. The other
--- machine has kept it, has no byte in hand, and is the same otherwise.
+-- A machine waited for a field, of which some bytes may be buffered, and the next ones end its last unit: this number, or NULL. The other
+-- machine has stored it, has no byte buffered, and is otherwise unchanged.
 pub record IsSentItem (set : Set) (l : Limits) (m m' : Machine) (node : ℕ) (f : FieldData) (rest : List ℕ) (item : Option Number) (n : ℕ) : Type 0 where
   pub kept : m' ≡ record m { slots = m'.slots; entity = m'.entity }
   pub none : m'.entity.bytes ≡ []

@@ -1,4 +1,4 @@
--- Words for what clauses on a machine say again and again: the unit that it takes, and the turns that are paid for.
+-- Abbreviations for clauses on a machine: the unit that it reads, and the turns that are paid for.
 use Rattle.std.specs.Prelude.{ℕ, ◌+◌, ◌≤◌, List, Result}
 use Rattle.fast_value.specs.declared.settings.Limits.{Limits}
 use Rattle.fast_tree.specs.meaning.Tree.{FieldData}
@@ -13,7 +13,7 @@ use Rattle.fast_machine.specs.device.Positions.{Set, tree_in, meaning}
 use Rattle.fast_machine.specs.device.UnitTaken.{IsTakenTo}
 use Rattle.fast_machine.specs.device.TurnsLeft.{Way, most_by, HasTurns, HasTurnsBehind}
 
--- From the one machine to the other some of the bytes are taken, of which only the last hands something over, and a turn behind them.
+-- From the one machine to the other some of the bytes are read, of which only the last emits events, and a turn after them.
 abbrev pub TakesUnit : {S : Type 0} → (S → EventData → S → Type 0) → (S → EventData → S → Type 0) → Set → Limits → Machine → List ℕ → S → UnitTaken → S → Machine → Type 0
 TakesUnit takes stops set l m rest s q s' m' = IsTakenTo takes stops set l (meaning set l m) rest s q.bytes q.turn s' m'
 
@@ -21,11 +21,11 @@ TakesUnit takes stops set l m rest s q s' m' = IsTakenTo takes stops set l (mean
 abbrev pub IsServedBy : Set → Machine → FieldData → Type 0
 IsServedBy set m f = Serves set.entries (slots_terms m.slots) f
 
--- Whatever bounds the elements: if the turns of the one machine, but for k of them, are within a number, so are those of the other,
--- behind the turn.
+-- For each bound on the elements: if the turns of the one machine, except for k of them, are within a number, so are those of the other,
+-- after the turn.
 abbrev pub PaysTurns : Set → Limits → ℕ → Machine → Result Turn FaultCode → Machine → Type 0
 PaysTurns set l k m turn m' = (way : Way) (n : ℕ) → HasTurns way set l k n m → HasTurnsBehind turn way set l n m'
 
--- The same of a message that begins, with all turns that it may have.
+-- The turns of a message that begins are within a number, with all turns that it may have.
 abbrev pub PaysMessage : Set → Limits → Machine → Result Turn FaultCode → Machine → Type 0
 PaysMessage set l m turn m' = (way : Way) (n : ℕ) → m.turns.count + most_by way (tree_in set) l ≤ n → HasTurnsBehind turn way set l n m'
