@@ -1,4 +1,4 @@
--- What the arms of the loop and its steps do.
+-- Definitions for the arms of the loop and its steps.
 pub mod Arms
 pub mod Parts
 pub mod Begun

@@ -1,4 +1,4 @@
--- What an arm of the machine's loop does: the place in the innermost segment, and the rest of the piece, stand apart from the machine.
+-- The arms of the machine's loop: the position in the innermost segment, and the rest of the piece, are apart from the machine.
 use Rattle.std.specs.Prelude.{◌≡◌, ℕ, ◌<◌, ◌≤◌, Bool, true, false, List, length, take, drop, slice_get, Option, Some, Result, Ok, Err}
 use Rattle.fast_value.specs.declared.settings.Limits.{Limits}
 use Rattle.fast_value.specs.meaning.Limits.{Bounds, bounds}
@@ -47,30 +47,31 @@ use Rattle.fast_machine.specs.device.Steps.{IsStep}
 abbrev pub IsAtOp : Set → Place → Op → Type 0
 IsAtOp set p op = (op.node < length set.nodes) × (first_node (place_left p) ≡ Some op.node)
 
--- The op's node is a field of the kind, under the operator, absent or not, with the op's entry.
+-- The op's node is a field of the type, under the operator, optional or mandatory, with the op's entry.
 abbrev pub IsFieldOp : Set → Op → Kind → Operator → Bool → Type 0
 IsFieldOp set op kind operator optional = (x : Node) → slice_get set.nodes op.node ≡ Some x → IsFieldCoded kind operator optional op.entry x.shape
 
--- The op's node, if it is a field of ASCII texts under the operator, absent or not, is this text, or absent, whole in these bytes.
+-- The op's node, if it is a field of ASCII strings under the operator, optional or mandatory, is this string, or absent, complete in these
+-- bytes.
 abbrev pub IsOpText : Set → Op → Operator → Bool → ℕ → List ℕ → Slots → Slots → List ℕ → TakenText → Type 0
 IsOpText set op operator optional room rest old new scratch r = (x : Node) (i : FieldInstruction) (strict : Bool) (b : Bounds) → slice_get set.nodes op.node ≡ Some x → x.shape ≡ Shape.Field i
     → b.max_text ≡ room → IsFieldAs (field_data i) Ascii optional operator op.entry → Serves (length (slots_dictionary old)) (slots_terms old) (field_data i)
     → GivesWhole (reader_in old strict b (field_data i)) (field_data i) rest (slots_dictionary old) (slots_dictionary new) scratch r.source r.from r.bytes
 
--- The machine stands there between two units.
+-- The machine is there between two units.
 pub record IsAtSpot (set : Set) (l : Limits) (m : Machine) (p : Place) : Type 0 where
   pub waits : m.waiting ≡ Field
   pub place : IsPlaceOf m.cursor p
   pub can : CanTurn set l (placed m p)
 
--- A step from there on, which takes so many bytes, and ends so.
+-- A step from there on, which reads this number of bytes, and ends with this result.
 pub record WentBy {S : Type 0} (takes stops : S → EventData → S → Type 0) (set : Set) (l : Limits) (m : Machine) (from : Spot) (s : S) (n : ℕ) (turn : Turn) (s' : S) (m' : Machine) (to : Spot) : Type 0 where
   pub rest : to.rest.now ≡ drop n from.rest.now
   pub waits : m'.waiting ≡ Field
   pub place : IsPlaceOf m'.cursor to.place
   pub step : IsStep takes stops set l (placed m from.place) from.rest.now s (record { bytes = n; turn = Ok turn }) s' (placed m' to.place)
 
--- What an arm did, by its answer.
+-- The effect of an arm, by its result.
 abbrev pub HasWent : {S : Type 0} → (S → EventData → S → Type 0) → (S → EventData → S → Type 0) → Set → Limits → Machine → Spot → S → Went → S → Machine → Spot → Type 0
 HasWent takes stops set l m from s Went.Took s' m' to = (n : ℕ) × (0 < n) × WentBy takes stops set l m from s n Handed s' m' to
 HasWent takes stops set l m from s Went.Handed s' m' to = WentBy takes stops set l m from s 0 Handed s' m' to
@@ -81,18 +82,18 @@ HasWent takes stops set l m from s Went.Stopped s' m' to =
 HasWent takes stops set l m from s Went.Waits s' m' to =
     (n : ℕ) × (to.rest.now ≡ drop n from.rest.now) × IsPlaceOf m'.cursor to.place × IsStep takes stops set l (placed m from.place) from.rest.now s (record { bytes = n; turn = Ok Waits }) s' (placed m' to.place)
 
--- What an arm answers behind a step that takes so many bytes, and goes on.
+-- The result of an arm after a step that reads n bytes, and goes on.
 abbrev pub IsAnswer : Went → ℕ → Type 0
 IsAnswer Went.Took n = 0 < n
 IsAnswer Went.Handed n = n ≡ 0
 IsAnswer went n = ⊥
 
--- how a turn ended that did not go on
+-- the end of a turn that did not go on
 abbrev pub ended : Result Unit FaultCode → Result Turn FaultCode
 ended (Ok u) = Ok Waits
 ended (Err c) = Err c
 
--- What a step of the loop did, by its answer. At its end the machine itself stands where it stands.
+-- The effect of a step of the loop, by its result. At its end the machine itself is at the position.
 abbrev pub HasGone : {S : Type 0} → (S → EventData → S → Type 0) → (S → EventData → S → Type 0) → Set → Limits → Machine → Spot → S → Gone → S → Machine → Spot → Type 0
 HasGone takes stops set l m from s Gone.Took s' m' to = (n : ℕ) × (0 < n) × WentBy takes stops set l m from s n Handed s' m' to
 HasGone takes stops set l m from s Gone.Handed s' m' to = WentBy takes stops set l m from s 0 Handed s' m' to
@@ -100,8 +101,8 @@ HasGone takes stops set l m from s Gone.Silent s' m' to = WentBy takes stops set
 HasGone takes stops set l m from s (Gone.Ended outcome) s' m' to =
     (n : ℕ) × (to.rest.now ≡ drop n from.rest.now) × IsStep takes stops set l (placed m from.place) from.rest.now s (record { bytes = n; turn = ended outcome }) s' m'
 
--- The field at the next node stood whole in so many bytes, and has this value, or none: the second machine has kept what the field
--- keeps, and perhaps a text, or one that was joined, and is the first otherwise.
+-- The field at the next node is complete in this number of bytes, and has this value, or none: the second machine has stored the value if
+-- the field does, and perhaps a string, or one that was joined, and is otherwise the first.
 pub record IsFieldTaken (set : Set) (l : Limits) (m m' : Machine) (from : Spot) (node : ℕ) (f : FieldData) (value : Option ScalarData) (n : ℕ) : Type 0 where
   pub spot : IsAtSpot set l m from.place
   pub kept : m' ≡ record m { slots = m'.slots; text = m'.text; joined = m'.joined }
@@ -117,7 +118,7 @@ pub record IsFieldTaken (set : Set) (l : Limits) (m m' : Machine) (from : Spot) 
   pub is_value : outcome.value ≡ value
   pub next : slots_dictionary m'.slots ≡ write_at f.entry outcome.next (slots_dictionary m.slots)
 
--- The length of the sequence at the next node stood whole in so many bytes, uses no bit, and has this value, or none.
+-- The length of the sequence at the next node is complete in this number of bytes, uses no bit, and has this value, or none.
 pub record IsLengthTaken (set : Set) (l : Limits) (m : Machine) (from : Spot) (node : ℕ) (f : FieldData) (body : List ℕ) (value : Option ScalarData) (n : ℕ) : Type 0 where
   pub spot : IsAtSpot set l m from.place
   pub at : IsAtSequence set (at_place m.cursor from.place) node f body
@@ -126,7 +127,7 @@ pub record IsLengthTaken (set : Set) (l : Limits) (m : Machine) (from : Spot) (n
   pub within : n ≤ length from.rest.now
   pub turns : Turns (turning set l (placed m from.place)) (take n from.rest.now) (reader_of l.strict (length_then set (bounds l) node value f body (slots_dictionary m.slots) m.counted (at_place m.cursor from.place)))
 
--- From the first spot to the second the bit of the next instruction is used, a group that is there, if it has one.
+-- From the first spot to the second the bit of the next instruction is used, if it has one: a group that is present.
 pub record IsGroupHere (set : Set) (l : Limits) (m : Machine) (from to : Spot) (node : ℕ) (body : List ℕ) : Type 0 where
   pub rest : to.rest.now ≡ from.rest.now
   pub left : place_left to.place ≡ place_left from.place
@@ -145,7 +146,7 @@ pub record IsFieldUnsent (set : Set) (l : Limits) (m m' : Machine) (p : Place) (
   pub is_value : outcome.value ≡ value
   pub next : slots_dictionary m'.slots ≡ write_at f.entry outcome.next (slots_dictionary m.slots)
 
--- how the turn ended in which an arm began a message
+-- the end of the turn in which an arm began a message
 abbrev pub begun_by : Went → Result Turn FaultCode
 begun_by Went.Took = Ok Handed
 begun_by went = Err SinkStopped

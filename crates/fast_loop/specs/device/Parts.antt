@@ -1,4 +1,4 @@
--- What the arm of decimals by parts goes by, and what leads past an instruction by the bytes that it takes, if any.
+-- The arm of decimals by parts, and the steps past an instruction of a number of bytes, if any.
 use Rattle.std.specs.Prelude.{◌≡◌, ℕ, ◌<◌, ◌≤◌, Bool, true, if◌then◌else◌, length, take, drop, slice_get, Option, Some}
 use Rattle.fast_wire.specs.meaning.Maps.{first_bit}
 use Rattle.fast_value.specs.declared.settings.Limits.{Limits}
@@ -29,11 +29,11 @@ use Rattle.fast_machine.specs.device.Passing.{value_then}
 abbrev pub IsPartsOp : Set → Op → Type 0
 IsPartsOp set op = (x : Node) → slice_get set.nodes op.node ≡ Some x → IsPartsCoded x.shape
 
--- The op's node is a decimal by parts: an exponent under the operator, and a mantissa under delta that is there.
+-- The op's node is a decimal by parts: an exponent under the operator, and a mandatory mantissa under delta.
 abbrev pub IsChangedPartsOp : Set → Op → Operator → Bool → Type 0
 IsChangedPartsOp set op operator optional = (x : Node) → slice_get set.nodes op.node ≡ Some x → IsChangedPartsCoded operator optional op.entry x.shape
 
--- the presence bit of a field, which is next at the place: set, if it has none
+-- the presence bit of a field, which is next at the position: set, if it has none
 abbrev pub bit_at_place : CursorData → Place → FieldData → Bool
 bit_at_place c p f = if uses_bit f then first_bit (bits_left (at_place c p)) else true
 
@@ -46,8 +46,8 @@ pub record IsAtDecimal (set : Set) (l : Limits) (m : Machine) (p : Place) (node 
   pub exponent_kind : e.kind ≡ Int32
   pub mantissa_kind : f.kind ≡ Int64
 
--- So many bytes lead through the next instruction, and its value, if it has one, is due. Of its bits the one of this field is still
--- to be used, if that has one, at this place. The second machine has kept what the instruction keeps.
+-- This number of bytes leads through the next instruction, and its value, if it has one, is to be emitted. Of its bits the one of this
+-- field is still to be used, if that has one, at this position. The second machine has stored the value if the instruction does.
 pub record IsLedTo (set : Set) (l : Limits) (m m' : Machine) (from : Spot) (p : Place) (node : ℕ) (f : FieldData) (value : Option ScalarData) (n : ℕ) : Type 0 where
   pub spot : IsAtSpot set l m from.place
   pub kept : m' ≡ record m { slots = m'.slots }
