@@ -204,7 +204,7 @@ fn sent_null(
 }
 
 /// Reads an ASCII string that was sent, if it is a short one or NULL: it is then in the scratch, or at the entry that keeps it. Under tail
-/// the entry holds one of its own type.
+/// a string is read only if the entry holds one of its own type.
 #[inline(always)]
 pub fn sent_at_once(
     slots: &mut Slots,

@@ -135,8 +135,8 @@ pub fn end_arm<'t, S: Sink>(
     segment_arm(machine, templates, limits, begun, Went::Handed, spot, sink)
 }
 
-/// Decodes the next instruction, a sequence whose length has no operator: its length, and the start of its first element. A length beyond
-/// the limits is left to the general path.
+/// Decodes the next instruction, a sequence whose length has no operator: its length, and the start of its first element, if it has one. A
+/// length beyond the limits is left to the general path.
 #[inline(always)]
 pub fn sequence_arm<'t, S: Sink>(
     machine: &mut Machine<'t>,

@@ -102,7 +102,7 @@ fn template_of<'t>(
 }
 
 /// Returns the number of the template with this identifier, by a walk through all templates. An identifier of more than 32 bits belongs to
-/// no template: the walk returns so without a premise on the set.
+/// no template, which the walk finds without a premise on the set.
 #[inline]
 pub fn walk_to(templates: &Templates, id: u128) -> Option<u32>
     ensures some { IfSome result

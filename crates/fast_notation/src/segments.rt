@@ -1,4 +1,4 @@
-//! The eighth pass: no segment has more bits than a presence map.
+//! The ninth pass: no segment has more bits than a presence map.
 
 ghost use Rattle.std.specs.Prelude.{◌≡◌, ◌↔◌, ◌<◌, ◌^◌, length, map, take, slice_get, slice_index_or, All, Some, IsTrue, OnOk, IfErr};
 ghost use Rattle.fast_notation.specs.meaning.Checked.{IsNarrowInside};

@@ -102,7 +102,7 @@ abbrev pub fixed : Option ScalarData → PreviousData → Result Outcome Code
 fixed (Some v) p = gives v p
 fixed None p = gives_none p
 
--- the value to which a string's tail or delta is joined, or a number's delta added, without an entry or initial value
+-- the value to which a string's tail or delta is joined, or a number's delta added, under an undefined entry and without an initial value
 -- FAST 1.1: Template Definition, Delta and Tail Operators.
 abbrev pub zero_in : Kind → Family → ScalarData
 zero_in kind (integers range) = value_of_integer kind (pos 0)
