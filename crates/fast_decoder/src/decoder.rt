@@ -85,7 +85,7 @@ impl<'t> Decoder<'t> {
         ensures long_initial { (result ≡ Err MakeError.InitialTooLong)
             ↔ (¬ (AreBadLimits limits) × HasLongInitial limits.max_text (nodes_of templates.entry.now)) }
         ensures no_turn { IfOk result (λ d. turns d ≡ 0) }
-        // What it stores is at most the cap of the set.
+        // The bytes and records stored are at most the cap of the set.
         ensures bounded { IfOk result (λ d. held (stored d) ≤ stored_cap (tree d) d.limits) }
     {
         if limits.max_text < MIN_TEXT || limits.max_text > MAX_TEXT {
@@ -183,8 +183,9 @@ impl<'t> Decoder<'t> {
     /// Feeds the pieces of a stream in order, up to the first fault, which it returns.
     ///
     /// The sink receives exactly the events of the stream; where the stream is at fault, the error says which fault and at which offset.
-    /// The number of events is at most the cap of a message for each byte consumed, and the memory used at most the cap of the set. Both
-    /// bounds are clauses of `feed`, which reads each piece, so they hold after each piece, and with pieces of one byte after each byte.
+    /// The number of events is at most the cap of a message for each byte consumed, and that of the bytes and records stored at most the
+    /// cap of the set. Both bounds are clauses of `feed`, which reads each piece, so they hold after each piece, and with pieces of one
+    /// byte after each byte.
     pub fn feed_all<S: Sink>(&mut self, pieces: &[&[u8]], sink: &mut S) -> Result<(), Fault>
         // The pieces are read as if they were one, after the bytes that the decoder had read before.
         ensures followed { (w : List ℕ) (es : List EventData) → HasRead self.old w es
@@ -278,8 +279,8 @@ pub fn read_bounds_messages()
 {}
 
 /// The theorem of the decoder, for every template set, limits and bytes: the bytes read are a stream with these events, whose end the
-/// decoder reports; the memory used is at most the cap of the set; and the events are no more than the cap of a message for each byte
-/// consumed. That a sink receives these events is a clause of each call: of `Decoder::feed_all`, `feed` and `push`.
+/// decoder reports; the bytes and records stored are at most the cap of the set; and the events are no more than the cap of a message for
+/// each byte consumed. That a sink receives these events is a clause of each call: of `Decoder::feed_all`, `feed` and `push`.
 pub fn headline()
     ensures { (d : DecoderData) (w : List ℕ) (es : List EventData) → HasRead d w es
         → TellsStream (tree d) d.limits w es (account d)
