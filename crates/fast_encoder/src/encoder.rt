@@ -1,4 +1,4 @@
-//! The encoder: a dictionary with its template set and its limits.
+//! The encoder: a template set, limits and a dictionary.
 
 ghost use Rattle.std.specs.Prelude.{◌≡◌, ◌⊎◌, ◌↔◌, IfOk, IfErr, OnOk, OnErr, IfSome, IfNone, IsTrue, Err, Some, slice_get};
 ghost use Rattle.std.specs.Bool.{IsFalse};
@@ -29,7 +29,8 @@ use std::alloc::Global;
 use std::fmt;
 use std::marker::Model;
 
-/// Encodes messages, one after the other, each from the dictionary that the one before has left.
+/// An encoder of FAST 1.1 messages. It keeps the dictionary across messages: each message is encoded from the previous values that the last
+/// one left.
 #[derive(Drop)]
 pub struct Encoder<'t> {
     plan: Plan<'t>,
@@ -51,7 +52,7 @@ impl<'t> Model for Encoder<'t> {
     ghost invariant = { λ e. IsSound e.plan.templates.now e.plan.limits e.work.ledger };
 }
 
-/// Its limits. Its dictionary is left out.
+/// Shows the limits, not the dictionary.
 impl<'t> fmt::Debug for Encoder<'t> {
     fn fmt<W: fmt::Write>(&self, f: &mut fmt::Formatter<W>) -> fmt::Result {
         f.debug_struct("Encoder")
@@ -61,12 +62,13 @@ impl<'t> fmt::Debug for Encoder<'t> {
 }
 
 impl<'t> Encoder<'t> {
-    /// An encoder of messages under a template set and limits, with an empty dictionary.
+    /// Makes an encoder for the messages of a template set, with an empty dictionary. Of `limits`, all but `strict` apply.
     ///
     /// # Errors
     ///
-    /// `BadLimits` where `max_text` is not one of 16 to 1,048,576; then `InitialTooLong` where a field has an initial value that is a
-    /// text longer than `max_text`; then `Memory` where memory was refused.
+    /// - `BadLimits` if `max_text` is not between 16 and 1,048,576.
+    /// - `InitialTooLong`, checked next, if a field's initial value is a string or byte vector of more than `max_text` bytes.
+    /// - `Memory` if an allocation failed.
     pub fn new(
         alloc: Global,
         templates: &'t Templates,
@@ -105,14 +107,14 @@ impl<'t> Encoder<'t> {
         }
     }
 
-    /// The template set whose messages it encodes.
+    /// Returns the template set of the encoder.
     pub fn templates(&self) -> &'t Templates
         ensures { tree_of result.now ≡ tree self.now }
     {
         self.plan.templates
     }
 
-    /// The encoder as it was made: all entries of its dictionary are undefined.
+    /// Resets the encoder to the state that [`Encoder::new`] left it in: all entries of its dictionary are undefined.
     pub fn reset(&mut self)
         ensures fresh { self.new.dictionary ≡ fresh (tree self.old).entries }
         ensures same_set { (self.new.set ≡ self.old.set) × (self.new.limits ≡ self.old.limits) }
@@ -120,16 +122,17 @@ impl<'t> Encoder<'t> {
         self.work.ledger.reset_all();
     }
 
-    /// Appends the bytes of a message.
+    /// Encodes `message` and appends its bytes to `out`. On an error, the encoder and `out` are unchanged.
     ///
     /// # Errors
     ///
-    /// E1, E2 and E4 are decided for the whole message, in this order; then E3 and R9 at the first instruction of which one stands;
-    /// Memory where memory was refused. The encoder and `out` are as they were.
+    /// - E1 (no such template), E2 (the message does not suit it) and E4 (a limit), in this order, each checked for the whole message.
+    /// - Then E3 (no encoding) or R9 (an ASCII string that begins with a zero character), at the first instruction that has either.
+    /// - `Memory` if an allocation failed.
     pub fn encode(&mut self, message: &Message, out: &mut Vec<u8>) -> Result<(), EncodeFault>
         ensures ok { OnOk result (IsEncoded self.old (message_data message.now) out.old.items self.new out.new.items) }
         ensures err { IfErr result (IsToldOf self.old (message_data message.now)) }
-        // A fault that stands is told, unless memory was refused.
+        // A fault that applies is returned, unless an allocation failed.
         ensures told { (c : EncodeFault)
             → IsRefused (tree self.old) self.old.limits self.old.dictionary (message_data message.now) c
             → (result ≡ Err c) ⊎ (result ≡ Err EncodeFault.Memory) }
@@ -142,8 +145,8 @@ impl<'t> Encoder<'t> {
         self.encode_in_order(message, out)
     }
 
-    /// Appends the bytes of a message, of which each value is looked at as it is written. Where anything is refused, nothing has changed,
-    /// and which fault comes first is not said.
+    /// Encodes `message` in one pass, which checks each value as it is written. Returns false, with nothing changed, if anything is
+    /// refused; it does not say which fault comes first.
     #[inline(always)]
     fn try_encode(&mut self, message: &Message, out: &mut Vec<u8>) -> bool
         ensures encoded { IsTrue result
@@ -167,11 +170,11 @@ impl<'t> Encoder<'t> {
         true
     }
 
-    /// Appends the bytes of a message, which is looked at as a whole, in the order of the faults, before it is written.
+    /// Encodes `message` in two passes: first it checks the whole message, in the order of the faults, then it writes it.
     ///
     /// # Errors
     ///
-    /// As those of [`Encoder::encode`].
+    /// Those of [`Encoder::encode`].
     fn encode_in_order(&mut self, message: &Message, out: &mut Vec<u8>) -> Result<(), EncodeFault>
         ensures ok { OnOk result (IsEncoded self.old (message_data message.now) out.old.items self.new out.new.items) }
         ensures err { IfErr result (IsToldOf self.old (message_data message.now)) }
@@ -212,7 +215,8 @@ impl<'t> Encoder<'t> {
     }
 }
 
-/// The template of a message, and its identifier.
+/// Returns the template of a message and the template's identifier; `None` if the set has no such template, or the template has no
+/// identifier.
 fn known<'t>(templates: &'t Templates, message: &Message) -> Option<(&'t Template, u32)>
     ensures known { IfSome result (λ p. IsKnownAs (tree_of templates.now) (message_data message.now) p.1) }
     ensures template { IfSome result (λ p. slice_get (templates_of templates.now) message.now.template ≡ Some p.0.now) }

@@ -25,8 +25,8 @@ pub use fast_spelling::laws::{
 };
 pub use fast_stream::laws::read_back;
 
-/// Every message is encoded or refused, and never both. So where `encode` reports Memory, nothing is left open but whether memory was
-/// there: with memory enough the message is encoded, or its one fault reported.
+/// Every message is either encoded or refused, never both. So if `encode` returns `Memory`, a call with enough memory encodes the message,
+/// or returns its one fault.
 pub fn encoded_or_refused()
     // IsAble is given by `stays_able`.
     ensures either { (e : EncoderData) (m : MessageData) (out : List ℕ) → IsAble e
@@ -35,8 +35,8 @@ pub fn encoded_or_refused()
         → ¬ (IsRefused (tree e) e.limits e.dictionary m c) }
 {}
 
-/// A new encoder of a set that was read is able to encode or refuse every message, and it stays so. The premises are what the functions of
-/// `Encoder` ensure.
+/// A new encoder of a set that was read can encode or refuse every message, and stays so. The premises are what the functions of `Encoder`
+/// ensure.
 pub fn stays_able()
     // `Templates::read` gives the tree, and `Encoder::new` the rest.
     ensures new { (document : Members) (t : Templates) (e : EncoderData) → IsTree document (tree_of t) → tree e ≡ tree_of t
@@ -48,9 +48,9 @@ pub fn stays_able()
         → f.set ≡ e.set → f.limits ≡ e.limits → IsAble f }
 {}
 
-/// What `encode` wrote is read back by `feed`. An encoder and a decoder that are level are so again after the call of `encode` and the feed of
-/// what it wrote (`from` is the sink before the feed, `to` after it), unless the sink stopped in this feed, and the sink took the
-/// message's events. Of the two calls no more is used than what their contracts say.
+/// `feed` reads back what `encode` wrote. If an encoder and a decoder are level before a call of `encode` and the feed of its bytes, they
+/// are level afterwards (`from` is the sink before the feed, `to` after it), and the sink received the message's events, unless the sink
+/// stopped. The proof uses only the contracts of the two calls.
 pub fn reading_back<S: Sink>(from: &S, to: &S)
     ensures { (e f : EncoderData) (d g : DecoderData) (m : MessageData) (out longer w : List ℕ) (es : List EventData)
         (r : Result Unit Fault)
@@ -61,7 +61,7 @@ pub fn reading_back<S: Sink>(from: &S, to: &S)
         → (r ≡ Ok tt) × IsReadBack S.takes m written.bytes w es from.now f g to.now }
 {}
 
-/// An encoder and a decoder of one set and the same limits, the mode aside, are level when they are made, and when both are reset.
+/// An encoder and a decoder of one set and equal limits (`strict` may differ) are level when they are made, and when both are reset.
 pub fn new_are_level()
     ensures { (e : EncoderData) (d : DecoderData) → HasRead d [] [] → (decoded_tree d ≡ tree e)
         → (in_mode true d.limits ≡ in_mode true e.limits) → (e.dictionary ≡ fresh (tree e).entries)

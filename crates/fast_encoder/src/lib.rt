@@ -1,4 +1,4 @@
-//! The encoder of FAST streams: messages go in, bytes come out.
+//! The encoder of FAST 1.1: messages in, bytes out.
 #![tactic(auto)]
 
 pub mod encoder;

@@ -1,4 +1,4 @@
-//! Messages that are encoded, and read at once by a decoder.
+//! Round trips: messages that are encoded and at once decoded again.
 
 ghost use Rattle.std.specs.Prelude.{◌≡◌, ℕ, List, map};
 ghost use Rattle.fast_value.specs.meaning.Views.{message_data};
@@ -14,12 +14,12 @@ use fast_value::Message;
 use std::error::Error;
 use std::fmt;
 
-/// Why a message did not come back.
+/// The error of [`round_trip`]: why a message was not decoded again.
 #[derive(Clone, Copy, Debug, PartialEq, Eq)]
 pub enum RoundTripFault {
-    /// The encoder refuses the message: nothing has changed.
+    /// The encoder refused the message. Nothing has changed.
     Encode(EncodeFault),
-    /// The message is encoded, and the decoder stopped at its bytes.
+    /// The message was encoded, but the decoder stopped in its bytes.
     Decode(Fault),
 }
 
@@ -34,12 +34,12 @@ impl fmt::Display for RoundTripFault {
 
 impl Error for RoundTripFault {}
 
-/// Which message of a list did not come back, and why.
+/// The error of [`round_trip_all`]: the first message that was not decoded again, and why.
 #[derive(Clone, Copy, Debug, PartialEq, Eq)]
 pub struct RoundTripStop {
-    /// The index of the message: all before it came back.
+    /// The index of the message in the list. All messages before it were decoded.
     pub index: usize,
-    /// Why it did not.
+    /// The error of that message.
     pub fault: RoundTripFault,
 }
 
@@ -52,18 +52,20 @@ impl fmt::Display for RoundTripStop {
 
 impl Error for RoundTripStop {}
 
-/// Encodes a message, and feeds what was appended to `out` to a decoder that is level with the encoder: both are of one set and have the same
-/// limits, the mode aside; they were made or reset together, and have taken the same messages since. The sink takes exactly the events of
-/// the message, and the two are level again.
+/// Encodes `message`, appends its bytes to `out`, and feeds them to a decoder that is level with the encoder: both have one template set
+/// and equal limits (`strict` may differ), were made or reset together, and have processed the same messages since. The sink receives
+/// exactly the events of the message, and the two are level again.
 ///
-/// The bytes are the caller's, to send or to keep. An `out` that is cleared and used again asks for no memory once it is long enough.
+/// The bytes stay in `out`, for the caller to send or to keep. If `out` is cleared and reused, no memory is allocated for it once its
+/// capacity is enough.
 ///
 /// # Errors
 ///
-/// `Encode` where the encoder refuses the message, as [`Encoder::encode`] has it: nothing has changed, and the two are still level.
-/// `Decode` with `SinkStopped` where the sink stopped, at one of the message's events; with L4 where the bytes that the decoder has consumed would
-/// pass 2^64 - 1, and none of the message's is read. The encoder has gone on then and the decoder has not: both have to be reset.
-/// No other fault comes.
+/// - `Encode` if the encoder refuses the message, as [`Encoder::encode`] does: nothing has changed, and the two are still level.
+/// - `Decode` with `SinkStopped` if the sink stopped at one of the message's events, or with L4 if the decoder's count of consumed bytes
+/// would pass 2^64 - 1, in which case it reads none of the message. Then only the encoder is past the message: reset both.
+///
+/// There are no other errors.
 pub fn round_trip<S: Sink>(
     encoder: &mut Encoder<'_>,
     decoder: &mut Decoder<'_>,
@@ -88,12 +90,12 @@ pub fn round_trip<S: Sink>(
     }
 }
 
-/// Encodes messages, one after the other, each of which is read before the next one is encoded. The sink takes exactly their events, in
-/// order, and the two are level again.
+/// Encodes messages in order, and decodes each before the next one is encoded. The sink receives exactly their events, in order, and
+/// encoder and decoder are level again.
 ///
 /// # Errors
 ///
-/// Those of [`round_trip`], at the first message that does not come back, with its index. The messages before it have come back.
+/// Those of [`round_trip`], for the first message that fails, with its index. All messages before it were decoded.
 pub fn round_trip_all<S: Sink>(
     encoder: &mut Encoder<'_>,
     decoder: &mut Decoder<'_>,
