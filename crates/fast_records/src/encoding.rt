@@ -1,4 +1,4 @@
-//! Records to an encoder, which appends the bytes of their message.
+//! Encoding of records: the message that they describe, appended as bytes.
 
 ghost use Rattle.std.specs.Prelude.{◌≡◌, IfErr, OnOk, OnErr};
 ghost use Rattle.fast_encoder.specs.meaning.Encoders.{tree};
@@ -11,12 +11,12 @@ use std::alloc::Global;
 use std::error::Error;
 use std::fmt;
 
-/// Why records are not encoded.
+/// The error of [`put_records`]: why records were not encoded.
 #[derive(Clone, Copy, Debug, PartialEq, Eq)]
 pub enum PutRefusal {
-    /// They are no message.
+    /// The records are not those of one message.
     Records(PutFault),
-    /// Their message is refused.
+    /// The encoder refused the message.
     Message(EncodeFault),
 }
 
@@ -31,11 +31,12 @@ impl fmt::Display for PutRefusal {
 
 impl Error for PutRefusal {}
 
-/// Appends the bytes of the message of the encoder's set whose records these are, with their texts.
+/// Encodes one message from its records and string bytes (`texts`), under the encoder's template set, and appends its bytes to `out`. On an
+/// error, the encoder and `out` are unchanged.
 ///
 /// # Errors
 ///
-/// `Records` where they are no message; `Message` as [`Encoder::encode`] has it. The encoder and `out` are as they were.
+/// `Records` if the records are not those of one message; `Message` as [`Encoder::encode`] refuses it.
 pub fn put_records(
     alloc: Global,
     encoder: &mut Encoder<'_>,

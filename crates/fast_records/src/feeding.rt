@@ -1,4 +1,4 @@
-//! Bytes go in, records come out.
+//! Decoding to records: bytes in, records out.
 
 ghost use Rattle.std.specs.Prelude.{◌≡◌, ◌≢◌, ℕ, ◌+◌, ◌-◌, ◌*◌, ◌≤◌, [], ◌==◌, ◌&&◌, nat_lt, List, length, take, IsSome, Some, Err, Ok};
 ghost use Rattle.fast_stream.specs.declared.faults.Fault.{Fault};
@@ -12,33 +12,33 @@ use crate::sink::RecordSink;
 use crate::waiting::Waiting;
 use fast_decoder::{Decoder, Fault, FaultCode};
 
-/// How a call ended.
+/// How a call of [`feed_records`] ended.
 #[derive(Clone, Copy, Debug, PartialEq, Eq)]
 pub enum Outcome {
-    /// The whole piece was taken, and nothing waits.
+    /// The whole piece was consumed, and no event waits.
     Done,
-    /// Records wait, or bytes are left: the next call goes on with the rest of the piece.
+    /// Events wait, or bytes are left: call again with the rest of the piece.
     More,
-    /// The buffers are too small for the next record and its text: nothing was taken or given.
+    /// The buffers are too small for the next record and its string: nothing was consumed or written.
     NoRoom,
-    /// The decoder is at a fault, and all earlier records were given.
+    /// The decoder is at a fault. The records of all events before it were written.
     Fault(FaultCode),
 }
 
-/// What came of a call.
+/// The result of [`feed_records`].
 #[derive(Clone, Copy, Debug, PartialEq, Eq)]
 pub struct Fed {
-    /// How many bytes of the piece were taken.
+    /// The number of bytes of the piece that were consumed.
     pub taken: usize,
-    /// How many records were written.
+    /// The number of records written.
     pub records: usize,
-    /// How many bytes of texts were written.
+    /// The number of bytes written to the buffer of strings.
     pub texts: usize,
-    /// How it ended.
+    /// How the call ended.
     pub outcome: Outcome,
 }
 
-/// How a call ended that is not done.
+/// Returns how a call ended that is not `Done`: `NoRoom` if nothing was consumed or written, else `More`.
 fn unfinished(nothing: bool) -> Outcome
     ensures { result ≡ unfinished nothing }
 {
@@ -49,14 +49,15 @@ fn unfinished(nothing: bool) -> Outcome
     }
 }
 
-/// Whether no byte was taken and no record written.
+/// Returns whether no byte was consumed and no record written.
 fn is_nothing(taken: usize, filled: usize) -> bool
     ensures { result ≡ (taken == 0 && filled == 0) }
 {
     taken == 0 && filled == 0
 }
 
-/// How a call ended.
+/// Returns how a call ended: whether events wait, what the decoder returned, whether the whole piece was consumed, and whether nothing was
+/// consumed or written decide it.
 fn outcome_of(waits: bool, answer: Result<(), Fault>, all: bool, nothing: bool) -> Outcome
     ensures { result ≡ outcome_of waits answer all nothing }
 {
@@ -73,12 +74,12 @@ fn outcome_of(waits: bool, answer: Result<(), Fault>, all: bool, nothing: bool) 
     }
 }
 
-/// Feeds a piece to a decoder, as far as its events have room, and writes their records and texts from the beginning of two buffers.
-/// The next call goes on after the bytes that were taken.
+/// Feeds a piece to a decoder, as far as its events have room, and writes their records and strings from the start of two buffers. The next
+/// call goes on after the bytes that were consumed (`taken`).
 ///
-/// At most half as many bytes are fed as there are records free, rounded up, and none while events wait, so that most often nothing has
-/// to wait. What has no room waits in memory, at most the cap of a message for each of these bytes; where that is refused, the decoder
-/// is at `SinkStopped`.
+/// A call feeds at most half as many bytes as there are free records, rounded up, and none while events wait. So events seldom have to
+/// wait; those that do wait in memory, at most the cap of a message for each of these bytes. If that allocation fails, the decoder is at
+/// `SinkStopped`.
 pub fn feed_records(
     decoder: &mut Decoder<'_>,
     waiting: &mut Waiting,
@@ -90,23 +91,23 @@ pub fn feed_records(
         → Delivers (tree decoder.old) decoder.old.limits w es piece.now (pending waiting.old) decoder.new
         (take result.records records.new)
         (take result.texts texts.new) (pending waiting.new) }
-    // The same of a decoder that had stopped before, whatever its fault is.
+    // The same clause for a decoder that had already stopped, at any fault.
     ensures waited { (f : Fault) → decoder.old.fault ≡ Some f
         → HandsOver (pending waiting.old) f records.new texts.new result (pending waiting.new) }
     ensures room { (w : List ℕ) (es : List EventData) → HasRead decoder.old w es
         → (result.records ≤ length records.new) × (result.texts ≤ length texts.new) }
-    // Where events wait, the first had no room after what was given.
+    // If events wait, the first had no room after the records that were written.
     ensures full { (w : List ℕ) (es : List EventData) → HasRead decoder.old w es → pending waiting.new ≢ []
         → HasNoRoom (length records.new - result.records) (length texts.new - result.texts) (pending waiting.new) }
     ensures outcome { (w : List ℕ) (es : List EventData) → HasRead decoder.old w es
         → result.outcome ≡ outcome_of (nat_lt 0 (length (pending waiting.new))) (answer decoder.new.fault)
         (result.taken == length piece.now) (result.taken == 0 && result.records == 0) }
-    // Nothing is taken and nothing given only where there is no record, or the first text that waits is longer than `texts`.
+    // A call makes no progress only if there is no room for a record, or the string of the first event that waits is longer than `texts`.
     ensures progress { (w : List ℕ) (es : List EventData) → HasRead decoder.old w es → result.outcome ≡ Outcome.NoRoom
         → HasNoRoom (length records.new) (length texts.new) (pending waiting.new) }
     ensures consumed { decoder.new.consumed ≡ decoder.old.consumed + result.taken }
     ensures taken { result.taken ≤ length piece.now }
-    // What waits is of these bytes, by `late` of `delivers`.
+    // The events that wait come from these bytes, by `late` of `delivers`.
     ensures few { (w : List ℕ) (es : List EventData) → HasRead decoder.old w es
         → 2 * result.taken ≤ length records.new + 1 }
     ensures same_set { (tree decoder.new ≡ tree decoder.old) × (decoder.new.limits ≡ decoder.old.limits) }

@@ -1,4 +1,4 @@
-//! Records back to events, whose texts are lent.
+//! Conversion of records back to events, whose strings are borrowed.
 
 ghost use Rattle.std.specs.Prelude.{◌≡◌, ◌≤◌, ◌<◌, List, [], length, map, take, drop, IfOk, IfErr, IfSome, IfNone};
 ghost use Rattle.fast_value.specs.meaning.Kinds.{text_of};
@@ -19,7 +19,7 @@ use fast_stream::Event;
 use fast_value::Scalar;
 use std::alloc::Global;
 
-/// The number of a record of a number.
+/// Returns the scalar of a record that holds a number; `None` if it holds none.
 fn number_of(record: Record) -> Option<Scalar<'static>>
     ensures text { IfSome result (λ v. text_of (scalar_data v) ≡ []) }
     ensures some { IfSome result (λ v. FieldValue «record».node (scalar_data v) ≡ event_back «record» []) }
@@ -36,7 +36,7 @@ fn number_of(record: Record) -> Option<Scalar<'static>>
     }
 }
 
-/// An event without a text of the kind, node and value of a record.
+/// Returns the event of a record without a string; `None` if the record is not one.
 fn mark_of(record: Record) -> Option<Event<'static>>
     ensures text { IfSome result (λ e. event_text (event_data e) ≡ []) }
     ensures some { IfSome result (λ e. event_data e ≡ event_back «record» []) }
@@ -63,7 +63,7 @@ fn mark_of(record: Record) -> Option<Event<'static>>
     }
 }
 
-/// A field of a record's kind and node with this text, if it is one with a text.
+/// Returns the field event of a record's type and node with these string bytes; `None` if its type has no string.
 fn text_field(record: Record, text: &[u8]) -> Option<Event<'_>>
     ensures text { IfSome result (λ e. event_text (event_data e) ≡ text.now) }
     ensures some { IfSome result (λ e. event_data e ≡ event_back «record» text.now) }
@@ -79,7 +79,7 @@ fn text_field(record: Record, text: &[u8]) -> Option<Event<'_>>
     Some(Event::Field { node, value })
 }
 
-/// An event of the kind, node and value of a record, with this text.
+/// Returns the event of a record with these string bytes; `None` if the record is not one of an event.
 pub(crate) fn event_with(record: Record, text: &[u8]) -> Option<Event<'_>>
     ensures text { IfSome result (λ e. event_text (event_data e) ≡ text.now) }
     ensures some { IfSome result (λ e. event_data e ≡ event_back «record» text.now) }
@@ -94,7 +94,7 @@ pub(crate) fn event_with(record: Record, text: &[u8]) -> Option<Event<'_>>
     mark_of(record)
 }
 
-/// The text of a record, empty where it has none, if it stands in these texts.
+/// Returns the string bytes of a record, empty if it has none; `None` if they do not lie within `texts`.
 fn text_in(record: Record, texts: &[u8]) -> Option<&[u8]>
     ensures some { IfSome result (λ t. t.now ≡ take «record».length (drop «record».value texts.now)) }
     ensures none { IfNone result (length (take «record».length (drop «record».value texts.now)) < «record».length) }
@@ -107,7 +107,7 @@ fn text_in(record: Record, texts: &[u8]) -> Option<&[u8]>
         .get(..record.length as usize)
 }
 
-/// The event that a record stands for, if it stands for one. What its kind has no use for must be 0.
+/// Returns the event of a record; `None` if the record is not one of an event. Fields that its `kind` does not use must be 0.
 fn lent(record: Record, texts: &[u8]) -> Option<Event<'_>>
     ensures some { IfSome result (λ e. Tells texts.now «record» (event_data e)) }
     ensures none { IfNone result ((e : EventData) → ¬ (Tells texts.now «record» e)) }
@@ -120,7 +120,7 @@ fn lent(record: Record, texts: &[u8]) -> Option<Event<'_>>
     }
 }
 
-/// The events that records stand for. Their texts stand anywhere in these.
+/// Returns the events of records, whose strings may lie anywhere in `texts`.
 pub fn events_of<'a>(
     alloc: Global,
     records: &[Record],

@@ -1,4 +1,4 @@
-//! Events as records of fixed size, in buffers of the caller's: what other languages are handed.
+//! Events as records of fixed size, in the caller's buffers. Other languages receive events in this form.
 #![tactic(auto)]
 
 pub mod encoding;

@@ -1,4 +1,4 @@
-//! Messages of their events, as records have them.
+//! Messages from their events or records.
 
 ghost use Rattle.std.specs.Prelude.{◌≡◌, ◌≢◌, ℕ, ◌<◌, ◌≤◌, ◌+◌, ◌++◌, ◌∷◌, [], List, length, map, drop};
 ghost use Rattle.std.specs.Prelude.{IsTrue, IsFalse, IfOk, IfErr, IfSome, IfNone, OnOk, option_map};
@@ -27,15 +27,15 @@ use std::alloc::{AllocError, Global};
 use std::error::Error;
 use std::fmt;
 
-/// Why records are no message.
+/// The error of [`message_of_records`]: why records are not those of one message.
 #[derive(Clone, Copy, Debug, PartialEq, Eq)]
 pub enum PutFault {
-    /// The record of this number, from 0, stands for no event, or for one that is not due there; or the records end before it.
+    /// The record of this number, from 0, is not an event, or one that may not come next; or the records end before it.
     Misplaced {
-        /// Its number.
+        /// The number of the record, from 0.
         record: usize,
     },
-    /// Memory was refused.
+    /// An allocation failed.
     Memory,
 }
 
@@ -64,7 +64,7 @@ impl From<AllocError> for PutFault {
     }
 }
 
-/// What stands between the parts of a message.
+/// An event between the parts of a message.
 #[derive(Clone, Copy, Debug)]
 enum Mark {
     ElementStart,
@@ -77,7 +77,7 @@ enum Mark {
 /// The slots of a message, a group or an element.
 type Slots = Vec<Option<Item>>;
 
-/// Puts an item behind the others.
+/// Appends an item.
 #[inline(always)]
 pub(crate) fn push<T: Drop>(items: &mut Vec<T>, item: T) -> Result<(), AllocError>
     ensures { OnOk result (items.new.items ≡ items.old.items ++ item ∷ []) }
@@ -88,7 +88,7 @@ pub(crate) fn push<T: Drop>(items: &mut Vec<T>, item: T) -> Result<(), AllocErro
     }
 }
 
-/// Whether an event is this mark.
+/// Returns whether an event is this mark.
 fn is_mark(mark: Mark, event: Event<'_>) -> bool
     ensures yes { IsTrue result → event_data event.entry ≡ mark_event mark }
     ensures no { IsFalse result → event_data event.entry ≢ mark_event mark }
@@ -102,7 +102,7 @@ fn is_mark(mark: Mark, event: Event<'_>) -> bool
     }
 }
 
-/// The event of this number, from 0.
+/// Returns the event of this number, from 0; `None` past the end.
 fn event_at<'e>(given: &[Event<'e>], at: usize) -> Option<Event<'e>>
     ensures inside { IfSome result (λ e. at < length given.now) }
     ensures first { IfSome result
@@ -112,7 +112,7 @@ fn event_at<'e>(given: &[Event<'e>], at: usize) -> Option<Event<'e>>
     given.get(at).copied()
 }
 
-/// The number of the event behind a mark that has this number.
+/// Returns the number of the event after a mark that has this number.
 fn behind(mark: Mark, given: &[Event<'_>], at: usize) -> Result<usize, PutFault>
     ensures found { IfOk result
         (λ next. map event_data (drop at given.now) ≡ mark_event mark ∷ map event_data (drop next given.now)) }
@@ -127,7 +127,7 @@ fn behind(mark: Mark, given: &[Event<'_>], at: usize) -> Result<usize, PutFault>
     }
 }
 
-/// The value of a field of a node, if the event is one.
+/// Returns the value of a field of a node, if the event is one.
 fn value_of<'e>(node: u32, event: Event<'e>) -> Option<Scalar<'e>>
     ensures some { IfSome result (λ v. event_data event.entry ≡ FieldValue node (scalar_data v)) }
     ensures none { IfNone result ((v : ScalarData) → event_data event.entry ≢ FieldValue node v) }
@@ -138,7 +138,7 @@ fn value_of<'e>(node: u32, event: Event<'e>) -> Option<Scalar<'e>>
     }
 }
 
-/// Whether an event begins the group of a node.
+/// Returns whether an event begins the group of a node.
 fn is_group(node: u32, event: Event<'_>) -> bool
     ensures yes { IsTrue result → event_data event.entry ≡ GroupStart node }
     ensures no { IsFalse result → event_data event.entry ≢ GroupStart node }
@@ -149,7 +149,7 @@ fn is_group(node: u32, event: Event<'_>) -> bool
     }
 }
 
-/// How many elements follow, if the event begins the sequence of a node.
+/// Returns the number of elements that follow, if the event begins the sequence of a node.
 fn count_of(node: u32, event: Event<'_>) -> Option<u32>
     ensures some { IfSome result (λ n. event_data event.entry ≡ SequenceStart node n) }
     ensures none { IfNone result ((n : ℕ) → event_data event.entry ≢ SequenceStart node n) }
@@ -160,7 +160,8 @@ fn count_of(node: u32, event: Event<'_>) -> Option<u32>
     }
 }
 
-/// The slots of a body, whose events begin at this number, up to the mark that ends them, and the number of the event behind it.
+/// Reads the slots of a body from the events from this number on, up to the mark that ends it, and returns them with the number of the
+/// event after it.
 #[cycle(putting)]
 fn put_body(
     alloc: Global,
@@ -190,7 +191,7 @@ fn put_body(
     Ok((slots, next))
 }
 
-/// The item of a node, if the events from this number on begin with it, and the number of the event behind it.
+/// Reads the item of a node, if the events from this number on begin with it, and returns it with the number of the event after it.
 #[cycle(putting)]
 fn put_slot(
     alloc: Global,
@@ -238,7 +239,8 @@ fn put_slot(
     }
 }
 
-/// So many elements of a sequence, whose events begin at this number, up to its end, and the number of the event behind it.
+/// Reads that many elements of a sequence from the events from this number on, up to its end, and returns them with the number of the event
+/// after it.
 #[cycle(putting)]
 fn put_rows(
     alloc: Global,
@@ -269,7 +271,7 @@ fn put_rows(
     Ok((rows, next))
 }
 
-/// The message that begins with these events, and the number of the event behind it.
+/// Reads the message at the start of these events, and returns it with the number of the event after it.
 fn put_message(
     alloc: Global,
     templates: &Templates,
@@ -294,11 +296,11 @@ fn put_message(
     Ok((Message { template, items }, next))
 }
 
-/// The message that has these events. Whether it suits its template is for the encoder to say.
+/// Returns the message that has these events. It does not check that the message suits its template; the encoder does.
 ///
 /// # Errors
 ///
-/// `Misplaced` at the first event that is not due; `Memory`.
+/// `Misplaced` at the first event that may not come next; `Memory` if an allocation failed.
 pub fn message_of(
     alloc: Global,
     templates: &Templates,
@@ -316,11 +318,11 @@ pub fn message_of(
     Ok(message)
 }
 
-/// The message whose records these are, with their texts.
+/// Returns the message of these records and their string bytes.
 ///
 /// # Errors
 ///
-/// `Misplaced` at a record that stands for no event, or else at the first that is not due; `Memory`.
+/// `Misplaced` at the first record that is not an event, else at the first that may not come next; `Memory` if an allocation failed.
 pub fn message_of_records(
     alloc: Global,
     templates: &Templates,

@@ -1,4 +1,4 @@
-//! Records: what stands of an event in a caller's buffer.
+//! Records: events in a form of fixed size.
 
 ghost use Rattle.std.specs.Prelude.{◌≡◌};
 ghost use Rattle.fast_value.specs.meaning.Values.{scalar_data};
@@ -9,55 +9,55 @@ ghost use Rattle.fast_records.specs.meaning.Records.{mark, text_record, field_re
 use fast_stream::Event;
 use fast_value::Scalar;
 
-/// An event of fixed size. A text stands in a buffer beside the records; its record says where it begins, and how long it is.
+/// An event in 24 bytes. Its string, if it has one, lies in a separate buffer; the record holds its offset and its length.
 #[repr(C)]
 #[derive(Clone, Copy, Debug, PartialEq, Eq)]
 pub struct Record {
-    /// The kind, one of the constants of this module.
+    /// The type of the event, one of the constants of this module.
     pub kind: u32,
-    /// The number of the template or of the node; 0 where there is none.
+    /// The number of the template (`MESSAGE_START`), or of the field, group or sequence; 0 for all other events.
     pub node: u32,
-    /// An integer; a mantissa or a signed integer, in two's complement; a count of elements; or where a text begins.
+    /// An unsigned integer; a signed integer or a mantissa, in two's complement; the number of elements; or the offset of a string.
     pub value: u64,
-    /// How many bytes a text has, else 0.
+    /// The length of a string in bytes, else 0.
     pub length: u32,
     /// The exponent of a decimal, else 0.
     pub exponent: i32,
 }
 
-/// A message begins; `node` is the number of its template.
+/// A message starts; `node` is the number of its template.
 pub const MESSAGE_START: u32 = 1;
-/// A field has an unsigned integer.
+/// A field has the unsigned integer `value`.
 pub const UNSIGNED: u32 = 2;
-/// A field has a signed integer.
+/// A field has the signed integer `value`.
 pub const SIGNED: u32 = 3;
-/// A field has a decimal: `value` is its mantissa.
+/// A field has a decimal: `value` times ten to `exponent`.
 pub const DECIMAL: u32 = 4;
-/// A field has characters below U+0080.
+/// A field has an ASCII string.
 pub const ASCII: u32 = 5;
-/// A field has a string in UTF-8.
+/// A field has a Unicode string, in UTF-8.
 pub const UNICODE: u32 = 6;
 /// A field has a byte vector.
 pub const BYTES: u32 = 7;
-/// A group begins.
+/// The group `node` starts.
 pub const GROUP_START: u32 = 8;
-/// The innermost group is whole.
+/// The innermost group ends.
 pub const GROUP_END: u32 = 9;
-/// A sequence begins; `value` is how many elements follow.
+/// The sequence `node` starts; `value` is the number of its elements.
 pub const SEQUENCE_START: u32 = 10;
-/// An element of the innermost sequence begins.
+/// An element of the innermost sequence starts.
 pub const ELEMENT_START: u32 = 11;
-/// An element of the innermost sequence is whole.
+/// An element of the innermost sequence ends.
 pub const ELEMENT_END: u32 = 12;
-/// The innermost sequence is whole.
+/// The innermost sequence ends.
 pub const SEQUENCE_END: u32 = 13;
-/// The message is whole.
+/// The message ends.
 pub const MESSAGE_END: u32 = 14;
 
-/// The greatest length that a record can hold. The limits of a decoder keep texts below 2^21 bytes.
+/// The greatest string length that a record can hold. The limits of a decoder keep strings below 2^21 bytes.
 const MAX_LENGTH: usize = 0xffff_ffff;
 
-/// The record of an event that has no text and no exponent.
+/// Returns the record of an event that has neither string nor exponent.
 #[inline(always)]
 pub(crate) fn mark(kind: u32, node: u32, value: u64) -> Record
     ensures { result ≡ mark kind node value }
@@ -65,7 +65,7 @@ pub(crate) fn mark(kind: u32, node: u32, value: u64) -> Record
     content(kind, node, value, 0)
 }
 
-/// The record of an event that has no text.
+/// Returns the record of an event that has no string.
 #[inline(always)]
 pub(crate) fn content(kind: u32, node: u32, value: u64, exponent: i32) -> Record
     ensures { result ≡ content kind node value exponent }
@@ -79,7 +79,7 @@ pub(crate) fn content(kind: u32, node: u32, value: u64, exponent: i32) -> Record
     }
 }
 
-/// The record of a text that begins at a place.
+/// Returns the record of a string at an offset (`place`).
 #[inline(always)]
 pub(crate) fn text_record(kind: u32, node: u32, place: u64, text: &[u8]) -> Record
     ensures { result ≡ text_record kind node place text.now }
@@ -94,7 +94,7 @@ pub(crate) fn text_record(kind: u32, node: u32, place: u64, text: &[u8]) -> Reco
     }
 }
 
-/// The record of a field, whose text begins at a place if it is one.
+/// Returns the record of a field; if its value is a string, the string is at the offset `place`.
 #[inline(always)]
 fn field_record(node: u32, place: u64, value: Scalar<'_>) -> Record
     ensures { result ≡ field_record place node (scalar_data value.entry) }
@@ -111,7 +111,7 @@ fn field_record(node: u32, place: u64, value: Scalar<'_>) -> Record
     }
 }
 
-/// The record of an event, whose text begins at a place if it has one.
+/// Returns the record of an event; if it has a string, the string is at the offset `place`.
 #[inline(always)]
 pub(crate) fn record_of(event: Event<'_>, place: u64) -> Record
     ensures { result ≡ record_of place (event_data event.entry) }
@@ -129,7 +129,7 @@ pub(crate) fn record_of(event: Event<'_>, place: u64) -> Record
     }
 }
 
-/// The text of an event, empty where it has none.
+/// Returns the string bytes of an event, empty if it has none.
 #[inline(always)]
 pub(crate) fn text_of(event: Event<'_>) -> &[u8]
     ensures { result.now ≡ event_text (event_data event.entry) }

@@ -1,19 +1,19 @@
-//! The buffers of a caller, as they are filled.
+//! The caller's buffers while they are filled.
 
 ghost use Rattle.std.specs.Prelude.{◌≤◌, length};
 
 use crate::records::Record;
 
-/// Buffers of a caller's, and how much of each is filled.
+/// The caller's buffers, and how much of each is filled.
 #[derive(Drop)]
 pub(crate) struct Room<'a> {
     records: &'a mut [Record],
     texts: &'a mut [u8],
-    /// How many records are filled.
+    /// The number of records that are filled.
     filled: usize,
-    /// How many may be: all, until one had no room. Later ones may not overtake it.
+    /// The number of records that may be filled: all, until an event had no room. No later event may overtake it.
     limit: usize,
-    /// How many bytes of texts are filled.
+    /// The number of bytes of `texts` that are filled.
     used: usize,
     ghost filled_within: { filled ≤ limit },
     ghost limit_within: { limit ≤ length records.now },
@@ -25,7 +25,7 @@ impl<'a> Room<'a> {
     ghost use Rattle.std.specs.Bool.{OnTrue, OnFalse};
     ghost use Rattle.fast_records.specs.device.Room.{records_in, texts_in, IsOver, SameBuffers, Adds, IsAsFilled, IsUnchanged, LacksRoom};
 
-    /// Buffers of which nothing is filled.
+    /// Returns buffers of which nothing is filled.
     pub(crate) fn new(records: &'a mut [Record], texts: &'a mut [u8]) -> Room<'a>
         ensures over { IsOver records.entry texts.entry result }
         ensures records { records_in result ≡ [] }
@@ -41,21 +41,21 @@ impl<'a> Room<'a> {
         }
     }
 
-    /// How many records are filled.
+    /// Returns the number of records that are filled.
     pub(crate) fn filled(&self) -> usize
         ensures { result ≡ self.now.filled }
     {
         self.filled
     }
 
-    /// How many records may be filled.
+    /// Returns the number of records that may be filled.
     pub(crate) fn limit(&self) -> usize
         ensures { result ≡ self.now.limit }
     {
         self.limit
     }
 
-    /// How many bytes of texts are filled: where the next text begins.
+    /// Returns the number of bytes of `texts` that are filled, which is the offset of the next string.
     #[inline(always)]
     pub(crate) fn used(&self) -> usize
         ensures used { result ≡ self.now.used }
@@ -64,7 +64,7 @@ impl<'a> Room<'a> {
         self.used
     }
 
-    /// Adds a record and its text, if there is room for both.
+    /// Adds a record and its string. Returns false, with nothing changed, if there is no room for both.
     #[inline(always)]
     pub(crate) fn put(&mut self, next: Record, text: &[u8]) -> bool
         ensures same { SameBuffers self.old self.new }
@@ -83,7 +83,7 @@ impl<'a> Room<'a> {
         true
     }
 
-    /// Adds a text for which there is room.
+    /// Adds a string for which there is room.
     fn put_text(&mut self, text: &[u8])
         requires { self.old.used + length text.now ≤ length self.old.texts.now }
         ensures same { SameBuffers self.old self.new }

@@ -1,4 +1,4 @@
-//! A sink that writes records into a caller's buffers.
+//! A sink that writes records into the caller's buffers.
 
 ghost use Rattle.std.specs.Prelude.{◌≤◌, length};
 
@@ -13,18 +13,18 @@ use crate::waiting::{Waiting, hand_over};
 use fast_decoder::{Event, Sink, Stop};
 use fast_value::Scalar;
 
-/// A sink that writes records into a caller's buffers, and keeps for the next call what has no room. It stops only on want of memory
-/// for that.
+/// A sink that writes records into the caller's buffers, and keeps those that have no room for the next call. It stops only if an
+/// allocation for these fails.
 #[derive(Drop)]
 pub(crate) struct RecordSink<'a> {
     records: &'a mut [Record],
     texts: &'a mut [u8],
     waiting: &'a mut Waiting,
-    /// How many records are filled.
+    /// The number of records that are filled.
     filled: usize,
-    /// How many may be: all, until one had no room. Later ones may not overtake it.
+    /// The number of records that may be filled: all, until an event had no room. No later event may overtake it.
     limit: usize,
-    /// How many bytes of texts are filled.
+    /// The number of bytes of `texts` that are filled.
     used: usize,
     ghost filled_within: { filled ≤ limit },
     ghost limit_within: { limit ≤ length records.now },
@@ -44,7 +44,7 @@ impl<'a> RecordSink<'a> {
     ghost use Rattle.fast_records.specs.device.Room.{Adds, IsUnchanged, LacksRoom};
     ghost use Rattle.fast_records.specs.meaning.Sink.{room_of, Shows, IsSameSink, TakesRecord, RefusesRecord};
 
-    /// A sink over empty buffers, into which what waits was handed over as far as it has room.
+    /// Makes a sink over empty buffers, and first moves the events that wait into them, as far as they have room.
     pub(crate) fn new(
         records: &'a mut [Record],
         texts: &'a mut [u8],
@@ -70,7 +70,7 @@ impl<'a> RecordSink<'a> {
         }
     }
 
-    /// Adds a record and its text, if there is room for both.
+    /// Adds a record and its string. Returns false, with nothing changed, if there is no room for both.
     #[inline(always)]
     fn put(&mut self, next: Record, text: &[u8]) -> bool
         ensures same { IsSameSink self.old self.new }
@@ -90,7 +90,7 @@ impl<'a> RecordSink<'a> {
         true
     }
 
-    /// Adds a text for which there is room.
+    /// Adds a string for which there is room.
     fn put_text(&mut self, text: &[u8])
         requires { self.old.used + length text.now ≤ length self.old.texts.now }
         ensures same { IsSameSink self.old self.new }
@@ -105,21 +105,21 @@ impl<'a> RecordSink<'a> {
         self.used = end;
     }
 
-    /// How many records may still be written.
+    /// Returns the number of records that may still be written.
     pub(crate) fn left(&self) -> usize
         ensures { result ≡ self.now.limit - self.now.filled }
     {
         self.limit - self.filled
     }
 
-    /// How many records were written.
+    /// Returns the number of records that were written.
     pub(crate) fn filled(&self) -> usize
         ensures { result ≡ self.now.filled }
     {
         self.filled
     }
 
-    /// How many bytes of texts were written: where the next text begins.
+    /// Returns the number of bytes of `texts` that were written, which is the offset of the next string.
     #[inline(always)]
     pub(crate) fn used(&self) -> usize
         ensures used { result ≡ self.now.used }
@@ -128,15 +128,15 @@ impl<'a> RecordSink<'a> {
         self.used
     }
 
-    /// Whether an event waits.
+    /// Returns whether an event waits.
     pub(crate) fn waits(&self) -> bool
         ensures { result ≡ nat_lt 0 (length (pending self.now.waiting.now)) }
     {
         !self.waiting.is_empty()
     }
 
-    /// Takes an event without a text, whose record has this content. Of an event that has room nothing but these four numbers is at hand, so
-    /// that the arms of the decoder's loop, into which this is inlined, stay small.
+    /// Adds the record of an event without a string, from its four numbers. Nothing else of the event is needed if it has room, so that the
+    /// arms of the decoder's loop, into which this is inlined, stay small.
     #[inline(always)]
     fn keep(&mut self, kind: u32, node: u32, value: u64, exponent: i32) -> Result<(), Stop>
         ensures ok { (e : EventData) → IsMark (content kind node value exponent) e → OnOk result (TakesRecord self.old e self.new) }
@@ -150,7 +150,7 @@ impl<'a> RecordSink<'a> {
         self.keep_back(kind, node, value, exponent)
     }
 
-    /// Keeps an event without a text that has no room.
+    /// Keeps an event without a string that has no room.
     #[inline(never)]
     fn keep_back(&mut self, kind: u32, node: u32, value: u64, exponent: i32) -> Result<(), Stop>
         requires lacks { LacksRoom [] (room_of self.old) }
@@ -164,7 +164,7 @@ impl<'a> RecordSink<'a> {
         }
     }
 
-    /// Takes a field with a text. Out of line, since one without needs far fewer registers.
+    /// Adds a field with a string. Not inlined, since the code for other events needs far fewer registers.
     #[inline(never)]
     fn keep_text(
         &mut self,

@@ -1,4 +1,4 @@
-//! All that a call from another language can come to, as a number and in words.
+//! The statuses of calls from other languages, as numbers and as sentences.
 
 ghost use Rattle.std.specs.Prelude.{◌≡◌, IfSome};
 ghost use Rattle.fast_records.specs.meaning.Status.{status_number, static_number, ended};
@@ -12,28 +12,28 @@ use fast_template::StaticCode;
 use fast_value::Code;
 use std::fmt;
 
-/// What a call came to.
+/// The result of a call from another language.
 #[derive(Clone, Copy, Debug, PartialEq, Eq)]
 pub enum Status {
-    /// All was done.
+    /// The call did all that it was asked for.
     Done,
-    /// Records wait, or bytes are left: the next call goes on.
+    /// Records wait, or bytes are left: call again.
     More,
-    /// A buffer has too little room for what is next.
+    /// A buffer is too small for the next record or its string.
     NoRoom,
-    /// The template text is not UTF-8.
+    /// The template file is not UTF-8.
     NotText,
-    /// What should do it is closed, or was never made: answered by those who hold it.
+    /// The set, decoder or encoder is closed, or was never made. Returned by the callers that hold the pointer, not by the library.
     Closed,
     /// The records are not those of one whole message of the set.
     Misplaced,
-    /// The bytes of a packet end inside a message: answered by those who know where packets end.
+    /// The bytes of a packet end inside a message. Returned by the caller that knows where packets end.
     Truncated,
-    /// The stream is at fault.
+    /// The stream has a fault.
     Stream(FaultCode),
-    /// No decoder or encoder is made.
+    /// No decoder or encoder was made.
     Make(MakeError),
-    /// The template text is refused.
+    /// The template file is refused.
     Set(StaticCode),
     /// The message is refused.
     Message(EncodeFault),
@@ -70,7 +70,7 @@ impl From<PutRefusal> for Status {
     }
 }
 
-/// The number of what is wrong with a template text, from 1.
+/// Returns the number, from 1, of a fault of a template file.
 fn static_number(code: StaticCode) -> u32
     ensures { result ≡ static_number code }
 {
@@ -91,7 +91,7 @@ fn static_number(code: StaticCode) -> u32
     }
 }
 
-/// Each status, for the way back from its number.
+/// All statuses, for the lookup by number.
 const ALL: [Status; 47] = [
     Status::Done,
     Status::More,
@@ -143,8 +143,8 @@ const ALL: [Status; 47] = [
 ];
 
 impl Status {
-    /// The number: below 100 how a call ended, from 100 the number of a stream's fault, from 200 that of why no decoder or encoder is
-    /// made, from 300 that of a template text's fault, from 400 that of a message's.
+    /// Returns the number of the status: below 100 for the end of a call, from 100 for a fault of a stream, from 200 if no decoder or
+    /// encoder was made, from 300 for a fault of a template file, from 400 for a fault of a message.
     pub fn number(self) -> u32
         ensures { result ≡ status_number self }
     {
@@ -163,7 +163,7 @@ impl Status {
         }
     }
 
-    /// The status of a number, if it is one.
+    /// Returns the status that has this number, if there is one.
     pub fn of_number(number: u32) -> Option<Status>
         ensures { IfSome result (λ status. status_number status ≡ number) }
     {

@@ -14,7 +14,7 @@ use fast_decoder::{Event, Recorded, Stop};
 use std::alloc::Global;
 use std::collections::VecDeque;
 
-/// Events for whose records a call had no room: the next call hands them over first.
+/// Events for whose records a call had no room. The next call writes them first.
 #[derive(Drop)]
 pub struct Waiting {
     alloc: Global,
@@ -22,7 +22,7 @@ pub struct Waiting {
 }
 
 impl Waiting {
-    /// Nothing waits.
+    /// Makes an empty list of events.
     pub fn new(alloc: Global) -> Waiting
         ensures { pending result ≡ [] }
     {
@@ -32,21 +32,21 @@ impl Waiting {
         }
     }
 
-    /// Whether nothing waits.
+    /// Returns whether no event waits.
     pub fn is_empty(&self) -> bool
         ensures { result ≡ (length (pending self.now) == 0) }
     {
         self.events.is_empty()
     }
 
-    /// Forgets what waits.
+    /// Drops all events that wait.
     pub fn clear(&mut self)
         ensures { pending self.new ≡ [] }
     {
         self.events.clear();
     }
 
-    /// Puts an event behind those that wait.
+    /// Appends an event.
     pub(crate) fn add(&mut self, event: Event<'_>) -> Result<(), Stop>
         ensures ok { OnOk result (pending self.new ≡ pending self.old ++ event_data event.entry ∷ []) }
         ensures err { OnErr result (pending self.new ≡ pending self.old) }
@@ -61,7 +61,7 @@ impl Waiting {
     }
 }
 
-/// An event that was kept, lent.
+/// Returns an event that was kept, with its string borrowed.
 fn lent(kept: &Recorded) -> Event<'_>
     ensures { event_data result ≡ recorded_data kept.now }
 {
@@ -86,7 +86,7 @@ fn lent(kept: &Recorded) -> Event<'_>
     }
 }
 
-/// Hands over the first event that waits, if one does and has room.
+/// Writes the first event that waits, if there is one and it has room. Returns whether it did.
 fn hand_next(room: &mut Room<'_>, waiting: &mut Waiting) -> bool
     ensures same { SameBuffers room.old room.new }
     ensures moved { Moves room.old waiting.old room.new waiting.new }
@@ -105,7 +105,7 @@ fn hand_next(room: &mut Room<'_>, waiting: &mut Waiting) -> bool
     true
 }
 
-/// Hands over what waits, as far as it has room. If not all has, no later event is to have any.
+/// Writes the events that wait, as far as they have room. If one has none, no later event may be written.
 pub(crate) fn hand_over(room: &mut Room<'_>, waiting: &mut Waiting)
     requires unclosed { IsOpen room.old }
     ensures same { SameBuffers room.old room.new }
