@@ -1,4 +1,4 @@
-//! Decoders: bytes to records.
+//! Decoders for callers from C: bytes in, records out.
 
 ghost use Rattle.std.specs.Prelude.{◌≡◌, not, ◌==◌, IfOk, IfErr};
 ghost use Rattle.fast_c.specs.declared.decoding.Decoding.{Decoding};
@@ -21,14 +21,14 @@ pub struct Decoding {
     is_cut: bool,
 }
 
-/// What C calls the type behind its pointer to a decoder.
+/// The type behind a C caller's pointer to a decoder.
 #[repr(C)]
 #[derive(Drop)]
 pub struct FastDecoder {
     unseen: u8,
 }
 
-/// The pointer to a decoder, by value. The handle to the heap takes no bytes.
+/// A pointer to a decoder, passed by value. The handle of the allocator takes no bytes.
 #[repr(C)]
 pub struct DecoderHandle {
     at: *mut FastDecoder,
@@ -41,14 +41,14 @@ impl Model for DecoderHandle {
     ghost use Rattle.std.specs.contracts.impls.GlobalAllocator.TheImpl.{ghosts};
     ghost use Rattle.fast_c.specs.contracts.decoding.Decoding.{the_row};
 
-    // The value at the pointer, and the right to give its block back.
+    // The value at the pointer, and the right to free its block.
     ghost also_owns = { λ h. box_owns (ghosts.dealloc_token h.alloc) the_row h.at h.value };
 }
 
 impl DecoderHandle {
     ghost use Rattle.std.specs.Prelude.{◌≡◌};
 
-    /// The box that it is.
+    /// Returns the box of the decoder.
     fn into_box(self) -> Box<Decoding, Global>
         ensures { result.value ≡ self.value }
     {
@@ -57,25 +57,25 @@ impl DecoderHandle {
     }
 }
 
-/// What came of a feed.
+/// The result of a feed (`fast_fed` of the header).
 #[repr(C)]
 #[derive(Clone, Copy)]
 pub struct FastFed {
-    /// How many bytes of the piece were taken.
+    /// The number of bytes of the piece that were consumed.
     taken: u64,
-    /// How many records were written.
+    /// The number of records written.
     records: u64,
-    /// How many bytes of texts were written.
+    /// The number of bytes written to the buffer of strings.
     texts: u64,
-    /// How many bytes of the stream were consumed since the decoder was made or reset.
+    /// The number of bytes of the stream that were consumed since the decoder was made or reset.
     consumed: u64,
-    /// Whether it stands between two messages, without a fault.
+    /// 1 if the decoder is between two messages and has no fault, else 0.
     between: u32,
-    /// The number of its status.
+    /// The number of the status.
     status: u32,
 }
 
-/// A decoder in a box.
+/// Makes a decoder in a box.
 fn made(alloc: Global, set: SetHandle, limits: Limits) -> Result<Box<Decoding, Global>, Status>
     ensures ok { IfOk result (λ decoding. IsMade set.value limits decoding.value) }
     ensures err { IfErr result (IsNotMade set.value limits) }
@@ -94,7 +94,7 @@ fn made(alloc: Global, set: SetHandle, limits: Limits) -> Result<Box<Decoding, G
     }
 }
 
-/// Makes a decoder of streams under a set, and hands a pointer to it out. The answer is 0, or the status for which there is none.
+/// Makes a decoder of streams under a set, and stores a pointer to it in `out`. Returns 0, or the status that says why there is none.
 #[unsafe(no_mangle)]
 pub extern "C" fn fast_decoder_open(
     alloc: Global,
@@ -118,7 +118,7 @@ pub extern "C" fn fast_decoder_open(
     }
 }
 
-/// What is answered behind a packet that has ended inside a message.
+/// Returns the result of a feed after a packet that has ended inside a message.
 fn cut_fed(consumed: u64) -> FastFed
     ensures { result ≡ cut_fed consumed }
 {
@@ -155,7 +155,7 @@ fn feed(decoding: &mut Decoding, piece: &[u8], records: &mut [Record], texts: &m
     }
 }
 
-/// Feeds a piece to a decoder, as far as its events have room, and writes their records and texts.
+/// Feeds a piece to a decoder, as far as its events have room, and writes their records and strings.
 #[unsafe(no_mangle)]
 pub extern "C" fn fast_decoder_feed(
     decoder: DecoderHandle,
@@ -172,14 +172,14 @@ pub extern "C" fn fast_decoder_feed(
     *back = Box::into_raw(decoding) as *mut FastDecoder;
 }
 
-/// Whether all bytes were taken and nothing waits, inside a message.
+/// Returns whether all bytes were consumed and no event waits, but a message is incomplete.
 fn ends_inside(fed: FastFed) -> bool
     ensures { result ≡ ends_inside fed }
 {
     fed.status == Status::Done.number() && fed.between == 0
 }
 
-/// Resets a decoder, or leaves it as it is.
+/// Resets a decoder if `is_reset`.
 fn start(decoding: &mut Decoding, is_reset: bool)
     ensures { Starts is_reset decoding.old decoding.new }
 {
@@ -188,7 +188,7 @@ fn start(decoding: &mut Decoding, is_reset: bool)
     }
 }
 
-/// Feeds all that is left of a packet, of a decoder that is reset before or goes on.
+/// Feeds the rest of a packet to a decoder, which is reset first if asked for.
 fn feed_packet(
     decoding: &mut Decoding,
     is_reset: bool,
@@ -210,8 +210,8 @@ fn feed_packet(
     fed
 }
 
-/// Feeds all that is left of a packet to a decoder, which is reset before where `start` is not 0. Where the bytes end inside a message
-/// the packet is cut, and so it stays until a reset.
+/// Feeds the rest of a packet to a decoder, which is reset first if `start` is not 0. If the bytes end inside a message, the packet is
+/// truncated: the status says so, and stays until a reset.
 #[unsafe(no_mangle)]
 pub extern "C" fn fast_decoder_packet(
     decoder: DecoderHandle,
@@ -230,7 +230,7 @@ pub extern "C" fn fast_decoder_packet(
     *back = Box::into_raw(decoding) as *mut FastDecoder;
 }
 
-/// Makes a decoder as it was made.
+/// Resets a decoder to the state in which it was made.
 fn reset(decoding: &mut Decoding)
     ensures { IsReset decoding.old decoding.new }
 {
@@ -239,7 +239,7 @@ fn reset(decoding: &mut Decoding)
     decoding.is_cut = false;
 }
 
-/// Makes a decoder as it was made, before the first byte.
+/// Resets a decoder to the state in which it was made, before the first byte.
 #[unsafe(no_mangle)]
 pub extern "C" fn fast_decoder_reset(decoder: DecoderHandle, back: &mut *mut FastDecoder)
     ensures { (new : Decoding) × IsReset decoder.value new }
@@ -249,7 +249,7 @@ pub extern "C" fn fast_decoder_reset(decoder: DecoderHandle, back: &mut *mut Fas
     *back = Box::into_raw(decoding) as *mut FastDecoder;
 }
 
-/// Gives a decoder's memory back, but for that of its set.
+/// Frees a decoder's memory. Its set stays open.
 #[unsafe(no_mangle)]
 pub extern "C" fn fast_decoder_close(decoder: DecoderHandle) {
     drop(decoder.into_box());

@@ -1,4 +1,4 @@
-//! Encoders: records to bytes.
+//! Encoders for callers from C: records in, bytes out.
 
 ghost use Rattle.std.specs.Prelude.{◌≡◌, IfOk, IfErr, Err};
 ghost use Rattle.fast_c.specs.contracts.encoding.Encoding.{the_row};
@@ -14,7 +14,7 @@ use fast_value::Limits;
 use std::alloc::Global;
 use std::marker::Model;
 
-/// An encoder, and the bytes that were not taken yet.
+/// An encoder, and the bytes of encoded messages that the caller has not fetched yet.
 #[derive(Drop)]
 pub struct Encoding {
     alloc: Global,
@@ -22,14 +22,14 @@ pub struct Encoding {
     bytes: Vec<u8>,
 }
 
-/// What C calls the type behind its pointer to an encoder.
+/// The type behind a C caller's pointer to an encoder.
 #[repr(C)]
 #[derive(Drop)]
 pub struct FastEncoder {
     unseen: u8,
 }
 
-/// The pointer to an encoder, by value. The handle to the heap takes no bytes.
+/// A pointer to an encoder, passed by value. The handle of the allocator takes no bytes.
 #[repr(C)]
 pub struct EncoderHandle {
     at: *mut FastEncoder,
@@ -42,14 +42,14 @@ impl Model for EncoderHandle {
     ghost use Rattle.std.specs.contracts.impls.GlobalAllocator.TheImpl.{ghosts};
     ghost use Rattle.fast_c.specs.contracts.encoding.Encoding.{the_row};
 
-    // The value at the pointer, and the right to give its block back.
+    // The value at the pointer, and the right to free its block.
     ghost also_owns = { λ h. box_owns (ghosts.dealloc_token h.alloc) the_row h.at h.value };
 }
 
 impl EncoderHandle {
     ghost use Rattle.std.specs.Prelude.{◌≡◌};
 
-    /// The box that it is.
+    /// Returns the box of the encoder.
     fn into_box(self) -> Box<Encoding, Global>
         ensures { result.value ≡ self.value }
     {
@@ -58,21 +58,21 @@ impl EncoderHandle {
     }
 }
 
-/// What came of a call of an encoder.
+/// The result of encoding a message (`fast_put` of the header).
 #[repr(C)]
 #[derive(Clone, Copy)]
 pub struct FastPut {
-    /// How many bytes of finished messages wait to be taken.
+    /// The number of bytes of encoded messages that wait to be fetched.
     waiting: u64,
-    /// Which record is not due, from 0, where the status says that one is not.
+    /// The number, from 0, of the record that may not come next, if the status says that there is one.
     record: u64,
-    /// The number of its status.
+    /// The number of the status.
     status: u32,
-    /// 0.
+    /// Always 0.
     unused: u32,
 }
 
-/// An encoder in a box.
+/// Makes an encoder in a box.
 fn made(alloc: Global, set: SetHandle, limits: Limits) -> Result<Box<Encoding, Global>, Status>
     ensures ok { IfOk result (λ encoding. IsNewEncoding set.value limits encoding.value) }
     ensures err { IfErr result (IsNotMade set.value limits) }
@@ -92,7 +92,7 @@ fn made(alloc: Global, set: SetHandle, limits: Limits) -> Result<Box<Encoding, G
     }
 }
 
-/// Makes an encoder of messages of a set, and hands a pointer to it out. The answer is 0, or the status for which there is none.
+/// Makes an encoder for the messages of a set, and stores a pointer to it in `out`. Returns 0, or the status that says why there is none.
 #[unsafe(no_mangle)]
 pub extern "C" fn fast_encoder_open(
     alloc: Global,
@@ -115,7 +115,7 @@ pub extern "C" fn fast_encoder_open(
     }
 }
 
-/// Encodes the message of these records behind the bytes that wait.
+/// Encodes the message of these records, and appends it to the bytes that wait.
 fn put(encoding: &mut Encoding, records: &[Record], texts: &[u8]) -> FastPut
     ensures { HasCome encoding.old records.now texts.now result encoding.new }
 {
@@ -136,7 +136,7 @@ fn put(encoding: &mut Encoding, records: &[Record], texts: &[u8]) -> FastPut
     }
 }
 
-/// The record that is not due, 0 where the records are a message.
+/// Returns the number of the record that may not come next, 0 if the records are those of a message.
 fn record_of(refusal: PutRefusal) -> usize
     ensures { result ≡ misplaced (Err refusal) }
 {
@@ -146,7 +146,7 @@ fn record_of(refusal: PutRefusal) -> usize
     }
 }
 
-/// Encodes one message, whose records these are. Where it is refused, nothing has changed.
+/// Encodes one message from its records. If it is refused, nothing changes.
 #[unsafe(no_mangle)]
 pub extern "C" fn fast_encoder_put(
     encoder: EncoderHandle,
@@ -162,7 +162,7 @@ pub extern "C" fn fast_encoder_put(
     *back = Box::into_raw(encoding) as *mut FastEncoder;
 }
 
-/// Takes out the first bytes that wait, as far as they have room.
+/// Moves the first of the bytes that wait to `out`, as many as have room, and returns their number.
 fn take(encoding: &mut Encoding, out: &mut [u8]) -> usize
     ensures { IsTaken encoding.old out.old out.new result encoding.new }
 {
@@ -174,7 +174,7 @@ fn take(encoding: &mut Encoding, out: &mut [u8]) -> usize
     count
 }
 
-/// Takes out the first bytes that wait, as far as they have room, and answers how many these are.
+/// Moves the first of the bytes that wait to `out`, as many as have room, and returns their number.
 #[unsafe(no_mangle)]
 pub extern "C" fn fast_encoder_take(
     encoder: EncoderHandle,
@@ -189,7 +189,7 @@ pub extern "C" fn fast_encoder_take(
     count
 }
 
-/// Makes an encoder as it was made, and forgets the bytes that wait.
+/// Resets an encoder to the state in which it was made, and drops the bytes that wait.
 fn reset(encoding: &mut Encoding)
     ensures { IsResetEncoding encoding.old encoding.new }
 {
@@ -197,7 +197,7 @@ fn reset(encoding: &mut Encoding)
     encoding.bytes.clear();
 }
 
-/// Makes an encoder as it was made, and forgets the bytes that wait.
+/// Resets an encoder to the state in which it was made, and drops the bytes that wait.
 #[unsafe(no_mangle)]
 pub extern "C" fn fast_encoder_reset(encoder: EncoderHandle, back: &mut *mut FastEncoder)
     ensures { (new : Encoding) × IsResetEncoding encoder.value new }
@@ -207,7 +207,7 @@ pub extern "C" fn fast_encoder_reset(encoder: EncoderHandle, back: &mut *mut Fas
     *back = Box::into_raw(encoding) as *mut FastEncoder;
 }
 
-/// Gives an encoder's memory back, but for that of its set.
+/// Frees an encoder's memory. Its set stays open.
 #[unsafe(no_mangle)]
 pub extern "C" fn fast_encoder_close(encoder: EncoderHandle) {
     drop(encoder.into_box());

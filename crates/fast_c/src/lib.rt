@@ -1,7 +1,7 @@
-//! The decoder and the encoder for callers from C: include/fast.h says what each function does, and what its caller owes.
+//! The decoder and the encoder for callers from C. include/fast.h says what each function does, and what its caller has to ensure.
 //!
-//! A handle is a pointer to a box, which C holds between two calls: it goes in by value, and comes back as the same pointer. What a
-//! decoder or an encoder borrows of its template set lives as long as C keeps that set.
+//! A handle is a pointer to a box, which C holds between two calls: it is passed by value, and stored back as the same pointer. The set
+//! that a decoder or an encoder borrows lives as long as C keeps it open.
 #![tactic(auto)]
 
 mod decoding;
@@ -21,10 +21,10 @@ use fast_value::Limits;
 use std::alloc::Global;
 use std::fmt::Write;
 
-/// The number of this interface. It changes with the size of a struct, the parameters of a function or the meaning of a number.
+/// The version of this interface. It changes with the size of a struct, the parameters of a function or the meaning of a number.
 const INTERFACE: u32 = 2;
 
-/// The limits of a call.
+/// Returns the limits from the arguments of a call.
 fn limits_of(strict: u32, max_text: u32, max_elements: u32, max_total: u32) -> Limits
     ensures { result ≡ limits_of strict max_text max_elements max_total }
 {
@@ -36,7 +36,7 @@ fn limits_of(strict: u32, max_text: u32, max_elements: u32, max_total: u32) -> L
     }
 }
 
-/// A value in a box.
+/// Moves a value into a box.
 fn boxed<T: Drop>(alloc: Global, value: T) -> Result<Box<T, Global>, Status>
     ensures ok { IfOk result (λ it. it.value ≡ value) }
     ensures err { IfErr result (λ status. status ≡ Status.Make MakeError.Memory) }
@@ -47,7 +47,7 @@ fn boxed<T: Drop>(alloc: Global, value: T) -> Result<Box<T, Global>, Status>
     }
 }
 
-/// Writes the front of a text that has room, and answers the length of the whole text.
+/// Writes the start of a string, as many bytes as have room, and returns the length of the whole string.
 fn write_front(text: &[u8], out: &mut [u8]) -> usize
     ensures { IsWritten text.now out.old out.new result }
 {
@@ -56,7 +56,7 @@ fn write_front(text: &[u8], out: &mut [u8]) -> usize
     text.len()
 }
 
-/// The number of this interface, which has to be `FAST_INTERFACE` of the header.
+/// Returns the version of this interface, which has to equal `FAST_INTERFACE` of the header.
 #[unsafe(no_mangle)]
 pub extern "C" fn fast_interface() -> u32
     ensures { result ≡ 2 }
@@ -64,7 +64,7 @@ pub extern "C" fn fast_interface() -> u32
     INTERFACE
 }
 
-/// Writes what a status says, in English, as far as there is room, and answers its length; 0 where no status has the number.
+/// Writes the sentence of a status, in English, as many bytes as have room, and returns its whole length; 0 if no status has this number.
 #[unsafe(no_mangle)]
 pub extern "C" fn fast_status_words(status: u32, out: &mut [u8]) -> usize
     ensures written { (words : List ℕ) × (length words ≤ 256) × IsWritten words out.old out.new result }

@@ -1,4 +1,4 @@
-//! Template sets.
+//! Template sets for callers from C.
 
 ghost use Rattle.std.specs.Prelude.{◌≡◌, ◌<◌, ◌≤◌, [], length, slice_get, Some, string_bytes, IfOk, IfErr};
 ghost use Rattle.fast_tree.specs.declared.instructions.Node.{Node};
@@ -15,14 +15,14 @@ use fast_template::Templates;
 use std::alloc::Global;
 use std::marker::Model;
 
-/// What C calls the type behind its pointer to a set.
+/// The type behind a C caller's pointer to a set.
 #[repr(C)]
 #[derive(Drop)]
 pub struct FastSet {
     unseen: u8,
 }
 
-/// The pointer to a set, by value. The handle to the heap takes no bytes.
+/// A pointer to a set, passed by value. The handle of the allocator takes no bytes.
 #[repr(C)]
 pub struct SetHandle {
     at: *mut FastSet,
@@ -35,14 +35,14 @@ impl Model for SetHandle {
     ghost use Rattle.std.specs.contracts.impls.GlobalAllocator.TheImpl.{ghosts};
     ghost use Rattle.fast_template.specs.contracts.sets.Templates.{the_row};
 
-    // The value at the pointer, and the right to give its block back.
+    // The value at the pointer, and the right to free its block.
     ghost also_owns = { λ h. box_owns (ghosts.dealloc_token h.alloc) the_row h.at h.value };
 }
 
 impl SetHandle {
     ghost use Rattle.std.specs.Prelude.{◌≡◌};
 
-    /// The box that it is.
+    /// Returns the box of the set.
     fn into_box(self) -> Box<Templates, Global>
         ensures { result.value ≡ self.value }
     {
@@ -50,7 +50,7 @@ impl SetHandle {
         unsafe { Box::from_raw(alloc, at as *mut Templates) }
     }
 
-    /// The set, lent for as long as C keeps it.
+    /// Borrows the set, for as long as C keeps it open.
     pub(crate) fn lent(self) -> &'static Templates
         ensures { result.now ≡ self.value }
     {
@@ -58,7 +58,7 @@ impl SetHandle {
     }
 }
 
-/// A set in a box, of the text of its templates.
+/// Reads a template file into a set in a box.
 fn made(alloc: Global, text: &[u8]) -> Result<Box<Templates, Global>, Status>
     ensures ok { IfOk result (λ set. IsSetOf text.now set.value) }
     ensures err { IfErr result (IsNoSet text.now) }
@@ -72,7 +72,7 @@ fn made(alloc: Global, text: &[u8]) -> Result<Box<Templates, Global>, Status>
     }
 }
 
-/// Reads a template set, and hands a pointer to it out. The answer is 0, or the status for which there is none.
+/// Reads a template set from its TOML file, and stores a pointer to it in `out`. Returns 0, or the status that says why there is none.
 #[unsafe(no_mangle)]
 pub extern "C" fn fast_set_read(alloc: Global, text: &[u8], out: &mut *mut FastSet) -> u32
     ensures { Opens (IsSetOf text.now) (IsNoSet text.now) out.old out.new result }
@@ -86,13 +86,13 @@ pub extern "C" fn fast_set_read(alloc: Global, text: &[u8], out: &mut *mut FastS
     }
 }
 
-/// Gives a set's memory back.
+/// Frees a set's memory.
 #[unsafe(no_mangle)]
 pub extern "C" fn fast_set_close(set: SetHandle) {
     drop(set.into_box());
 }
 
-/// How many templates a set has.
+/// Returns the number of templates of a set.
 #[unsafe(no_mangle)]
 pub extern "C" fn fast_set_templates(set: SetHandle) -> u32
     ensures { result ≡ length (templates_of set.value) }
@@ -100,7 +100,7 @@ pub extern "C" fn fast_set_templates(set: SetHandle) -> u32
     set.lent().count()
 }
 
-/// How many nodes a set has.
+/// Returns the number of nodes of a set.
 #[unsafe(no_mangle)]
 pub extern "C" fn fast_set_nodes(set: SetHandle) -> u32
     ensures { result ≡ length (nodes_of set.value) }
@@ -108,7 +108,7 @@ pub extern "C" fn fast_set_nodes(set: SetHandle) -> u32
     set.lent().nodes()
 }
 
-/// Writes the name of a template, as far as there is room, and answers its length; 0 where the set has no such template.
+/// Writes the name of a template, as many bytes as have room, and returns its whole length; 0 if the set has no such template.
 #[unsafe(no_mangle)]
 pub extern "C" fn fast_template_name(set: SetHandle, template: u32, out: &mut [u8]) -> usize
     ensures some { (t : Template) → slice_get (templates_of set.value) template ≡ Some t
@@ -122,7 +122,7 @@ pub extern "C" fn fast_template_name(set: SetHandle, template: u32, out: &mut [u
     write_front(set.template(template).name.as_bytes(), out)
 }
 
-/// Writes the name of a node, as far as there is room, and answers its length; 0 where the set has no such node.
+/// Writes the name of a node, as many bytes as have room, and returns its whole length; 0 if the set has no such node.
 #[unsafe(no_mangle)]
 pub extern "C" fn fast_node_name(set: SetHandle, node: u32, out: &mut [u8]) -> usize
     ensures some { (n : Node) → slice_get (nodes_of set.value) node ≡ Some n
