@@ -1,5 +1,5 @@
-//! Writing that looks at each value only once: whether it suits and fits is decided as it is written. What is refused here is looked at
-//! again from the front, by `suiting`, `measuring` and `writing`, for the fault that comes first.
+//! Encoding in one pass: each value is checked as it is written. If this refuses a message, `suiting`, `measuring` and `writing` process it
+//! again from the start, to find the fault that comes first.
 
 mod absences;
 mod fields;
@@ -34,11 +34,11 @@ use fields::{
 };
 use nodes::form_at;
 
-/// Writes a message whose template has this identifier, if it suits the template and the limits. The draft holds nothing else then.
+/// Writes a message whose template has this identifier, if it suits the template and the limits. It replaces the content of the draft.
 ///
 /// # Errors
 ///
-/// Something was refused, with any fault. Then the draft is of no use.
+/// An error of any code if anything was refused; the code says nothing about which fault comes first. The draft is then unusable.
 pub fn try_message(
     plan: &Plan<'_>,
     id: u32,
@@ -71,9 +71,10 @@ pub fn try_message(
     work.draft.finish()
 }
 
-/// Writes the slots of the instructions of these nodes, if they suit and fit. The elements of their sequences take of the room.
+/// Writes the slots of the instructions of these nodes, if they suit their template and keep to the limits. The elements of their sequences
+/// count against the room for elements.
 ///
-/// Where it answers false something was refused, with any fault, and the draft is of no use.
+/// Returns false if anything was refused, with any fault; the draft is then unusable.
 #[cycle(check)]
 pub fn try_body(plan: &Plan<'_>, body: &[u32], slots: &[Option<Item>], work: &mut Work) -> bool
     requires nodes { AreBelow (length (nodes_of plan.now.templates.now)) body.now }
@@ -166,7 +167,7 @@ pub fn try_body(plan: &Plan<'_>, body: &[u32], slots: &[Option<Item>], work: &mu
     true
 }
 
-/// Writes a group or a sequence of the instruction of a node.
+/// Writes a group or a sequence of a node's instruction. Returns false if anything was refused; the draft is then unusable.
 #[cycle(check)]
 #[inline(never)]
 fn try_item(plan: &Plan<'_>, node: u32, item: &Item, work: &mut Work) -> bool
@@ -209,7 +210,7 @@ fn try_item(plan: &Plan<'_>, node: u32, item: &Item, work: &mut Work) -> bool
     }
 }
 
-/// Writes the map and the slots of a group, or of an element of a sequence.
+/// Writes the presence map and the slots of a group, or of an element of a sequence.
 #[cycle(check)]
 #[inline(always)]
 fn try_segment(

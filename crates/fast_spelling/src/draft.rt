@@ -1,4 +1,4 @@
-//! A message in the making.
+//! The draft of a message that is being encoded.
 
 ghost use Rattle.std.specs.Prelude.{◌≡◌, ◌≤◌, ◌∷◌, ◌++◌, [], true, if◌then◌else◌, take, drop, vec_len, ◌+◌, ◌<◌, IfSome, IfNone, IfOk, OnOk, IfErr};
 ghost use Rattle.fast_wire.specs.meaning.Maps.{bits, IsMap};
@@ -15,23 +15,23 @@ use std::alloc::{AllocError, Global};
 /// The bytes of a message so far, and the presence bits of its open segments.
 #[derive(Drop)]
 pub struct Draft {
-    /// The bytes of all that is whole, without the maps of open segments.
+    /// The bytes of all segments that are complete, without the presence maps of open segments.
     pub bytes: Vec<u8>,
-    /// The presence bits of the open segments, the innermost one's last.
+    /// The presence bits of the open segments, those of the innermost segment last.
     pub bits: Vec<bool>,
 }
 
-/// Where a segment begins in a draft.
+/// The position in a draft at which a segment begins.
 #[derive(Clone, Copy)]
 pub struct Mark {
-    /// The bytes before it.
+    /// The number of bytes before it.
     pub bytes: usize,
-    /// The bits before it.
+    /// The number of presence bits before it.
     pub bits: usize,
 }
 
 impl Draft {
-    /// A draft without bytes.
+    /// Makes an empty draft.
     pub fn new(alloc: Global) -> Draft
         ensures bytes { result.bytes.items ≡ [] }
         ensures bits { result.bits.items ≡ [] }
@@ -42,7 +42,7 @@ impl Draft {
         }
     }
 
-    /// The draft without bytes, which keeps its memory.
+    /// Empties the draft, which keeps its memory.
     pub fn clear(&mut self)
         ensures bytes { self.new.bytes.items ≡ [] }
         ensures bits { self.new.bits.items ≡ [] }
@@ -51,11 +51,11 @@ impl Draft {
         self.bits.clear();
     }
 
-    /// Begins a message: the draft has no bits, and one byte, which is kept for the map.
+    /// Begins a message: the draft has no bits, and one byte, which is reserved for the presence map.
     ///
     /// # Errors
     ///
-    /// Memory was refused.
+    /// An allocation failed.
     #[inline(always)]
     pub fn begin(&mut self) -> Result<(), AllocError>
         ensures bytes { OnOk result (self.new.bytes.items ≡ 0 ∷ []) }
@@ -66,11 +66,11 @@ impl Draft {
         Ok(())
     }
 
-    /// Ends a message: the map of its bits takes the place of the byte that was kept for it.
+    /// Ends a message: the presence map of its bits replaces the reserved byte.
     ///
     /// # Errors
     ///
-    /// E3 if no map has room for the bits; memory was refused.
+    /// E3 if the bits do not fit in a presence map; `Memory` if an allocation failed.
     #[inline(always)]
     pub fn finish(&mut self) -> Result<(), EncodeFault>
         requires { 1 ≤ vec_len self.old.bytes }
@@ -79,11 +79,11 @@ impl Draft {
         put_kept_map(&mut self.bytes, 0, &self.bits)
     }
 
-    /// Begins a segment: a byte is kept for its map, if it has one.
+    /// Begins a segment, and reserves a byte for its presence map if it has one.
     ///
     /// # Errors
     ///
-    /// Memory was refused.
+    /// An allocation failed.
     #[inline(always)]
     pub fn open(&mut self, has_map: bool) -> Result<Mark, AllocError>
         ensures mark { IfOk result (λ m. (m.bytes ≡ vec_len self.old.bytes) × (m.bits ≡ vec_len self.old.bits)) }
@@ -98,11 +98,11 @@ impl Draft {
         Ok(mark)
     }
 
-    /// Ends the segment that was opened at the mark: the map of its bits, if it has one, takes the place of the byte that was kept.
+    /// Ends the segment that was opened at the mark: the presence map of its bits, if it has one, replaces the reserved byte.
     ///
     /// # Errors
     ///
-    /// E3 if no map has room for the bits; memory was refused.
+    /// E3 if the bits do not fit in a presence map; `Memory` if an allocation failed.
     #[inline(always)]
     pub fn seal(&mut self, mark: Mark, has_map: bool) -> Result<(), EncodeFault>
         requires bytes { mark.bytes + (if has_map then 1 else 0) ≤ vec_len self.old.bytes }
@@ -124,7 +124,7 @@ impl Draft {
     ///
     /// # Errors
     ///
-    /// Memory was refused.
+    /// An allocation failed.
     #[inline(always)]
     pub fn push_bit(&mut self, bit: bool) -> Result<(), AllocError>
         ensures bits { OnOk result (self.new.bits.items ≡ self.old.bits.items ++ bit ∷ []) }
@@ -137,11 +137,11 @@ impl Draft {
         push_and_grow(&mut self.bits, bit)
     }
 
-    /// Appends a presence bit where one is used.
+    /// Appends a presence bit if `used`, else nothing.
     ///
     /// # Errors
     ///
-    /// Memory was refused.
+    /// An allocation failed.
     #[inline(always)]
     pub fn push_bit_if(&mut self, used: bool, bit: bool) -> Result<(), AllocError>
         ensures bits { OnOk result (self.new.bits.items ≡ self.old.bits.items ++ (if used then bit ∷ [] else [])) }
@@ -153,7 +153,7 @@ impl Draft {
         Ok(())
     }
 
-    /// Where a segment begins that is opened now.
+    /// Returns the position at which a segment would begin that is opened next.
     pub fn mark(&self) -> Mark
         ensures bytes { result.bytes ≡ vec_len self.now.bytes }
         ensures bits { result.bits ≡ vec_len self.now.bits }
@@ -164,11 +164,11 @@ impl Draft {
         }
     }
 
-    /// Ends the segment that began at the mark: the map of its bits, if it has one, goes in front of its bytes.
+    /// Ends the segment that began at the mark: the presence map of its bits, if it has one, is inserted before its bytes.
     ///
     /// # Errors
     ///
-    /// E3 if no map has room for the bits; memory was refused.
+    /// E3 if the bits do not fit in a presence map; `Memory` if an allocation failed.
     #[inline(always)]
     pub fn close(&mut self, mark: Mark, has_map: bool) -> Result<(), EncodeFault>
         requires bytes { mark.bytes ≤ vec_len self.old.bytes }
@@ -188,7 +188,7 @@ impl Draft {
     }
 }
 
-/// Appends a bit where there is no room for it yet.
+/// Appends a bit where the vector has no spare capacity.
 #[cold]
 fn push_and_grow(bits: &mut Vec<bool>, bit: bool) -> Result<(), AllocError>
     ensures { OnOk result (bits.new.items ≡ bits.old.items ++ bit ∷ []) }
@@ -197,11 +197,11 @@ fn push_and_grow(bits: &mut Vec<bool>, bit: bool) -> Result<(), AllocError>
     Ok(())
 }
 
-/// Puts the shortest map of the bits in front of what stands behind a place.
+/// Inserts the shortest presence map of the bits at an offset (`place`).
 ///
 /// # Errors
 ///
-/// E3 if no map has room for the bits; memory was refused.
+/// E3 if the bits do not fit in a presence map; `Memory` if an allocation failed.
 #[inline(always)]
 fn put_map(bytes: &mut Vec<u8>, place: usize, presence: &[bool]) -> Result<(), EncodeFault>
     requires { place ≤ vec_len bytes.old }
@@ -219,11 +219,11 @@ fn put_map(bytes: &mut Vec<u8>, place: usize, presence: &[bool]) -> Result<(), E
     Ok(())
 }
 
-/// Puts the shortest map of the bits in place of the byte at a place.
+/// Replaces the byte at an offset (`place`) by the shortest presence map of the bits.
 ///
 /// # Errors
 ///
-/// E3 if no map has room for the bits; memory was refused.
+/// E3 if the bits do not fit in a presence map; `Memory` if an allocation failed.
 #[inline(always)]
 fn put_kept_map(bytes: &mut Vec<u8>, place: usize, presence: &[bool]) -> Result<(), EncodeFault>
     requires { place < vec_len bytes.old }
@@ -239,7 +239,7 @@ fn put_kept_map(bytes: &mut Vec<u8>, place: usize, presence: &[bool]) -> Result<
     }
 }
 
-/// The same for a map of several bytes.
+/// Replaces the byte at an offset (`place`) by the shortest presence map of the bits, of more than one byte.
 #[cold]
 fn widen(bytes: &mut Vec<u8>, place: usize, presence: &[bool]) -> Result<(), EncodeFault>
     requires { place < vec_len bytes.old }
@@ -253,7 +253,7 @@ fn widen(bytes: &mut Vec<u8>, place: usize, presence: &[bool]) -> Result<(), Enc
     }
 }
 
-/// The map of the bits, if one byte is enough.
+/// Returns the presence map of the bits if one byte is enough.
 #[inline(always)]
 fn byte_of(presence: &[bool]) -> Option<u8>
     ensures map { IfSome result (λ byte. IsMap true (byte ∷ [])) }
@@ -271,7 +271,7 @@ fn byte_of(presence: &[bool]) -> Option<u8>
     Some(cell | 0x80)
 }
 
-/// The shortest map of the bits, if there is one.
+/// Returns the shortest presence map of the bits, if there is one.
 fn map_of(presence: &[bool]) -> Option<ArrayVec<u8, MAP_LIMIT>>
     ensures map { IfSome result (λ m. IsMap true m.items) }
     ensures bits { IfSome result (λ m. SameBits (bits m.items) presence.now) }
@@ -289,10 +289,10 @@ fn map_of(presence: &[bool]) -> Option<ArrayVec<u8, MAP_LIMIT>>
     Some(map.finish())
 }
 
-/// The most bits of a map.
+/// The greatest number of bits in a presence map.
 const MOST_BITS: usize = 7 * MAP_LIMIT;
 
-/// Puts a piece in front of what stands behind a place.
+/// Inserts a piece at an offset (`place`).
 #[inline(always)]
 fn insert(bytes: &mut Vec<u8>, place: usize, piece: &[u8]) -> Result<(), AllocError>
     requires { place ≤ vec_len bytes.old }

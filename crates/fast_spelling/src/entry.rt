@@ -1,4 +1,4 @@
-//! An entry of the encoder's dictionary: what it holds, and what it held before the message that changes it.
+//! An entry of the encoder's dictionary, with the value that it held before the message that changes it.
 
 ghost use Rattle.std.specs.Prelude.{◌≡◌, ◌≤◌, ℕ, List, length, IfSome, IsFalse, OnOk};
 ghost use Rattle.fast_value.specs.meaning.Kinds.{text_of};
@@ -12,14 +12,14 @@ use fast_value::{Kind, Scalar};
 use std::alloc::{AllocError, Global};
 use std::mem;
 
-/// What an entry holds, but for the bytes of a text.
+/// The value of an entry, without the bytes of a string.
 #[derive(Clone, Copy, Debug)]
 pub enum Held {
-    /// Nothing has been kept since the entry was reset.
+    /// Undefined: no value was assigned since the entry was reset.
     Undefined,
-    /// The field that was kept last was absent.
+    /// Empty: the field that was assigned last was absent.
     Empty,
-    /// An unsigned integer, and the type of the field that kept it.
+    /// An unsigned integer, and the type of the field that assigned it.
     U(Kind, u64),
     /// A signed integer.
     I(Kind, i64),
@@ -34,7 +34,7 @@ pub enum Held {
 }
 
 impl Held {
-    /// Whether a text belongs to it.
+    /// Returns whether it is a string or byte vector.
     #[inline(always)]
     fn is_text(self) -> bool
         ensures { IsFalse result → (t u : List ℕ) → held_data self t ≡ held_data self u }
@@ -43,24 +43,24 @@ impl Held {
     }
 }
 
-/// An entry, with what it held before the message in which it was changed last. A text is written where the one before the last
-/// change stood, so that none is moved.
+/// An entry, with the value that it held before the message in which it was changed last. The bytes of a new string overwrite those from
+/// before the last change, so that no string is moved.
 #[derive(Debug, Drop)]
 pub struct Entry {
-    /// What it holds.
+    /// The current value.
     held: Held,
-    /// The bytes of the text that it holds.
+    /// The bytes of the current value, if it is a string or byte vector.
     text: Vec<u8>,
-    /// What it held before.
+    /// The value before the last message that changed it.
     old_held: Held,
-    /// The bytes of the text that it held before.
+    /// The bytes of that value, if it is a string or byte vector.
     old_text: Vec<u8>,
     /// The number of the message in which it was changed last.
     epoch: u64,
 }
 
 impl Entry {
-    /// An entry that is undefined, and was not changed in any message.
+    /// Makes an undefined entry that no message has changed.
     pub fn new(alloc: Global) -> Entry
         ensures now { entry_now result ≡ undefined }
         ensures epoch { result.epoch ≡ 0 }
@@ -75,7 +75,7 @@ impl Entry {
         }
     }
 
-    /// What it holds. A text is lent.
+    /// Returns the current value, with its string borrowed.
     #[inline(always)]
     pub fn as_previous(&self) -> Previous<'_>
         ensures { previous_data result ≡ entry_now self.now }
@@ -94,7 +94,7 @@ impl Entry {
         }
     }
 
-    /// The unsigned integer that it holds, if it holds one that a field of the type kept.
+    /// Returns the unsigned integer that the entry holds; `None` if it holds no value that a field of this type assigned.
     #[inline(always)]
     pub fn unsigned(&self, kind: Kind) -> Option<Scalar<'static>>
         ensures { IfSome result (λ v. entry_now self.now ≡ assigned kind (scalar_data v)) }
@@ -105,7 +105,7 @@ impl Entry {
         }
     }
 
-    /// The signed integer that it holds, if it holds one that a field of the type kept.
+    /// Returns the signed integer that the entry holds; `None` if it holds no value that a field of this type assigned.
     #[inline(always)]
     pub fn signed(&self, kind: Kind) -> Option<Scalar<'static>>
         ensures { IfSome result (λ v. entry_now self.now ≡ assigned kind (scalar_data v)) }
@@ -116,7 +116,7 @@ impl Entry {
         }
     }
 
-    /// The ASCII string that it holds, if it holds one that a field of the type kept.
+    /// Returns the ASCII string that the entry holds; `None` if it holds no value that a field of this type assigned.
     #[inline(always)]
     pub fn ascii(&self, kind: Kind) -> Option<Scalar<'_>>
         ensures { IfSome result (λ v. entry_now self.now ≡ assigned kind (scalar_data v)) }
@@ -127,7 +127,7 @@ impl Entry {
         }
     }
 
-    /// The Unicode string that it holds, if it holds one that a field of the type kept.
+    /// Returns the Unicode string that the entry holds; `None` if it holds no value that a field of this type assigned.
     #[inline(always)]
     pub fn unicode(&self, kind: Kind) -> Option<Scalar<'_>>
         ensures { IfSome result (λ v. entry_now self.now ≡ assigned kind (scalar_data v)) }
@@ -138,7 +138,7 @@ impl Entry {
         }
     }
 
-    /// The byte vector that it holds, if it holds one that a field of the type kept.
+    /// Returns the byte vector that the entry holds; `None` if it holds no value that a field of this type assigned.
     #[inline(always)]
     pub fn bytes(&self, kind: Kind) -> Option<Scalar<'_>>
         ensures { IfSome result (λ v. entry_now self.now ≡ assigned kind (scalar_data v)) }
@@ -149,7 +149,7 @@ impl Entry {
         }
     }
 
-    /// The decimal that it holds, if it holds one that a field of the type kept.
+    /// Returns the decimal that the entry holds; `None` if it holds no value that a field of this type assigned.
     #[inline(always)]
     pub fn decimal(&self, kind: Kind) -> Option<Scalar<'static>>
         ensures { IfSome result (λ v. entry_now self.now ≡ assigned kind (scalar_data v)) }
@@ -162,7 +162,7 @@ impl Entry {
         }
     }
 
-    /// Notes that it is changed in this message: what it holds is kept, unless that was noted already.
+    /// Notes that this message changes the entry: saves its current value, unless this message did so already.
     #[inline(always)]
     pub fn touch(&mut self, epoch: u64)
         ensures epoch { self.new.epoch ≡ epoch }
@@ -179,11 +179,11 @@ impl Entry {
         }
     }
 
-    /// Holds this value, as a field of the type keeps it. What it held before stays.
+    /// Assigns a value, as a field of the type does. The saved value stays.
     ///
     /// # Errors
     ///
-    /// Memory was refused.
+    /// An allocation failed.
     #[inline(always)]
     pub fn assign(&mut self, kind: Kind, scalar: Scalar<'_>) -> Result<(), AllocError>
         ensures now { OnOk result (entry_now self.new ≡ assigned kind (scalar_data scalar.entry)) }
@@ -212,7 +212,7 @@ impl Entry {
         Ok(())
     }
 
-    /// Holds that the field was absent.
+    /// Makes the entry empty: the field was absent.
     #[inline(always)]
     pub fn clear(&mut self)
         ensures now { entry_now self.new ≡ empty }
@@ -223,7 +223,7 @@ impl Entry {
         self.held = Held::Empty;
     }
 
-    /// Holds nothing.
+    /// Makes the entry undefined.
     pub fn undefine(&mut self)
         ensures now { entry_now self.new ≡ undefined }
         ensures epoch { self.new.epoch ≡ self.old.epoch }
@@ -233,7 +233,7 @@ impl Entry {
         self.held = Held::Undefined;
     }
 
-    /// Takes back what was changed in this message.
+    /// Undoes the changes of this message.
     pub fn take_back(&mut self, epoch: u64)
         ensures now { entry_now self.new ≡ entry_before epoch self.old }
         ensures epoch { (self.new.epoch ≡ epoch → epoch ≡ 0) × (self.new.epoch ≤ self.old.epoch) }
@@ -247,7 +247,7 @@ impl Entry {
         }
     }
 
-    /// Forgets in which message it was changed.
+    /// Forgets in which message the entry was changed.
     pub fn settle(&mut self)
         ensures now { entry_now self.new ≡ entry_now self.old }
         ensures epoch { self.new.epoch ≡ 0 }
@@ -257,7 +257,7 @@ impl Entry {
     }
 }
 
-/// Puts other bytes in place of those of a text.
+/// Replaces the bytes of a string.
 fn write_over(text: &mut Vec<u8>, bytes: &[u8]) -> Result<(), AllocError>
     ensures ok { OnOk result (text.new.items ≡ bytes.now) }
     ensures short { (m : ℕ) → length bytes.now ≤ m → length text.new.items ≤ m }

@@ -1,27 +1,27 @@
-//! Why a message is refused.
+//! The reasons for which a message is refused.
 
 use std::alloc::AllocError;
 use std::error::Error;
 use std::fmt;
 
-/// Why a message is not encoded. E1, E2 and E4 are decided for the whole message, in this order; then E3 and R9 at the first
-/// instruction of which one of them stands.
+/// The fault for which a message is not encoded. E1, E2 and E4 are checked in this order, each for the whole message; then E3 and R9, at
+/// the first instruction that has either.
 #[derive(Clone, Copy, Debug, PartialEq, Eq)]
 pub enum EncodeFault {
-    /// The set has no template of the number, or that template has no identifier.
+    /// The template set has no template of this number, or that template has no identifier.
     E1,
-    /// The message does not suit its template: the number of its slots, a type, a value out of the range of its type, or a mandatory
-    /// field that is absent.
+    /// The message does not suit its template: the number of its slots, a type, a value outside the range of its type, or a mandatory field
+    /// that is absent.
     E2,
-    /// The previous values leave no way to send a value: a constant that is another one, a delta or a tail whose base is of another
-    /// type or is missing, a tail that would be shorter than its base.
+    /// The previous values leave no way to send a value: a constant that differs from the field's, a delta or a tail whose base is missing
+    /// or of another type, or a tail that would be shorter than its base.
     E3,
-    /// A text is longer than `max_text`, a sequence has more elements than `max_elements`, or all sequences together have more than
-    /// `max_total`.
+    /// A string or byte vector is longer than `max_text`, a sequence has more elements than `max_elements`, or all sequences together have
+    /// more than `max_total`.
     E4,
     /// An ASCII string that would be sent begins with a zero character.
     R9,
-    /// Memory was refused.
+    /// An allocation failed.
     Memory,
 }
 
@@ -29,7 +29,7 @@ impl EncodeFault {
     ghost use Rattle.std.specs.Prelude.{◌≡◌};
     ghost use Rattle.fast_spelling.specs.meaning.Codes.{encode_number, encode_text};
 
-    /// The number of the fault, for a caller that cannot be handed an enum. It is never given to another fault.
+    /// Returns the number of the fault, for callers that cannot receive an enum. No number is ever given to another fault.
     pub fn number(self) -> u8
         ensures { result ≡ encode_number self }
     {
@@ -43,7 +43,7 @@ impl EncodeFault {
         }
     }
 
-    /// The name of the fault: `E1`, where `Display` says in words why the message is refused.
+    /// Returns the name of the fault, such as `E1`. `Display` writes a sentence instead.
     pub fn name(self) -> &'static str
         ensures { result.now ≡ encode_text self }
     {

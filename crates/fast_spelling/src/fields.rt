@@ -1,4 +1,4 @@
-//! A field: its presence bit, its item, and the entry behind it.
+//! Fields: the presence bit, the item, and the entry of the dictionary.
 
 ghost use Rattle.std.specs.Prelude.{◌≡◌, Option, false, ◌<◌, ◌≤◌, length, option_map, Some, OnOk, IfErr, Ok};
 ghost use Rattle.std.specs.Bool.{IsFalse};
@@ -36,11 +36,11 @@ use fast_template::{FieldInstruction, Operator};
 use fast_value::Scalar;
 use std::alloc::AllocError;
 
-/// Writes a field that has the value, or is absent.
+/// Writes a field that has this value, or is absent.
 ///
 /// # Errors
 ///
-/// E3, R9; memory was refused. Then the draft is of no use.
+/// E3, R9, or `Memory` if an allocation failed. The draft is then unusable.
 #[inline(always)]
 pub fn write_field(
     draft: &mut Draft,
@@ -94,11 +94,11 @@ fn write_present(
     }
 }
 
-/// Writes a field that has any value, or is absent, as the rule chooses.
+/// Writes a field that has any value, or is absent, by the rule that chooses what is sent.
 ///
 /// # Errors
 ///
-/// E3, R9; memory was refused. Then the draft is of no use.
+/// E3, R9, or `Memory` if an allocation failed. The draft is then unusable.
 pub fn write_chosen(
     draft: &mut Draft,
     ledger: &mut Ledger,
@@ -133,11 +133,11 @@ pub fn write_chosen(
     )
 }
 
-/// Writes what stands in the stream for the field's value or absence, by the rule, and keeps that.
+/// Writes what the rule sends for the field's value or absence, and keeps the value in the dictionary.
 ///
 /// # Errors
 ///
-/// R9; memory was refused. Then the draft is of no use.
+/// R9, or `Memory` if an allocation failed. The draft is then unusable.
 #[inline(always)]
 pub fn send(
     draft: &mut Draft,
@@ -171,11 +171,11 @@ pub fn send(
     Ok(())
 }
 
-/// Writes a clear bit for a value that its operator gives, and keeps that.
+/// Writes a clear presence bit, for a value that the operator implies, and keeps the value in the dictionary.
 ///
 /// # Errors
 ///
-/// Memory was refused. Then the draft is of no use.
+/// `Memory` if an allocation failed. The draft is then unusable.
 #[inline(always)]
 pub fn leave_out(
     draft: &mut Draft,
@@ -203,7 +203,7 @@ pub fn leave_out(
     Ok(())
 }
 
-/// Whether the field, which has this operator, has a presence bit.
+/// Returns whether a field with this operator has a presence bit.
 #[inline(always)]
 fn uses_bit(at: Known<'_>, operator: Operator) -> bool
     requires { at.field.now.operator ≡ operator }
@@ -216,7 +216,7 @@ fn uses_bit(at: Known<'_>, operator: Operator) -> bool
     }
 }
 
-/// Whether the operator keeps what was written for the next message.
+/// Returns whether the operator keeps the value as the previous value of the next message.
 #[inline(always)]
 pub fn keeps(operator: Operator) -> bool
     ensures value { result ≡ keeps_value operator }
@@ -229,7 +229,7 @@ pub fn keeps(operator: Operator) -> bool
     }
 }
 
-/// What the field's operator reads.
+/// Returns the previous value that the field's operator reads.
 #[inline(always)]
 pub fn previous_of<'a>(ledger: &'a Ledger, at: Known<'_>) -> Previous<'a>
     requires { IsServed ledger.now (field_data at.field.now) }
@@ -242,7 +242,7 @@ pub fn previous_of<'a>(ledger: &'a Ledger, at: Known<'_>) -> Previous<'a>
     }
 }
 
-/// Notes, for the proof alone, that the numbers of a delta's base lie in the range of a Rust type.
+/// Notes, for the proof alone, that the numbers of a delta's base lie in the range of a Rust type. Has no other effect.
 fn note_base(field: &FieldInstruction, previous: Previous<'_>)
     ensures { (base : ScalarData) → delta_base (field_data field.now) (previous_data previous.entry) ≡ Ok base
         → IsNarrow base }
@@ -252,7 +252,7 @@ fn note_base(field: &FieldInstruction, previous: Previous<'_>)
     }
 }
 
-/// Notes the same of a value.
+/// Notes, for the proof alone, that the numbers of a value lie in the range of a Rust type. Has no other effect.
 pub fn note_range(value: Scalar<'_>)
     ensures { IsNarrow (scalar_data value.entry) }
 {
@@ -270,7 +270,7 @@ pub fn note_range(value: Scalar<'_>)
     }
 }
 
-/// Keeps what the field's operator writes for the value, or its absence.
+/// Keeps the value or the absence in the entry that the field's operator writes.
 #[inline(always)]
 fn keep(
     ledger: &mut Ledger,

@@ -1,4 +1,4 @@
-//! What the encoder has to do at a node, as one number: the type and the operator of its field.
+//! Forms: the type and the operator of a node's field as one number, by which the encoder selects its code.
 
 ghost use Rattle.std.specs.Prelude.{◌≡◌, IfOk};
 ghost use Rattle.fast_value.specs.declared.kinds.Kind.TheVariants.{UInt32, Int32, UInt64, Int64, Decimal, Ascii, Unicode, Bytes};
@@ -9,7 +9,7 @@ use fast_template::{FieldInstruction, Operator, Shape, Templates};
 use fast_value::Kind;
 use std::alloc::{AllocError, Global};
 
-/// The type and the operator of a field, where the encoder has a way of its own for the two.
+/// The type and the operator of a field, if the encoder has dedicated code for the pair.
 #[derive(Clone, Copy, Debug, PartialEq, Eq)]
 pub enum Form {
     /// A field of `uInt32` without operator.
@@ -86,12 +86,12 @@ pub enum Form {
     CopyDecimal,
     /// A field of decimals under delta.
     DeltaDecimal,
-    /// All else: decimals by parts, groups and sequences, and fields that are met less often.
+    /// All else: decimals by parts, groups and sequences, and the less frequent fields.
     Other,
 }
 
 impl Form {
-    /// The form of a field.
+    /// Returns the form of a field.
     fn of_field(field: &FieldInstruction) -> Form
         ensures { result ≡ form_by field.now.kind field.now.operator }
     {
@@ -107,7 +107,7 @@ impl Form {
         }
     }
 
-    /// The form of a field of `uInt32`.
+    /// Returns the form of a field of `uInt32`.
     fn of_uint32(operator: Operator) -> Form
         ensures { result ≡ form_by UInt32 operator }
     {
@@ -122,7 +122,7 @@ impl Form {
         }
     }
 
-    /// The form of a field of `int32`.
+    /// Returns the form of a field of `int32`.
     fn of_int32(operator: Operator) -> Form
         ensures { result ≡ form_by Int32 operator }
     {
@@ -137,7 +137,7 @@ impl Form {
         }
     }
 
-    /// The form of a field of `uInt64`.
+    /// Returns the form of a field of `uInt64`.
     fn of_uint64(operator: Operator) -> Form
         ensures { result ≡ form_by UInt64 operator }
     {
@@ -152,7 +152,7 @@ impl Form {
         }
     }
 
-    /// The form of a field of `int64`.
+    /// Returns the form of a field of `int64`.
     fn of_int64(operator: Operator) -> Form
         ensures { result ≡ form_by Int64 operator }
     {
@@ -167,7 +167,7 @@ impl Form {
         }
     }
 
-    /// The form of a field of decimals.
+    /// Returns the form of a field of decimals.
     fn of_decimal(operator: Operator) -> Form
         ensures { result ≡ form_by Decimal operator }
     {
@@ -180,7 +180,7 @@ impl Form {
         }
     }
 
-    /// The form of a field of ASCII strings.
+    /// Returns the form of a field of ASCII strings.
     fn of_ascii(operator: Operator) -> Form
         ensures { result ≡ form_by Ascii operator }
     {
@@ -195,7 +195,7 @@ impl Form {
         }
     }
 
-    /// The form of a field of Unicode strings.
+    /// Returns the form of a field of Unicode strings.
     fn of_unicode(operator: Operator) -> Form
         ensures { result ≡ form_by Unicode operator }
     {
@@ -210,7 +210,7 @@ impl Form {
         }
     }
 
-    /// The form of a field of byte vectors.
+    /// Returns the form of a field of byte vectors.
     fn of_bytes(operator: Operator) -> Form
         ensures { result ≡ form_by Bytes operator }
     {
@@ -226,19 +226,19 @@ impl Form {
     }
 }
 
-/// What is done at a node: its form, and what the way of its own asks of the field. It stands in eight bytes, where a node takes some 140.
+/// A step: the form of a node, with the properties of the field that its code reads. It has 8 bytes, a node has about 140.
 #[derive(Clone, Copy, Debug)]
 pub struct Step {
     /// The form.
     pub form: Form,
-    /// Whether the field may be absent, so that its values are nullable.
+    /// True if the field may be absent, so that its values are nullable.
     pub nullable: bool,
-    /// The field's entry in the dictionary, or 0 where it has none.
+    /// The field's entry in the dictionary, or 0 if it has none.
     pub entry: u32,
 }
 
 impl Step {
-    /// What is done at a node.
+    /// Returns the step of a node.
     fn of(shape: &Shape) -> Step
         ensures { result ≡ step_of shape.now }
     {
@@ -257,11 +257,11 @@ impl Step {
     }
 }
 
-/// What is done at each node of a set, by its number.
+/// Returns the steps of all nodes of a set, by node number.
 ///
 /// # Errors
 ///
-/// Memory was refused.
+/// An allocation failed.
 pub fn steps_of(alloc: Global, templates: &Templates) -> Result<Vec<Step>, AllocError>
     ensures { IfOk result (λ v. v.items ≡ steps_of (nodes_of templates.now)) }
 {

@@ -1,4 +1,4 @@
-//! Integers, each by its shortest entity. One of a few bytes is written as it is, any other through an array.
+//! Integers in their shortest encoding. Up to five bytes are written directly, longer ones through an array.
 
 ghost use Rattle.std.specs.Prelude.{◌++◌, ◌∷◌, [], ◌≡◌, ◌<◌, ◌≤◌, ◌+◌, ◌-◌, ◌*◌, ◌^◌, ◌<ℤ◌, ◌≤ℤ◌, ◌-ℤ◌, neg_ℤ, Some, pos, negsuc, true, false, OnOk};
 ghost use Rattle.fast_wire.specs.meaning.Integers.{signed_range, IsWithin, Means};
@@ -9,15 +9,15 @@ ghost use Rattle.fast_spelling.specs.device.Groups.{IsGroups, IsLeast};
 use fast_wire::{write_nullable_signed, write_nullable_unsigned, write_signed, write_unsigned};
 use std::alloc::AllocError;
 
-/// The bytes for which there has to be room where nothing is made larger.
+/// The spare capacity, in bytes, that is enough to append such an integer.
 const ROOM: usize = 5;
 
-/// The least unsigned integer, and the least natural signed one, whose nullable form takes more than five bytes.
+/// The least unsigned integer, and the least non-negative signed one, whose nullable form has more than five bytes.
 const LONG_UNSIGNED: u64 = (1 << 35) - 1;
 
 const LONG_NUMBER: u64 = (1 << 34) - 1;
 
-/// The least complement of a negative one that takes more than five bytes.
+/// The least complement (`-1 - number`) of a negative integer that has more than five bytes.
 const LONG_COMPLEMENT: u64 = 1 << 34;
 
 const LONG_NATURAL: i128 = (1 << 34) - 1;
@@ -25,7 +25,7 @@ const LONG_NATURAL: i128 = (1 << 34) - 1;
 /// The least integer of five bytes.
 const LEAST_SHORT: i128 = -(1 << 34);
 
-/// Writes an unsigned integer. One of a single byte is written where this is called.
+/// Writes an unsigned integer. The code for a single byte is inlined.
 #[inline(always)]
 pub fn write_unsigned_as(bytes: &mut Vec<u8>, nullable: bool, number: u64) -> Result<(), AllocError>
     ensures { OnOk result (Adds (IsShortest false nullable (Some (pos number))) bytes.old.items bytes.new.items) }
@@ -36,7 +36,7 @@ pub fn write_unsigned_as(bytes: &mut Vec<u8>, nullable: bool, number: u64) -> Re
     write_wide_unsigned(bytes, nullable, number)
 }
 
-/// The same for one of any length.
+/// Writes an unsigned integer of any length.
 fn write_wide_unsigned(bytes: &mut Vec<u8>, nullable: bool, number: u64) -> Result<(), AllocError>
     ensures { OnOk result (Adds (IsShortest false nullable (Some (pos number))) bytes.old.items bytes.new.items) }
 {
@@ -47,7 +47,7 @@ fn write_wide_unsigned(bytes: &mut Vec<u8>, nullable: bool, number: u64) -> Resu
     push_groups(bytes, sent, groups(sent))
 }
 
-/// Writes a signed integer of 64 bits. One of a single byte is written where this is called.
+/// Writes a signed integer of 64 bits. The code for a single byte is inlined.
 #[inline(always)]
 pub fn write_narrow_as(bytes: &mut Vec<u8>, nullable: bool, number: i64) -> Result<(), AllocError>
     ensures { OnOk result (Adds (IsShortest true nullable (Some number)) bytes.old.items bytes.new.items) }
@@ -58,7 +58,7 @@ pub fn write_narrow_as(bytes: &mut Vec<u8>, nullable: bool, number: i64) -> Resu
     write_natural(bytes, nullable, natural_in(number))
 }
 
-/// Writes the signed integer `-1 - complement`.
+/// Writes the signed integer `-1 - complement`. The code for a single byte is inlined.
 #[inline(always)]
 fn write_negative(bytes: &mut Vec<u8>, nullable: bool, complement: u64) -> Result<(), AllocError>
     requires { complement < 2 ^ 63 }
@@ -70,7 +70,7 @@ fn write_negative(bytes: &mut Vec<u8>, nullable: bool, complement: u64) -> Resul
     write_wide_negative(bytes, nullable, complement)
 }
 
-/// The same for one of any length.
+/// Writes the signed integer `-1 - complement`, of any length.
 fn write_wide_negative(
     bytes: &mut Vec<u8>,
     nullable: bool,
@@ -85,7 +85,7 @@ fn write_wide_negative(
     push_negative(bytes, complement)
 }
 
-/// The negative number with this complement.
+/// Returns the negative integer `-1 - complement`.
 #[inline(always)]
 fn negative_of(complement: u64) -> i128
     ensures value { result ≡ negsuc complement }
@@ -93,7 +93,7 @@ fn negative_of(complement: u64) -> i128
     -1 - i128::from(complement)
 }
 
-/// Writes a natural number as a signed integer.
+/// Writes a non-negative integer as a signed integer. The code for a single byte is inlined.
 #[inline(always)]
 fn write_natural(bytes: &mut Vec<u8>, nullable: bool, number: u64) -> Result<(), AllocError>
     requires { number < 2 ^ 63 }
@@ -105,7 +105,7 @@ fn write_natural(bytes: &mut Vec<u8>, nullable: bool, number: u64) -> Result<(),
     write_wide_natural(bytes, nullable, number)
 }
 
-/// The same for one of any length.
+/// Writes a non-negative integer of any length as a signed integer.
 fn write_wide_natural(bytes: &mut Vec<u8>, nullable: bool, number: u64) -> Result<(), AllocError>
     requires { number < 2 ^ 63 }
     ensures { OnOk result (Adds (IsShortest true nullable (Some (pos number))) bytes.old.items bytes.new.items) }
@@ -116,7 +116,7 @@ fn write_wide_natural(bytes: &mut Vec<u8>, nullable: bool, number: u64) -> Resul
     push_natural(bytes, raised(nullable, number))
 }
 
-/// A natural number of 64 bits.
+/// Returns a non-negative integer of 64 bits as unsigned.
 #[inline(always)]
 fn natural_in(number: i64) -> u64
     requires { pos 0 ≤ℤ number }
@@ -126,7 +126,7 @@ fn natural_in(number: i64) -> u64
     number as u64
 }
 
-/// The complement of a negative number of 64 bits.
+/// Returns the complement, `-1 - number`, of a negative integer of 64 bits.
 #[inline(always)]
 fn complement_in(number: i64) -> u64
     requires { number <ℤ pos 0 }
@@ -136,7 +136,7 @@ fn complement_in(number: i64) -> u64
     (-1 - number) as u64
 }
 
-/// Writes a difference of integers, which most often has 64 bits.
+/// Writes a difference of two integers, which usually fits in 64 bits.
 #[inline(always)]
 pub fn write_delta_as(bytes: &mut Vec<u8>, nullable: bool, number: i128) -> Result<(), AllocError>
     requires { IsWithin (signed_range 68) number }
@@ -162,7 +162,7 @@ pub fn write_signed_as(bytes: &mut Vec<u8>, nullable: bool, number: i128) -> Res
     push_natural(bytes, raised(nullable, natural_of(number)))
 }
 
-/// What stands in the stream for a natural number: where NULL may be, one more.
+/// Returns the number that the stream has for a non-negative integer: one more if the field is nullable.
 #[inline(always)]
 fn raised(nullable: bool, number: u64) -> u64
     requires { number < 2 ^ 35 }
@@ -175,7 +175,7 @@ fn raised(nullable: bool, number: u64) -> u64
     number
 }
 
-/// A natural number of at most 34 bits.
+/// Returns a non-negative integer of at most 34 bits as unsigned.
 #[inline(always)]
 fn natural_of(number: i128) -> u64
     requires natural { pos 0 ≤ℤ number }
@@ -186,7 +186,7 @@ fn natural_of(number: i128) -> u64
     number as u64
 }
 
-/// The complement of a negative number of at most 34 bits.
+/// Returns the complement, `-1 - number`, of a negative integer of at most 34 bits.
 #[inline(always)]
 fn complement_of(number: i128) -> u64
     requires negative { number <ℤ pos 0 }
@@ -197,7 +197,7 @@ fn complement_of(number: i128) -> u64
     (-1 - number) as u64
 }
 
-/// Appends the shortest entity of a number in two's complement.
+/// Appends the shortest encoding of a non-negative integer, in two's complement.
 #[inline(always)]
 fn push_natural(bytes: &mut Vec<u8>, sum: u64) -> Result<(), AllocError>
     requires { sum < 2 ^ 34 }
@@ -206,7 +206,7 @@ fn push_natural(bytes: &mut Vec<u8>, sum: u64) -> Result<(), AllocError>
     push_groups(bytes, sum, groups(sum * 2))
 }
 
-/// Appends the shortest entity of `-1 - complement`, in two's complement.
+/// Appends the shortest encoding of `-1 - complement`, in two's complement.
 #[inline(always)]
 fn push_negative(bytes: &mut Vec<u8>, complement: u64) -> Result<(), AllocError>
     requires { complement < 2 ^ 34 }
@@ -216,7 +216,7 @@ fn push_negative(bytes: &mut Vec<u8>, complement: u64) -> Result<(), AllocError>
     push_groups(bytes, reach(len) - 1 - complement, len)
 }
 
-/// How many groups of seven bits a number of at most five takes, at least one.
+/// Returns the number of groups of seven bits, one to five, that the number needs.
 #[inline(always)]
 fn groups(number: u64) -> usize
     requires { number < 2 ^ 35 }
@@ -238,7 +238,7 @@ fn groups(number: u64) -> usize
     }
 }
 
-/// How many numbers so many groups of seven bits hold.
+/// Returns 2^(7 * len): how many numbers `len` groups of seven bits hold.
 #[inline(always)]
 fn reach(len: usize) -> u64
     requires some { 1 ≤ len }
@@ -254,7 +254,7 @@ fn reach(len: usize) -> u64
     }
 }
 
-/// Appends the entity of so many bytes that has this number.
+/// Appends the number in `len` bytes of seven bits each, with the stop bit on the last.
 #[inline(always)]
 fn push_groups(bytes: &mut Vec<u8>, number: u64, len: usize) -> Result<(), AllocError>
     requires some { 1 ≤ len }
@@ -271,7 +271,7 @@ fn push_groups(bytes: &mut Vec<u8>, number: u64, len: usize) -> Result<(), Alloc
     }
 }
 
-/// Appends the entity of one byte that has this number.
+/// Appends the number in one byte, with the stop bit.
 #[inline(always)]
 fn push_one(bytes: &mut Vec<u8>, number: u64) -> Result<(), AllocError>
     requires { number < 2 ^ 7 }
@@ -292,7 +292,7 @@ pub fn push_byte(bytes: &mut Vec<u8>, byte: u8) -> Result<(), AllocError>
     push_and_grow(bytes, byte)
 }
 
-/// Appends a byte where there is no room for it yet.
+/// Appends a byte where the vector has no spare capacity.
 #[cold]
 fn push_and_grow(bytes: &mut Vec<u8>, byte: u8) -> Result<(), AllocError>
     ensures { OnOk result (bytes.new.items ≡ bytes.old.items ++ byte ∷ []) }
@@ -301,7 +301,7 @@ fn push_and_grow(bytes: &mut Vec<u8>, byte: u8) -> Result<(), AllocError>
     Ok(())
 }
 
-/// Appends the entity of two bytes that has this number.
+/// Appends the number in two bytes, with the stop bit on the last.
 #[inline(always)]
 fn push_two(bytes: &mut Vec<u8>, number: u64) -> Result<(), AllocError>
     requires { number < 2 ^ 14 }
@@ -311,7 +311,7 @@ fn push_two(bytes: &mut Vec<u8>, number: u64) -> Result<(), AllocError>
     Ok(())
 }
 
-/// Appends the entity of three bytes that has this number.
+/// Appends the number in three bytes, with the stop bit on the last.
 #[inline(always)]
 fn push_three(bytes: &mut Vec<u8>, number: u64) -> Result<(), AllocError>
     requires { number < 2 ^ 21 }
@@ -325,7 +325,7 @@ fn push_three(bytes: &mut Vec<u8>, number: u64) -> Result<(), AllocError>
     Ok(())
 }
 
-/// Appends the entity of four bytes that has this number.
+/// Appends the number in four bytes, with the stop bit on the last.
 #[inline(always)]
 fn push_four(bytes: &mut Vec<u8>, number: u64) -> Result<(), AllocError>
     requires { number < 2 ^ 28 }
@@ -340,7 +340,7 @@ fn push_four(bytes: &mut Vec<u8>, number: u64) -> Result<(), AllocError>
     Ok(())
 }
 
-/// Appends the entity of five bytes that has this number.
+/// Appends the number in five bytes, with the stop bit on the last.
 #[inline(always)]
 fn push_five(bytes: &mut Vec<u8>, number: u64) -> Result<(), AllocError>
     requires { number < 2 ^ 35 }

@@ -1,4 +1,4 @@
-//! The bytes of what is sent for a field: each integer by its shortest form.
+//! Items: the bytes that are sent for a field, each integer in its shortest form.
 
 ghost use Rattle.std.specs.Prelude.{◌≡◌, ℕ, ◌<◌, ◌≤◌, ◌∷◌, List, false, All, length, Some, OnOk, IfErr};
 ghost use Rattle.fast_wire.specs.meaning.Texts.{SpellsAscii};
@@ -18,11 +18,11 @@ use crate::known::Known;
 use fast_dict::Sent;
 use fast_value::{Kind, Scalar};
 
-/// Writes the item of a field: nothing for [`Sent::Nothing`].
+/// Writes the item of a field: no bytes for [`Sent::Nothing`].
 ///
 /// # Errors
 ///
-/// R9 if the item is an ASCII text that begins with a zero character; memory was refused.
+/// R9 if the item is an ASCII string that begins with a zero character; `Memory` if an allocation failed.
 #[inline(always)]
 pub fn write_item(bytes: &mut Vec<u8>, at: Known<'_>, item: Sent<'_>) -> Result<(), EncodeFault>
     requires { IsSendable (field_data at.field.now) (sent_data item) }
@@ -54,10 +54,10 @@ pub fn write_item(bytes: &mut Vec<u8>, at: Known<'_>, item: Sent<'_>) -> Result<
     }
 }
 
-/// NULL, in every type.
+/// NULL, for every type.
 const NULL: [u8; 1] = [0x80];
 
-/// Writes a value of a kind.
+/// Writes a value of a type.
 #[inline(always)]
 fn write_value(
     bytes: &mut Vec<u8>,
@@ -90,7 +90,7 @@ fn write_value(
     }
 }
 
-/// Writes a text of a kind of texts, or a part of one.
+/// Writes a string or byte vector of a type, or a part of one.
 fn write_text(
     bytes: &mut Vec<u8>,
     kind: Kind,
@@ -112,7 +112,7 @@ fn write_text(
     }
 }
 
-/// Writes an ASCII text. One of a single character is written where this is called.
+/// Writes an ASCII string. The code for a single character is inlined.
 #[inline(always)]
 fn write_short_ascii(bytes: &mut Vec<u8>, nullable: bool, text: &[u8]) -> Result<(), EncodeFault>
     requires { All (λ c. c < 128) text.now }
@@ -128,7 +128,7 @@ fn write_short_ascii(bytes: &mut Vec<u8>, nullable: bool, text: &[u8]) -> Result
     write_ascii(bytes, nullable, text)
 }
 
-/// Writes an ASCII text: its characters, with the stop bit on the last.
+/// Writes an ASCII string: its characters, with the stop bit on the last.
 fn write_ascii(bytes: &mut Vec<u8>, nullable: bool, text: &[u8]) -> Result<(), EncodeFault>
     requires { All (λ c. c < 128) text.now }
     ensures ok { OnOk result
@@ -153,5 +153,5 @@ fn write_ascii(bytes: &mut Vec<u8>, nullable: bool, text: &[u8]) -> Result<(), E
     Ok(())
 }
 
-/// The empty ASCII text where NULL may be.
+/// The empty ASCII string of a nullable field.
 const EMPTY_NULLABLE: [u8; 2] = [0x00, 0x80];

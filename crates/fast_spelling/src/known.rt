@@ -1,4 +1,4 @@
-//! A field with what is asked of it most often at hand, so that its node is not looked at.
+//! A field with the properties that the encoder reads most, so that it need not read the node.
 
 ghost use Rattle.std.specs.Prelude.{◌≡◌};
 ghost use Rattle.fast_tree.specs.meaning.Nodes.{field_data};
@@ -6,17 +6,17 @@ ghost use Rattle.fast_tree.specs.meaning.Nodes.{field_data};
 use fast_template::FieldInstruction;
 use fast_value::Kind;
 
-/// A field, with its type, whether it may be absent, and its entry. Where these are known when this is compiled, or stand together
-/// in a [`Step`](crate::forms::Step), the field itself is not read.
+/// A field, with its type, its nullability and its entry. If these are known at compile time, or come from a [`Step`](crate::forms::Step),
+/// the field itself is not read.
 #[derive(Clone, Copy)]
 pub struct Known<'t> {
     /// The field.
     pub field: &'t FieldInstruction,
     /// Its type.
     pub kind: Kind,
-    /// Whether it may be absent, so that its values are nullable.
+    /// True if it may be absent, so that its values are nullable.
     pub nullable: bool,
-    /// Its entry in the dictionary.
+    /// Its entry in the dictionary, if it has one.
     pub entry: Option<u32>,
     ghost same_kind: { field.now.kind ≡ kind },
     ghost same_nullable: { field.now.optional ≡ nullable },
@@ -24,7 +24,7 @@ pub struct Known<'t> {
 }
 
 impl<'t> Known<'t> {
-    /// A field of which nothing is known yet.
+    /// Returns a field with its properties, read from the field itself.
     #[inline(always)]
     pub fn of(field: &'t FieldInstruction) -> Known<'t>
         ensures { result.field.now ≡ field.now }

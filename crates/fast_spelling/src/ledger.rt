@@ -1,4 +1,4 @@
-//! The encoder's dictionary: what is changed in a message can be taken back, without memory.
+//! The encoder's dictionary. The changes of a message can be undone, which allocates nothing.
 
 ghost use Rattle.std.specs.Prelude.{◌≡◌, ◌<◌, ◌≤◌, ◌-◌, ◌++◌, ℕ, All, length, take, slice_set, Some, IfOk, IfSome, OnOk};
 ghost use Rattle.fast_value.specs.meaning.Kinds.{text_of};
@@ -15,8 +15,8 @@ use fast_value::{Kind, Scalar};
 use std::alloc::{AllocError, Global};
 use std::marker::Model;
 
-/// A dictionary of previous values (FAST 1.1, Dictionaries and Previous Values). Messages are numbered: an entry keeps what it held
-/// before the message in which it was changed last, until [`Ledger::commit`] begins the next one.
+/// A dictionary of previous values (FAST 1.1, Dictionaries and Previous Values). Messages are numbered: an entry keeps the value that it
+/// had before the message in which it was changed last, until [`Ledger::commit`] begins the next one.
 #[derive(Debug, Drop)]
 pub struct Ledger {
     entries: Vec<Entry>,
@@ -40,11 +40,11 @@ impl Model for Ledger {
 }
 
 impl Ledger {
-    /// A dictionary of so many entries, all undefined, for texts of at most `max_text` bytes.
+    /// Makes a dictionary of `entries` entries, all undefined, for strings of at most `max_text` bytes.
     ///
     /// # Errors
     ///
-    /// Memory was refused.
+    /// An allocation failed.
     pub fn new(alloc: Global, entries: usize, max_text: usize) -> Result<Ledger, AllocError>
         ensures now { IfOk result (λ s. s.now ≡ fresh entries) }
         ensures before { IfOk result (λ s. s.before ≡ s.now) }
@@ -57,7 +57,7 @@ impl Ledger {
         })
     }
 
-    /// What the entry holds. A text is lent.
+    /// Returns the value of the entry, with its string borrowed.
     #[inline(always)]
     pub fn get(&self, entry: usize) -> Previous<'_>
         requires { entry < length self.now.now }
@@ -67,7 +67,7 @@ impl Ledger {
         self.entries[entry].as_previous()
     }
 
-    /// The unsigned integer that the entry holds, if it holds one that a field of the type kept.
+    /// Returns the unsigned integer that the entry holds; `None` if it holds no value that a field of this type assigned.
     #[inline(always)]
     pub fn unsigned_at(&self, entry: usize, kind: Kind) -> Option<Scalar<'static>>
         requires { entry < length self.now.now }
@@ -77,7 +77,7 @@ impl Ledger {
         self.entries[entry].unsigned(kind)
     }
 
-    /// The signed integer that the entry holds, if it holds one that a field of the type kept.
+    /// Returns the signed integer that the entry holds; `None` if it holds no value that a field of this type assigned.
     #[inline(always)]
     pub fn signed_at(&self, entry: usize, kind: Kind) -> Option<Scalar<'static>>
         requires { entry < length self.now.now }
@@ -87,7 +87,7 @@ impl Ledger {
         self.entries[entry].signed(kind)
     }
 
-    /// The ASCII string that the entry holds, if it holds one that a field of the type kept.
+    /// Returns the ASCII string that the entry holds; `None` if it holds no value that a field of this type assigned.
     #[inline(always)]
     pub fn ascii_at(&self, entry: usize, kind: Kind) -> Option<Scalar<'_>>
         requires { entry < length self.now.now }
@@ -97,7 +97,7 @@ impl Ledger {
         self.entries[entry].ascii(kind)
     }
 
-    /// The Unicode string that the entry holds, if it holds one that a field of the type kept.
+    /// Returns the Unicode string that the entry holds; `None` if it holds no value that a field of this type assigned.
     #[inline(always)]
     pub fn unicode_at(&self, entry: usize, kind: Kind) -> Option<Scalar<'_>>
         requires { entry < length self.now.now }
@@ -107,7 +107,7 @@ impl Ledger {
         self.entries[entry].unicode(kind)
     }
 
-    /// The byte vector that the entry holds, if it holds one that a field of the type kept.
+    /// Returns the byte vector that the entry holds; `None` if it holds no value that a field of this type assigned.
     #[inline(always)]
     pub fn bytes_at(&self, entry: usize, kind: Kind) -> Option<Scalar<'_>>
         requires { entry < length self.now.now }
@@ -117,7 +117,7 @@ impl Ledger {
         self.entries[entry].bytes(kind)
     }
 
-    /// The decimal that the entry holds, if it holds one that a field of the type kept.
+    /// Returns the decimal that the entry holds; `None` if it holds no value that a field of this type assigned.
     #[inline(always)]
     pub fn decimal_at(&self, entry: usize, kind: Kind) -> Option<Scalar<'static>>
         requires { entry < length self.now.now }
@@ -131,7 +131,7 @@ impl Ledger {
     ///
     /// # Errors
     ///
-    /// Memory was refused.
+    /// An allocation failed.
     #[inline(always)]
     pub fn set(&mut self, entry: usize, kind: Kind, scalar: Scalar<'_>) -> Result<(), AllocError>
         requires there { entry < length self.old.now }
@@ -157,7 +157,7 @@ impl Ledger {
         clear_at(&mut self.entries, self.epoch, entry);
     }
 
-    /// Makes all entries but the template identifier's undefined, as a template with the key `reset` does.
+    /// Makes all entries undefined except that of the template identifier, as a template with the key `reset` does.
     pub fn reset_others(&mut self)
         ensures now { self.new.now ≡ reset self.old.now }
         ensures before { self.new.before ≡ self.old.before }
@@ -167,7 +167,7 @@ impl Ledger {
         undefine_from(&mut self.entries, self.epoch, 1);
     }
 
-    /// Makes all entries undefined, for good.
+    /// Makes all entries undefined, and commits that.
     pub fn reset_all(&mut self)
         ensures now { self.new.now ≡ fresh (length self.old.now) }
         ensures before { self.new.before ≡ self.new.now }
@@ -177,7 +177,7 @@ impl Ledger {
         self.commit();
     }
 
-    /// What was changed stays.
+    /// Keeps the changes since the last commit.
     pub fn commit(&mut self)
         ensures now { self.new.now ≡ self.old.now }
         ensures before { self.new.before ≡ self.old.now }
@@ -191,7 +191,7 @@ impl Ledger {
         self.epoch += 1;
     }
 
-    /// What was changed since the last commit is as it was.
+    /// Undoes the changes since the last commit.
     pub fn take_back(&mut self)
         ensures now { self.new.now ≡ self.old.before }
         ensures before { self.new.before ≡ self.old.before }
@@ -238,7 +238,7 @@ fn clear_at(entries: &mut Vec<Entry>, epoch: u64, entry: usize)
     slot.clear();
 }
 
-/// Makes the entries from a number on undefined.
+/// Makes the entries from this number on undefined.
 fn undefine_from(entries: &mut Vec<Entry>, epoch: u64, first: usize)
     ensures now { all_now entries.new.items
         ≡ take first (all_now entries.old.items) ++ fresh (length entries.old.items - first) }
@@ -253,7 +253,7 @@ fn undefine_from(entries: &mut Vec<Entry>, epoch: u64, first: usize)
     }
 }
 
-/// Takes back what was changed in this message.
+/// Undoes the changes of this message in all entries.
 fn take_all_back(entries: &mut Vec<Entry>, epoch: u64)
     requires { 1 ≤ epoch }
     ensures now { all_now entries.new.items ≡ all_before epoch entries.old.items }
@@ -265,7 +265,7 @@ fn take_all_back(entries: &mut Vec<Entry>, epoch: u64)
     }
 }
 
-/// Forgets in which messages the entries were changed.
+/// Forgets, for all entries, in which message they were changed.
 fn settle_all(entries: &mut Vec<Entry>)
     ensures now { all_now entries.new.items ≡ all_now entries.old.items }
     ensures short { (m : ℕ) → All (IsShort m) entries.old.items → All (IsShort m) entries.new.items }
@@ -276,7 +276,7 @@ fn settle_all(entries: &mut Vec<Entry>)
     }
 }
 
-/// So many entries, all undefined.
+/// Makes `count` entries, all undefined.
 fn undefined_entries(alloc: Global, count: usize) -> Result<Vec<Entry>, AllocError>
     ensures now { IfOk result (λ v. all_now v.items ≡ fresh count) }
     ensures settled { IfOk result (λ v. All (λ e. e.epoch ≡ 0) v.items) }

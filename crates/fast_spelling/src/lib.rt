@@ -1,4 +1,4 @@
-//! What the encoder of FAST streams writes for a message, its laws, and the functions that write the body of one.
+//! The encoding of messages: the functions that write a message's bytes, and their laws.
 #![tactic(auto)]
 
 pub mod checking;

@@ -1,4 +1,4 @@
-//! Whether a message keeps to the limits.
+//! The check of a message against the limits.
 
 ghost use Rattle.std.specs.Prelude.{◌≡◌, ◌+◌, ◌<◌, ◌≤◌, ◌↔◌, IsTrue, IfSome, IfNone, length};
 ghost use Rattle.fast_value.specs.meaning.Kinds.{text_of};
@@ -9,15 +9,15 @@ ghost use Rattle.fast_spelling.specs.meaning.Suiting.{IsWithinLimits, AreWithinL
 
 use fast_value::{Item, Limits, Value};
 
-/// Whether every text, every count and the sum of the counts are within the limits.
+/// Returns whether every string, every number of elements and their sum are within the limits.
 pub fn fits_limits(limits: Limits, slots: &[Option<Item>]) -> bool
     ensures { IsTrue result ↔ FitsLimits limits (slots_data slots.now) }
 {
     room_after_slots(limits, slots, limits.max_total).is_some()
 }
 
-/// What the elements of all sequences in the slots leave of the room; `None` where a text or a count is over its limit, or
-/// the room does not suffice.
+/// Returns how many elements of `room` are left after all sequences in the slots; `None` if a string or a number of elements is over its
+/// limit, or `room` is too small.
 #[cycle(room)]
 fn room_after_slots(limits: Limits, slots: &[Option<Item>], room: u32) -> Option<u32>
     ensures some { IfSome result
@@ -34,7 +34,7 @@ fn room_after_slots(limits: Limits, slots: &[Option<Item>], room: u32) -> Option
     Some(left)
 }
 
-/// What the elements of all sequences in the item leave of the room.
+/// Returns how many elements of `room` are left after all sequences in the item; `None` if a limit is passed.
 #[cycle(room)]
 #[inline(always)]
 fn room_after_item(limits: Limits, item: &Item, room: u32) -> Option<u32>
@@ -55,7 +55,7 @@ fn room_after_item(limits: Limits, item: &Item, room: u32) -> Option<u32>
     }
 }
 
-/// Whether so many elements are more than a sequence may have.
+/// Returns whether `count` elements are more than a sequence may have.
 #[inline(always)]
 fn has_too_many(limits: Limits, count: usize) -> bool
     ensures { IsTrue result ↔ limits.max_elements < count }
@@ -63,7 +63,7 @@ fn has_too_many(limits: Limits, count: usize) -> bool
     count > limits.max_elements as usize
 }
 
-/// What the elements of a sequence, and those of all sequences in them, leave of the room.
+/// Returns how many elements of `room` are left after those of a sequence and of all sequences within them; `None` if a limit is passed.
 #[cycle(room)]
 #[inline(always)]
 fn room_after_sequence(limits: Limits, rows: &[Vec<Option<Item>>], room: u32) -> Option<u32>
@@ -84,7 +84,7 @@ fn room_after_sequence(limits: Limits, rows: &[Vec<Option<Item>>], room: u32) ->
     Some(left)
 }
 
-/// The length of a text, 0 of a number.
+/// Returns the length of a string or byte vector in bytes, 0 for a number.
 #[inline(always)]
 pub fn text_len(value: &Value) -> usize
     ensures { result ≡ length (text_of (value_data value.now)) }

@@ -1,4 +1,4 @@
-//! A whole message: its map, its identifier, and its instructions.
+//! Whole messages: presence map, template identifier and instructions.
 
 ghost use Rattle.std.specs.Prelude.{◌≡◌, ◌<◌, if◌then◌else◌, Some, OnOk, IfErr};
 ghost use Rattle.fast_value.specs.meaning.Views.{message_data, slots_data};
@@ -24,11 +24,11 @@ use crate::writing::write_body;
 use fast_template::{FieldInstruction, Operator, Templates};
 use fast_value::{Kind, Limits, Message, Scalar};
 
-/// Writes a message that suits its template, which has this identifier, and the limits. The draft holds nothing else then.
+/// Writes a message that suits its template, which has this identifier, and the limits. It replaces the content of the draft.
 ///
 /// # Errors
 ///
-/// E3, R9; memory was refused. Then the draft is of no use.
+/// E3, R9, or `Memory` if an allocation failed. The draft is then unusable.
 pub fn write_message(
     templates: &Templates,
     limits: Limits,
@@ -64,7 +64,7 @@ pub fn write_message(
     draft.close(mark, true)
 }
 
-/// Writes the template identifier (FAST 1.1, Transfer Encoding, Template Identifier). Most often its entry holds it.
+/// Writes the template identifier (FAST 1.1, Transfer Encoding, Template Identifier). Its entry usually holds the same one already.
 #[inline(always)]
 pub fn write_identifier(
     templates: &Templates,
@@ -85,7 +85,7 @@ pub fn write_identifier(
     }
 }
 
-/// The same where its entry may hold another.
+/// Writes the template identifier where its entry may hold another.
 fn write_new_identifier(
     templates: &Templates,
     limits: Limits,
@@ -107,7 +107,7 @@ fn write_new_identifier(
     )
 }
 
-/// The instruction of the template identifier: a mandatory uInt32 with the operator copy, at the first entry.
+/// Returns the instruction of the template identifier: a mandatory `uInt32` with the operator copy, at the first entry.
 fn identifier() -> FieldInstruction
     ensures { field_data result ≡ identifier }
 {
@@ -120,7 +120,7 @@ fn identifier() -> FieldInstruction
     }
 }
 
-/// Resets the dictionary, as a template with the key `reset` does behind the identifier.
+/// Resets the dictionary if `resets`, as a template with the key `reset` does after the template identifier.
 pub fn reset_if(resets: bool, ledger: &mut Ledger)
     ensures now { ledger.new.now ≡ (if resets then reset ledger.old.now else ledger.old.now) }
     ensures keeps { Keeps ledger.old ledger.new }

@@ -1,4 +1,4 @@
-//! What stands in a message where an instruction has no slots of its own: absence, and a decimal by parts.
+//! Instructions without slots of their own: absent ones, and decimals by parts.
 
 ghost use Rattle.std.specs.Prelude.{◌≡◌, ◌<◌, ℕ, length, Some, None, option_map, OnOk, IfErr, IfSome};
 ghost use Rattle.fast_value.specs.meaning.Messages.{one};
@@ -55,7 +55,7 @@ pub fn write_decimal(
     }
 }
 
-/// Writes the absence of what the instruction of a node stands for.
+/// Writes the absence of a node's field, group or sequence.
 #[inline(always)]
 pub fn write_absent(
     templates: &Templates,
@@ -83,7 +83,7 @@ pub fn write_absent(
     }
 }
 
-/// The field whose absence is that of the whole instruction: the field itself, an exponent, a length. A group has none.
+/// Returns the field whose absence is that of the whole instruction: the field itself, an exponent or a length; `None` for a group.
 #[inline(always)]
 fn head_of(templates: &Templates, node: u32) -> Option<&FieldInstruction>
     requires { node < length (nodes_of templates.now) }

@@ -1,4 +1,4 @@
-//! What an encoder goes by through all messages, and the message in the making.
+//! The constant part of an encoder, and the state that changes with each message.
 
 ghost use Rattle.std.specs.Prelude.{◌≡◌};
 ghost use Rattle.fast_template.specs.meaning.Flat.{nodes_of};
@@ -10,25 +10,25 @@ use crate::ledger::Ledger;
 use fast_template::Templates;
 use fast_value::Limits;
 
-/// What an encoder goes by through all messages.
+/// The part of an encoder that is the same for all messages.
 #[derive(Drop)]
 pub struct Plan<'t> {
     /// The template set.
     pub templates: &'t Templates,
     /// The limits.
     pub limits: Limits,
-    /// What is done at each node, by its number.
+    /// The step of each node, by node number.
     pub steps: Vec<Step>,
     ghost steps_fit: { steps.items ≡ steps_of (nodes_of templates.now) },
 }
 
-/// The message in the making, and the dictionary before and behind it.
+/// The message that is being encoded, and the dictionary.
 #[derive(Drop)]
 pub struct Work {
-    /// The bytes and bits so far.
+    /// The bytes and presence bits so far.
     pub draft: Draft,
     /// The dictionary.
     pub ledger: Ledger,
-    /// How many more elements the message may have.
+    /// The number of elements that the message may still have.
     pub room: u32,
 }

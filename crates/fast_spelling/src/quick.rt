@@ -1,5 +1,5 @@
-//! Fields under the usual operators and previous values: one comparison tells which case of the rule it is. Here they are told apart by
-//! the type of their value, and in `operators` by their operator.
+//! Fields under the usual operators and previous values, for which one comparison decides the case of the rule. This module selects by the
+//! type of the value, `operators` by the operator.
 
 mod absences;
 mod choices;
@@ -35,7 +35,7 @@ pub use operators::{
 ///
 /// # Errors
 ///
-/// E3; memory was refused. Then the draft is of no use.
+/// E3, or `Memory` if an allocation failed. The draft is then unusable.
 #[tactic(auto, using(crate::proofs::rules::Usual::plain_ruled, crate::proofs::rules::Usual::number_sendable))]
 #[inline(always)]
 pub fn write_unsigned(
@@ -58,7 +58,7 @@ pub fn write_unsigned(
     write_kept_unsigned(draft, ledger, field, number)
 }
 
-/// The same for any operator, in a call of its own.
+/// Writes a field that has an unsigned integer, for any operator.
 fn write_kept_unsigned(
     draft: &mut Draft,
     ledger: &mut Ledger,
@@ -88,7 +88,7 @@ fn write_kept_unsigned(
 ///
 /// # Errors
 ///
-/// E3; memory was refused. Then the draft is of no use.
+/// E3, or `Memory` if an allocation failed. The draft is then unusable.
 pub fn write_signed(
     draft: &mut Draft,
     ledger: &mut Ledger,
@@ -118,7 +118,7 @@ pub fn write_signed(
 ///
 /// # Errors
 ///
-/// E3, R9; memory was refused. Then the draft is of no use.
+/// E3, R9, or `Memory` if an allocation failed. The draft is then unusable.
 pub fn write_ascii(
     draft: &mut Draft,
     ledger: &mut Ledger,
@@ -137,7 +137,7 @@ pub fn write_ascii(
     write_other(draft, ledger, field, Scalar::Ascii(text))
 }
 
-/// The same for a Unicode string.
+/// Writes a field that has a Unicode string.
 pub fn write_unicode(
     draft: &mut Draft,
     ledger: &mut Ledger,
@@ -156,7 +156,7 @@ pub fn write_unicode(
     write_other(draft, ledger, field, Scalar::Unicode(text))
 }
 
-/// The same for a byte vector.
+/// Writes a field that has a byte vector.
 pub fn write_bytes(
     draft: &mut Draft,
     ledger: &mut Ledger,
@@ -179,7 +179,7 @@ pub fn write_bytes(
 ///
 /// # Errors
 ///
-/// E3; memory was refused. Then the draft is of no use.
+/// E3, or `Memory` if an allocation failed. The draft is then unusable.
 pub fn write_whole_decimal(
     draft: &mut Draft,
     ledger: &mut Ledger,
@@ -199,11 +199,11 @@ pub fn write_whole_decimal(
     write_other(draft, ledger, field, Scalar::Dec { exponent, mantissa })
 }
 
-/// Writes a field that has a text or a decimal.
+/// Writes a field that has a string, a byte vector or a decimal.
 ///
 /// # Errors
 ///
-/// E3, R9; memory was refused. Then the draft is of no use.
+/// E3, R9, or `Memory` if an allocation failed. The draft is then unusable.
 #[inline(always)]
 fn write_other(
     draft: &mut Draft,

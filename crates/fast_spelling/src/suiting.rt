@@ -1,4 +1,4 @@
-//! Whether a message suits its template.
+//! The check of a message against its template.
 
 ghost use Rattle.std.specs.Prelude.{◌≡◌, ◌↔◌, ◌<◌, ◌^◌, All, length, IsTrue, IsUtf8, Some, None, option_map};
 ghost use Rattle.fast_value.specs.meaning.Kinds.{U, I, Dec};
@@ -14,7 +14,7 @@ ghost use Rattle.fast_spelling.specs.meaning.Suiting.{IsRight, AreRight, Suits, 
 use fast_template::{Shape, Templates};
 use fast_value::{Item, Kind, Value};
 
-/// Whether there is one slot for each of these nodes, and no other.
+/// Returns whether there is exactly one slot for each of these nodes.
 #[inline(always)]
 pub(crate) fn has_slot_for_each(body: &[u32], slots: &[Option<Item>]) -> bool
     ensures { IsTrue result ↔ length body.now ≡ length slots.now }
@@ -22,7 +22,7 @@ pub(crate) fn has_slot_for_each(body: &[u32], slots: &[Option<Item>]) -> bool
     body.len() == slots.len()
 }
 
-/// Whether the slots suit the instructions of these nodes.
+/// Returns whether the slots suit the instructions of these nodes.
 #[cycle(suits)]
 pub fn suits_body(templates: &Templates, body: &[u32], slots: &[Option<Item>]) -> bool
     requires { AreBelow (length (nodes_of templates.now)) body.now }
@@ -39,7 +39,7 @@ pub fn suits_body(templates: &Templates, body: &[u32], slots: &[Option<Item>]) -
     true
 }
 
-/// Whether the slot suits the instruction of a node.
+/// Returns whether the slot suits the instruction of a node.
 #[cycle(suits)]
 #[inline(always)]
 fn suits_slot(templates: &Templates, node: u32, slot: &Option<Item>) -> bool
@@ -52,7 +52,7 @@ fn suits_slot(templates: &Templates, node: u32, slot: &Option<Item>) -> bool
     }
 }
 
-/// Whether the item suits the instruction of a node.
+/// Returns whether the item suits the instruction of a node.
 #[cycle(suits)]
 #[inline(always)]
 pub fn suits_item(templates: &Templates, node: u32, item: &Item) -> bool
@@ -70,7 +70,7 @@ pub fn suits_item(templates: &Templates, node: u32, item: &Item) -> bool
     }
 }
 
-/// Whether the elements suit the instructions of these nodes, and are few enough to be counted.
+/// Returns whether the elements suit the instructions of these nodes, and their number fits in 32 bits.
 #[cycle(suits)]
 #[inline(always)]
 fn suits_rows(templates: &Templates, body: &[u32], rows: &[Vec<Option<Item>>]) -> bool
@@ -90,7 +90,7 @@ fn suits_rows(templates: &Templates, body: &[u32], rows: &[Vec<Option<Item>>]) -
     true
 }
 
-/// Whether what the instruction of a node stands for may be absent.
+/// Returns whether the field, group or sequence of a node may be absent.
 #[inline(always)]
 pub fn may_be_absent(templates: &Templates, node: u32) -> bool
     requires { node < length (nodes_of templates.now) }
@@ -104,7 +104,7 @@ pub fn may_be_absent(templates: &Templates, node: u32) -> bool
     }
 }
 
-/// Whether the value is one of the kind.
+/// Returns whether the value is one of the type (`kind`).
 #[inline(always)]
 pub fn is_right(kind: Kind, value: &Value) -> bool
     ensures { IsTrue result ↔ IsRight kind (value_data value.now) }
@@ -119,7 +119,7 @@ pub fn is_right(kind: Kind, value: &Value) -> bool
     }
 }
 
-/// Whether an unsigned integer is one of the kind.
+/// Returns whether an unsigned integer is one of the type (`kind`).
 #[inline(always)]
 pub fn is_unsigned(kind: Kind, number: u64) -> bool
     ensures { IsTrue result ↔ IsRight kind (U number) }
@@ -130,7 +130,7 @@ pub fn is_unsigned(kind: Kind, number: u64) -> bool
     kind == Kind::UInt64
 }
 
-/// Whether a signed integer is one of the kind.
+/// Returns whether a signed integer is one of the type (`kind`).
 #[inline(always)]
 pub fn is_signed(kind: Kind, number: i64) -> bool
     ensures { IsTrue result ↔ IsRight kind (I number) }
@@ -141,7 +141,7 @@ pub fn is_signed(kind: Kind, number: i64) -> bool
     kind == Kind::Int64
 }
 
-/// Whether a decimal is one of the kind.
+/// Returns whether a decimal is one of the type (`kind`).
 #[inline(always)]
 pub fn is_decimal(kind: Kind, exponent: i32, mantissa: i64) -> bool
     ensures { IsTrue result ↔ IsRight kind (Dec exponent mantissa) }
@@ -149,7 +149,7 @@ pub fn is_decimal(kind: Kind, exponent: i32, mantissa: i64) -> bool
     matches!(kind, Kind::Decimal) && -63 <= exponent && exponent <= 63
 }
 
-/// Whether a text is of characters below U+0080.
+/// Returns whether a string has only characters below U+0080. A single character, the most frequent case, is checked directly.
 fn is_ascii(text: &[u8]) -> bool
     ensures { IsTrue result ↔ All (λ c. c < 128) text.now }
 {
@@ -159,14 +159,14 @@ fn is_ascii(text: &[u8]) -> bool
     is_long_ascii(text)
 }
 
-/// The same for a text of any length.
+/// Returns whether a string of any length has only characters below U+0080.
 fn is_long_ascii(text: &[u8]) -> bool
     ensures { IsTrue result ↔ All (λ c. c < 128) text.now }
 {
     text.is_ascii()
 }
 
-/// Whether a text is UTF-8.
+/// Returns whether a string is valid UTF-8.
 fn is_utf8(text: &[u8]) -> bool
     ensures { IsTrue result ↔ IsUtf8 text.now }
 {

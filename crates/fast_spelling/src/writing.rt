@@ -1,4 +1,4 @@
-//! The instructions of a message: slots, groups and sequences.
+//! The body of a message: slots, groups and sequences.
 
 ghost use Rattle.std.specs.Prelude.{◌<◌, length, Some, OnOk, IfErr};
 ghost use Rattle.fast_value.specs.meaning.Views.{item_data, slots_data};
@@ -24,7 +24,7 @@ use fast_value::{Item, Limits, Scalar};
 ///
 /// # Errors
 ///
-/// E3, R9; memory was refused. Then the draft is of no use.
+/// E3, R9, or `Memory` if an allocation failed. The draft is then unusable.
 #[cycle(write)]
 pub fn write_body(
     templates: &Templates,

@@ -1,4 +1,4 @@
-//! What is absent, by operator.
+//! Absent fields, by operator, checked as they are written.
 
 ghost use Rattle.std.specs.Prelude.{None, ◌≡◌, ◌<◌, length, OnOk};
 ghost use Rattle.fast_template.specs.meaning.Flat.{nodes_of};
@@ -19,7 +19,7 @@ use crate::suiting::may_be_absent;
 use fast_template::Operator;
 use fast_value::Kind;
 
-/// Writes the absence of what the instruction of a node stands for.
+/// Writes the absence of a node's field, group or sequence.
 #[inline(always)]
 pub fn try_none(plan: &Plan<'_>, node: u32, work: &mut Work) -> Result<(), EncodeFault>
     requires node { node < length (nodes_of plan.now.templates.now) }

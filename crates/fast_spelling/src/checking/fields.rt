@@ -1,4 +1,4 @@
-//! Values of fields that are there, by operator.
+//! Present fields, by operator, checked as they are written.
 
 ghost use Rattle.std.specs.Prelude.{◌≡◌, ◌<◌, ◌≤◌, length, Some, OnOk};
 ghost use Rattle.fast_value.specs.meaning.Messages.{one};
@@ -27,7 +27,7 @@ use crate::quick::{
 use fast_template::{Operator, Shape};
 use fast_value::{Kind, Scalar, Value};
 
-/// Writes an unsigned integer of a field without operator. The field itself is not read.
+/// Writes an unsigned integer of a field without operator, without a look at the field itself.
 #[inline(always)]
 pub fn try_plain_unsigned(
     plan: &Plan<'_>,
@@ -144,7 +144,7 @@ pub fn try_default(
     write_default(&mut work.draft, &mut work.ledger, at, scalar)
 }
 
-/// Writes a value of a field of integers under copy.
+/// Writes an integer under copy.
 #[inline(always)]
 pub fn try_copied(
     plan: &Plan<'_>,
@@ -173,7 +173,7 @@ pub fn try_copied(
     write_copied(&mut work.draft, &mut work.ledger, at, scalar)
 }
 
-/// Writes a value of a field of texts or decimals under copy.
+/// Writes a string, byte vector or decimal under copy.
 #[inline(always)]
 pub fn try_copied_other(
     plan: &Plan<'_>,
@@ -201,7 +201,7 @@ pub fn try_copied_other(
     write_copied_other(&mut work.draft, &mut work.ledger, at, scalar)
 }
 
-/// Writes a value of a field of integers under increment.
+/// Writes an integer under increment.
 #[inline(always)]
 pub fn try_next(
     plan: &Plan<'_>,
@@ -230,7 +230,7 @@ pub fn try_next(
     write_next(&mut work.draft, &mut work.ledger, at, scalar)
 }
 
-/// Writes a value of a field of integers under delta.
+/// Writes an integer under delta.
 #[inline(always)]
 pub fn try_difference(
     plan: &Plan<'_>,
@@ -259,7 +259,7 @@ pub fn try_difference(
     write_difference(&mut work.draft, &mut work.ledger, at, scalar)
 }
 
-/// Writes a value of a field under any operator, as the rule chooses.
+/// Writes a value of a field under any operator, by the rule that chooses what is sent.
 #[inline(always)]
 pub fn try_chosen(
     plan: &Plan<'_>,

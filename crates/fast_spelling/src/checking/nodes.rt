@@ -1,4 +1,4 @@
-//! What is known of the node at which a message is.
+//! The field of a node, and the part of it that is known from the node's step.
 
 ghost use Rattle.std.specs.Prelude.{slice_get, ℕ, ◌≡◌, ◌<◌, length, Some};
 ghost use Rattle.fast_template.specs.meaning.Flat.{field_data, nodes_of, tree_of};
@@ -18,7 +18,7 @@ use crate::plan::Plan;
 use fast_template::{FieldInstruction, Operator, Shape};
 use fast_value::Kind;
 
-/// The form of a node.
+/// Returns the form of a node.
 #[inline(always)]
 pub fn form_at(plan: &Plan<'_>, node: u32) -> Form
     requires { node < length (nodes_of plan.now.templates.now) }
@@ -27,7 +27,7 @@ pub fn form_at(plan: &Plan<'_>, node: u32) -> Form
     plan.steps[node as usize].form
 }
 
-/// The field of a node that is one.
+/// Returns the field of a node, which must be one.
 #[inline(always)]
 pub fn field_at<'t>(
     plan: &Plan<'t>,
@@ -53,7 +53,7 @@ pub fn field_at<'t>(
     }
 }
 
-/// Notes, for the proof alone, what field the node is.
+/// Notes, for the proof alone, that the node is a field of this type and operator. Has no other effect.
 #[inline(always)]
 pub fn note_field(plan: &Plan<'_>, node: u32, kind: Kind, operator: Operator)
     requires node { node < length (nodes_of plan.now.templates.now) }
@@ -64,7 +64,7 @@ pub fn note_field(plan: &Plan<'_>, node: u32, kind: Kind, operator: Operator)
     plan.templates.node(node);
 }
 
-/// The field of a node that is one, with what its step says of it.
+/// Returns the field of a node, which must be one, with its type, its nullability and its entry taken from the node's step.
 #[inline(always)]
 pub fn known_at<'t>(plan: &Plan<'t>, node: u32, kind: Kind, operator: Operator) -> Known<'t>
     requires node { node < length (nodes_of plan.now.templates.now) }

@@ -1,4 +1,4 @@
-//! Values of a type, no longer than a text may be.
+//! Values of a type, within the limit on the length of a string.
 
 ghost use Rattle.std.specs.Prelude.{[], IfSome, IsSome, ◌≡◌, ◌≤◌, length, IsTrue};
 ghost use Rattle.fast_spelling.specs.meaning.Suiting.{IsRight};
@@ -10,8 +10,8 @@ use crate::measuring::text_len;
 use crate::suiting::{is_decimal, is_right, is_signed, is_unsigned};
 use fast_value::{Kind, Limits, Scalar, Value};
 
-/// The value, if it is one of the kind, and no longer than a text may be. Where the kind is known when this is compiled, so is the form of
-/// what it gives.
+/// Returns the value if it is one of the type (`kind`), and within `max_text`; else `None`. If the type is known at compile time, so is the
+/// variant of the result.
 #[inline(always)]
 pub fn right_value<'a>(limits: Limits, kind: Kind, value: &'a Value) -> Option<Scalar<'a>>
     ensures { IfSome result (λ v. (scalar_data v ≡ value_data value.now) × IsRight kind (value_data value.now)
@@ -25,7 +25,7 @@ pub fn right_value<'a>(limits: Limits, kind: Kind, value: &'a Value) -> Option<S
     }
 }
 
-/// The value, if it is one of a type of integers.
+/// Returns the value if it is one of an integer type; else `None`.
 #[inline(always)]
 pub fn right_number(kind: Kind, value: &Value) -> Option<Scalar<'static>>
     ensures { IfSome result (λ v. (scalar_data v ≡ value_data value.now) × IsRight kind (value_data value.now)
@@ -37,7 +37,7 @@ pub fn right_number(kind: Kind, value: &Value) -> Option<Scalar<'static>>
     }
 }
 
-/// The same for a kind of unsigned integers.
+/// Returns the value if it is one of an unsigned integer type; else `None`.
 #[inline(always)]
 pub fn right_unsigned(kind: Kind, value: &Value) -> Option<Scalar<'static>>
     ensures value { IfSome result (λ v. scalar_data v ≡ value_data value.now) }
@@ -50,7 +50,7 @@ pub fn right_unsigned(kind: Kind, value: &Value) -> Option<Scalar<'static>>
     }
 }
 
-/// The same for a kind of signed integers.
+/// Returns the value if it is one of a signed integer type; else `None`.
 #[inline(always)]
 fn right_signed(kind: Kind, value: &Value) -> Option<Scalar<'static>>
     ensures value { IfSome result (λ v. scalar_data v ≡ value_data value.now) }
@@ -63,7 +63,7 @@ fn right_signed(kind: Kind, value: &Value) -> Option<Scalar<'static>>
     }
 }
 
-/// The same for decimals.
+/// Returns the value if it is a decimal; else `None`.
 #[inline(always)]
 fn right_decimal(value: &Value) -> Option<Scalar<'static>>
     ensures value { IfSome result (λ v. scalar_data v ≡ value_data value.now) }
@@ -81,7 +81,7 @@ fn right_decimal(value: &Value) -> Option<Scalar<'static>>
     }
 }
 
-/// The same for a kind of texts.
+/// Returns the value if it is one of a string or byte vector type, and within `max_text`; else `None`.
 #[inline(always)]
 fn right_text<'a>(limits: Limits, kind: Kind, value: &'a Value) -> Option<Scalar<'a>>
     ensures { IfSome result (λ v. (scalar_data v ≡ value_data value.now) × IsRight kind (value_data value.now)
@@ -98,7 +98,7 @@ fn right_text<'a>(limits: Limits, kind: Kind, value: &'a Value) -> Option<Scalar
     }
 }
 
-/// Whether the value is one of the kind, and no longer than a text may be.
+/// Returns whether the value is one of the type, and within `max_text`.
 #[inline(always)]
 pub fn may_be(limits: Limits, kind: Kind, value: &Value) -> bool
     ensures { IsTrue result → IsRight kind (value_data value.now)

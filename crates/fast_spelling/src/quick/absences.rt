@@ -1,4 +1,4 @@
-//! Fields that are absent.
+//! Absent fields.
 
 ghost use Rattle.std.specs.Prelude.{◌≡◌, None, OnOk, IfErr};
 ghost use Rattle.fast_value.specs.declared.settings.Limits.{Limits};
@@ -19,7 +19,7 @@ use crate::ledger::Ledger;
 use fast_dict::Sent;
 use fast_template::{FieldInstruction, Operator};
 
-/// Writes the absence of a field under default: without an initial value nothing is sent.
+/// Writes the absence of a field under default: without an initial value, nothing is sent.
 #[inline(always)]
 pub fn write_no_default(
     draft: &mut Draft,
@@ -41,7 +41,7 @@ pub fn write_no_default(
     }
 }
 
-/// Writes the absence of a field under copy: where the entry holds an absence nothing is sent.
+/// Writes the absence of a field under copy: if the entry is empty already, nothing is sent.
 #[inline(always)]
 pub fn write_no_copy(
     draft: &mut Draft,
@@ -67,7 +67,7 @@ pub fn write_no_copy(
 ///
 /// # Errors
 ///
-/// E3; memory was refused. Then the draft is of no use.
+/// E3, or `Memory` if an allocation failed. The draft is then unusable.
 pub fn write_none(
     draft: &mut Draft,
     ledger: &mut Ledger,
@@ -107,7 +107,7 @@ pub fn write_none(
     }
 }
 
-/// Writes a field that is absent, as the rule chooses.
+/// Writes a field that is absent, by the rule that chooses what is sent.
 #[cold]
 fn choose_none(
     draft: &mut Draft,

@@ -1,4 +1,4 @@
-//! Values of which more than one comparison tells what is sent.
+//! Values for which more than one comparison decides what is sent.
 
 ghost use Rattle.std.specs.Prelude.{◌≡◌, Some, OnOk, IfErr};
 ghost use Rattle.fast_value.specs.declared.settings.Limits.{Limits};
@@ -20,8 +20,8 @@ use crate::ledger::Ledger;
 use fast_template::{FieldInstruction, Operator};
 use fast_value::Scalar;
 
-/// Writes a field that has a value, as the rule chooses. The parts of the value are handed on, so that it does not stand in memory
-/// where it is not wanted.
+/// Writes a field that has a value, by the rule that chooses what is sent. It passes on the parts of the value, so that the value is not
+/// stored in memory.
 #[inline(always)]
 pub fn choose_value(
     draft: &mut Draft,
@@ -50,7 +50,7 @@ pub fn choose_value(
     }
 }
 
-/// The same for an unsigned integer.
+/// Writes a field that has an unsigned integer, by the rule that chooses what is sent.
 #[cold]
 fn choose_unsigned(
     draft: &mut Draft,
@@ -69,7 +69,7 @@ fn choose_unsigned(
     write_chosen(draft, ledger, field, Some(Scalar::U(number)))
 }
 
-/// The same for a signed integer.
+/// Writes a field that has a signed integer, by the rule that chooses what is sent.
 #[cold]
 fn choose_signed(
     draft: &mut Draft,
@@ -88,7 +88,7 @@ fn choose_signed(
     write_chosen(draft, ledger, field, Some(Scalar::I(number)))
 }
 
-/// The same for a decimal: one under delta has a way of its own.
+/// Writes a field that has a decimal, by the rule that chooses what is sent. Decimals under delta have dedicated code.
 fn choose_decimal(
     draft: &mut Draft,
     ledger: &mut Ledger,
@@ -112,7 +112,7 @@ fn choose_decimal(
     write_chosen(draft, ledger, field, Some(value))
 }
 
-/// The same for an ASCII string.
+/// Writes a field that has an ASCII string, by the rule that chooses what is sent.
 fn choose_ascii(
     draft: &mut Draft,
     ledger: &mut Ledger,
@@ -135,7 +135,7 @@ fn choose_ascii(
     }
 }
 
-/// The same for a Unicode string.
+/// Writes a field that has a Unicode string, by the rule that chooses what is sent.
 fn choose_unicode(
     draft: &mut Draft,
     ledger: &mut Ledger,
@@ -158,7 +158,7 @@ fn choose_unicode(
     }
 }
 
-/// The same for a byte vector.
+/// Writes a field that has a byte vector, by the rule that chooses what is sent.
 fn choose_bytes(
     draft: &mut Draft,
     ledger: &mut Ledger,

@@ -1,4 +1,4 @@
-//! Tails of texts, and deltas of texts and decimals.
+//! Tails of strings and byte vectors; deltas of strings, byte vectors and decimals.
 
 ghost use Rattle.std.specs.Prelude.{◌≡◌, ◌-ℤ◌, Some, OnOk, IfErr};
 ghost use Rattle.fast_value.specs.declared.settings.Limits.{Limits};
@@ -27,7 +27,8 @@ use fast_dict::rule::items::{tail_of, text_delta, text_value};
 use fast_template::Operator;
 use fast_value::Scalar;
 
-/// Writes a text under tail: what the entry holds is not sent, and of another text of its length only what differs.
+/// Writes a string or byte vector under tail: nothing if it equals the previous value; if it has the same length, only the part that
+/// differs.
 #[inline(always)]
 pub fn write_tail(
     draft: &mut Draft,
@@ -59,7 +60,7 @@ pub fn write_tail(
     }
 }
 
-/// Writes a text under delta: what is taken from that which the entry holds, and what comes in its place.
+/// Writes a string or byte vector under delta: the number of bytes to remove from the previous value, and the bytes to add.
 #[inline(always)]
 pub fn write_text_delta(
     draft: &mut Draft,
@@ -88,7 +89,7 @@ pub fn write_text_delta(
     }
 }
 
-/// Writes a decimal under delta: what its exponent and its mantissa are more than those that the entry holds.
+/// Writes a decimal under delta: the differences of its exponent and its mantissa from those of the previous value.
 #[inline(always)]
 pub fn write_decimal_delta(
     draft: &mut Draft,
@@ -117,7 +118,7 @@ pub fn write_decimal_delta(
     }
 }
 
-/// What is sent from one decimal to another.
+/// Returns the delta from one decimal to another.
 #[inline(always)]
 fn decimal_delta(base: Scalar<'_>, value: Scalar<'_>) -> Sent<'static>
     ensures { sent_data result ≡ decimal_delta

@@ -1,4 +1,4 @@
-//! What a field's entry holds beside the value that is to be written.
+//! Comparisons of a field's entry with the value that is to be written.
 
 ghost use Rattle.std.specs.Prelude.{◌≡◌, ◌≤◌, ◌-ℤ◌, ◌↔◌, Some, length, IsTrue, IfSome};
 ghost use Rattle.fast_value.specs.meaning.Kinds.{IsWithin, signed_range, integer_of, exponent_of, mantissa_of, text_of, value_of_integer};
@@ -17,7 +17,7 @@ use fast_dict::operators::integers::integer_of;
 use fast_dict::operators::unsent::next_integer;
 use fast_value::{Kind, Scalar, Value};
 
-/// Whether the value is the field's initial value.
+/// Returns whether the value is the field's initial value.
 #[inline(always)]
 pub fn is_initial(at: Known<'_>, value: Scalar<'_>) -> bool
     ensures { IsTrue result ↔ ((field_data at.entry.field.now).initial ≡ Some (scalar_data value.entry)) }
@@ -31,7 +31,7 @@ pub fn is_initial(at: Known<'_>, value: Scalar<'_>) -> bool
     }
 }
 
-/// Whether the field's entry holds that a field was absent.
+/// Returns whether the field's entry is empty.
 #[inline(always)]
 pub fn is_empty_in(ledger: &Ledger, at: Known<'_>) -> bool
     requires { IsServed ledger.now (field_data at.field.now) }
@@ -40,7 +40,8 @@ pub fn is_empty_in(ledger: &Ledger, at: Known<'_>) -> bool
     matches!(previous_of(ledger, at), Previous::Empty)
 }
 
-/// The value that the field's entry holds, if it holds one of the field's type, and of the value's form. A text is lent.
+/// Returns the value of the field's entry, with its string borrowed; `None` if it is not of the field's type, or not of the same variant as
+/// `value`.
 #[inline(always)]
 pub fn held_in<'a>(ledger: &'a Ledger, at: Known<'_>, value: Scalar<'_>) -> Option<Scalar<'a>>
     requires { IsServed ledger.now (field_data at.field.now) }
@@ -61,7 +62,7 @@ pub fn held_in<'a>(ledger: &'a Ledger, at: Known<'_>, value: Scalar<'_>) -> Opti
     }
 }
 
-/// The same for the value of an integer.
+/// Returns the integer of the field's entry; `None` if it is not of the field's type, or not of the same variant as `value`.
 #[inline(always)]
 pub fn held_number_in(ledger: &Ledger, at: Known<'_>, value: Scalar<'_>) -> Option<Scalar<'static>>
     requires { IsServed ledger.now (field_data at.field.now) }
@@ -79,7 +80,7 @@ pub fn held_number_in(ledger: &Ledger, at: Known<'_>, value: Scalar<'_>) -> Opti
     }
 }
 
-/// Whether a value is the one behind the one that is held.
+/// Returns whether `value` is `held` incremented by one.
 #[inline(always)]
 pub fn is_next(kind: Kind, held: Scalar<'_>, value: Scalar<'_>) -> bool
     ensures { IsTrue result ↔ (value_of_integer kind (incremented (range_of kind) (integer_of (scalar_data held.entry)))
@@ -88,7 +89,7 @@ pub fn is_next(kind: Kind, held: Scalar<'_>, value: Scalar<'_>) -> bool
     is_same(next_integer(kind, held), value)
 }
 
-/// Whether two values are the same: 15e-1 and 150e-2 are not.
+/// Returns whether two values are equal: 15e-1 and 150e-2 are not.
 #[inline(always)]
 pub fn is_same(a: Scalar<'_>, b: Scalar<'_>) -> bool
     ensures { IsTrue result ↔ (scalar_data a.entry ≡ scalar_data b.entry) }
@@ -110,7 +111,7 @@ pub fn is_same(a: Scalar<'_>, b: Scalar<'_>) -> bool
     }
 }
 
-/// Whether two texts are the same. Those of one character are met most often.
+/// Returns whether two strings are equal. The code for a single character is inlined.
 #[inline(always)]
 fn is_same_text(a: &[u8], b: &[u8]) -> bool
     ensures { IsTrue result ↔ (a.now ≡ b.now) }
@@ -124,14 +125,14 @@ fn is_same_text(a: &[u8], b: &[u8]) -> bool
     is_same_long_text(a, b)
 }
 
-/// The same for texts of any length.
+/// Returns whether two strings of any length are equal.
 fn is_same_long_text(a: &[u8], b: &[u8]) -> bool
     ensures { IsTrue result ↔ (a.now ≡ b.now) }
 {
     a == b
 }
 
-/// How much greater one exponent is than another.
+/// Returns the exponent of `a` minus that of `b`.
 #[inline(always)]
 pub fn exponents_apart(a: Scalar<'_>, b: Scalar<'_>) -> i128
     ensures value { result ≡ exponent_of (scalar_data a.entry) -ℤ exponent_of (scalar_data b.entry) }
@@ -140,7 +141,7 @@ pub fn exponents_apart(a: Scalar<'_>, b: Scalar<'_>) -> i128
     exponent_of(a) - exponent_of(b)
 }
 
-/// How much greater one mantissa is than another.
+/// Returns the mantissa of `a` minus that of `b`.
 #[inline(always)]
 pub fn mantissas_apart(a: Scalar<'_>, b: Scalar<'_>) -> i128
     ensures value { result ≡ mantissa_of (scalar_data a.entry) -ℤ mantissa_of (scalar_data b.entry) }
@@ -149,7 +150,7 @@ pub fn mantissas_apart(a: Scalar<'_>, b: Scalar<'_>) -> i128
     mantissa_of(a) - mantissa_of(b)
 }
 
-/// How much greater one integer is than another.
+/// Returns the integer `a` minus the integer `b`.
 #[inline(always)]
 pub fn difference(a: Scalar<'_>, b: Scalar<'_>) -> i128
     ensures value { result ≡ integer_of (scalar_data a.entry) -ℤ integer_of (scalar_data b.entry) }

@@ -1,4 +1,4 @@
-//! Fields that have a value, by their operator.
+//! Present fields, by operator.
 
 ghost use Rattle.std.specs.Prelude.{◌≡◌, Some, OnOk, IfErr};
 ghost use Rattle.fast_value.specs.declared.settings.Limits.{Limits};
@@ -53,7 +53,7 @@ pub fn write_plain(
     )
 }
 
-/// Writes a field under default: its initial value is not sent.
+/// Writes a field under default: nothing is sent for its initial value.
 #[tactic(auto, using(crate::proofs::rules::Usual::default_other, crate::proofs::rules::Usual::value_sendable))]
 #[inline(always)]
 pub fn write_default(
@@ -86,7 +86,7 @@ pub fn write_default(
     )
 }
 
-/// Writes a field under constant: nothing but its initial value can be written.
+/// Writes a field under constant: only its initial value can be written.
 #[tactic(auto, using(crate::proofs::rules::Usual::constant_ruled, crate::proofs::rules::Usual::value_sendable))]
 #[inline(always)]
 pub fn write_constant(
@@ -119,7 +119,7 @@ pub fn write_constant(
     choose_value(draft, ledger, at.field, value)
 }
 
-/// Writes an integer under copy: what the entry holds is not sent.
+/// Writes an integer under copy: nothing is sent if it equals the previous value.
 #[tactic(auto, using(crate::proofs::rules::Usual::copy_other, crate::proofs::rules::Usual::number_sendable))]
 #[inline(always)]
 pub fn write_copied(
@@ -154,7 +154,7 @@ pub fn write_copied(
     }
 }
 
-/// Writes an integer under increment: one more than the entry holds is not sent.
+/// Writes an integer under increment: nothing is sent if it is the previous value plus one.
 #[tactic(auto, using(crate::proofs::rules::Usual::step_other, crate::proofs::rules::Usual::number_sendable))]
 #[inline(always)]
 pub fn write_next(
@@ -191,7 +191,7 @@ pub fn write_next(
     }
 }
 
-/// Writes an integer under delta: what it is more than the entry holds.
+/// Writes an integer under delta: its difference from the previous value.
 #[inline(always)]
 pub fn write_difference(
     draft: &mut Draft,
@@ -219,7 +219,7 @@ pub fn write_difference(
     }
 }
 
-/// Writes a text or a decimal under copy.
+/// Writes a string, a byte vector or a decimal under copy.
 #[tactic(auto, using(crate::proofs::rules::Usual::copy_other, crate::proofs::rules::Usual::value_sendable))]
 #[inline(always)]
 pub fn write_copied_other(
