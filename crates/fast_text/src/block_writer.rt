@@ -1,21 +1,21 @@
-//! A target that hands bytes on in large blocks.
+//! A target that buffers its bytes, and writes them in large blocks.
 
 ghost use Rattle.std.specs.Prelude.{◌≡◌, ◌≤◌, ◌+◌, [], ◌++◌, OnOk, OnErr, IsTrue, length, take};
 ghost use Rattle.fast_text.specs.meaning.Streams.{Appends};
 
 use crate::streams::{Failed, Target};
 
-/// How many bytes are handed on at a time, at most, but for longer pieces.
+/// The size of the buffer in bytes. Pieces that are longer are written directly.
 const BLOCK: usize = 8192;
 
-/// A target that keeps what is written to it, and hands it on to another target when it has no more room, or when it is flushed.
+/// A target that buffers what is written to it, and writes it to another target when the buffer is full, or when it is flushed.
 #[derive(Drop)]
 pub struct BlockWriter<T> {
     inner: T,
     cells: [u8; BLOCK],
-    /// Where what is kept begins in the cells.
+    /// The offset in `cells` at which the buffered bytes start.
     start: usize,
-    /// Where it ends.
+    /// The offset in `cells` at which they end.
     end: usize,
     ghost ordered: { start ≤ end },
     ghost within: { end ≤ 8192 },
@@ -24,7 +24,7 @@ pub struct BlockWriter<T> {
 impl<T: Target> BlockWriter<T> {
     ghost use Rattle.fast_text.specs.meaning.BlockWriter.{kept_of, target_of, with_kept};
 
-    /// A writer over a target, which keeps nothing yet.
+    /// Makes a writer over a target, with an empty buffer.
     pub fn new(inner: T) -> BlockWriter<T>
         ensures written { with_kept T.written result ≡ T.written inner }
         ensures target { target_of result ≡ inner }
@@ -37,7 +37,7 @@ impl<T: Target> BlockWriter<T> {
         }
     }
 
-    /// Hands on all that is kept. Where that fails, what is not handed on is still kept.
+    /// Writes all buffered bytes to the target. If that fails, the bytes that were not written stay in the buffer.
     fn hand_on(&mut self) -> Result<(), Failed>
         ensures kept { Appends (with_kept T.written self.old) (with_kept T.written self.new) [] }
         ensures empty { OnOk result (kept_of self.new ≡ []) }
@@ -55,8 +55,8 @@ impl<T: Target> BlockWriter<T> {
         Ok(())
     }
 
-    /// Keeps the first bytes of a block. All of the block is copied, since that takes no call where its length is known to the
-    /// compiler.
+    /// Adds the first `count` bytes of a block to the buffer. It copies the whole block, which needs no call if the block's length is known
+    /// to the compiler.
     #[inline(always)]
     fn store(&mut self, block: &[u8], count: usize)
         requires room { self.old.end + length block.now ≤ BLOCK }

@@ -1,4 +1,4 @@
-//! What stands before the value of a field on its line, made once for each node, and the line of a message's start.
+//! The prefix of a field's line, up to its value, made once for each node; and the line that starts a message, once for each template.
 
 ghost use Rattle.std.specs.Prelude.{◌≡◌, ◌<◌, ◌≤◌, IfOk, length, take};
 ghost use Rattle.fast_template.specs.meaning.Flat.{tree_of};
@@ -9,22 +9,21 @@ use fast_template::Templates;
 use itoa::Buffer;
 use std::alloc::{AllocError, Global};
 
-/// How long a front is at most, so that it is copied as one block.
+/// The greatest length of a prefix in bytes, so that it is copied as one block.
 const FRONT: usize = 56;
 
-/// What stands before the value of a field on its line, or the line of a message's start. A front of no bytes is not made, since it
-/// is too long.
+/// The prefix of a field's line, up to its value, or the line that starts a message. It is empty if it would be longer than 56 bytes.
 #[derive(Clone, Copy, Debug)]
 pub struct Front {
     pub(crate) cells: [u8; FRONT],
     pub(crate) len: usize,
 }
 
-/// What stands before the value of a field, as it is written.
+/// Returns the prefix of a field's line, up to its value.
 ///
 /// # Errors
 ///
-/// Memory was refused.
+/// An allocation failed.
 fn front_text(alloc: Global, templates: &Templates, node: u32) -> Result<Vec<u8>, AllocError>
     ensures { IfOk result (λ text. text.items ≡ field_front (tree_of templates.now) node) }
 {
@@ -36,11 +35,11 @@ fn front_text(alloc: Global, templates: &Templates, node: u32) -> Result<Vec<u8>
     Ok(text)
 }
 
-/// The line of a message's start, as it is written, with its LF.
+/// Returns the line that starts a message of a template, with its LF.
 ///
 /// # Errors
 ///
-/// Memory was refused.
+/// An allocation failed.
 fn message_text(alloc: Global, templates: &Templates, template: u32) -> Result<Vec<u8>, AllocError>
     ensures { IfOk result (λ text. text.items ≡ message_front (tree_of templates.now) template) }
 {
@@ -50,7 +49,7 @@ fn message_text(alloc: Global, templates: &Templates, template: u32) -> Result<V
     Ok(text)
 }
 
-/// A text as a front.
+/// Copies bytes to a [`Front`], which is empty if they are too long.
 fn front_of(text: &[u8]) -> Front
     ensures short { result.len ≤ length result.cells }
     ensures made { 0 < result.len → take result.len result.cells ≡ text.now }
@@ -66,11 +65,11 @@ fn front_of(text: &[u8]) -> Front
     }
 }
 
-/// The front of a node's field lines.
+/// Returns the prefix of the field lines of a node.
 ///
 /// # Errors
 ///
-/// Memory was refused.
+/// An allocation failed.
 pub(crate) fn field_at(alloc: Global, templates: &Templates, node: u32) -> Result<Front, AllocError>
     ensures { IfOk result (IsFront (field_front (tree_of templates.now)) node) }
 {
@@ -78,11 +77,11 @@ pub(crate) fn field_at(alloc: Global, templates: &Templates, node: u32) -> Resul
     Ok(front_of(text.as_slice()))
 }
 
-/// The line of the start of a template's messages.
+/// Returns the line that starts the messages of a template.
 ///
 /// # Errors
 ///
-/// Memory was refused.
+/// An allocation failed.
 pub(crate) fn message_at(
     alloc: Global,
     templates: &Templates,

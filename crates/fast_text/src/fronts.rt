@@ -1,4 +1,4 @@
-//! The fronts of all nodes and templates of a template set.
+//! The prefixes of lines for all nodes and templates of a template set.
 
 ghost use Rattle.std.specs.Prelude.{◌≡◌, IfOk};
 ghost use Rattle.fast_template.specs.meaning.Flat.{tree_of};
@@ -8,7 +8,7 @@ use crate::front::{Front, field_at, message_at};
 use fast_template::Templates;
 use std::alloc::{AllocError, Global};
 
-/// The fronts of the lines of fields, and the lines of starts of messages, made once for a template set.
+/// The prefixes of field lines, and the lines that start messages, made once for a template set.
 #[derive(Debug, Drop)]
 pub struct Fronts<'a> {
     pub(crate) templates: &'a Templates,
@@ -18,7 +18,7 @@ pub struct Fronts<'a> {
     ghost begun: { AreFronts (message_front (tree_of templates.now)) messages.items },
 }
 
-/// The fronts of the field lines of all nodes.
+/// Returns the prefixes of the field lines of all nodes.
 fn all_fields(alloc: Global, templates: &Templates) -> Result<Vec<Front>, AllocError>
     ensures { IfOk result (λ fronts. AreFronts (field_front (tree_of templates.now)) fronts.items) }
 {
@@ -29,7 +29,7 @@ fn all_fields(alloc: Global, templates: &Templates) -> Result<Vec<Front>, AllocE
     Ok(fronts)
 }
 
-/// The lines of the starts of messages of all templates.
+/// Returns the lines that start the messages of all templates.
 fn all_messages(alloc: Global, templates: &Templates) -> Result<Vec<Front>, AllocError>
     ensures { IfOk result (λ fronts. AreFronts (message_front (tree_of templates.now)) fronts.items) }
 {
@@ -43,11 +43,11 @@ fn all_messages(alloc: Global, templates: &Templates) -> Result<Vec<Front>, Allo
 impl<'a> Fronts<'a> {
     ghost use Rattle.fast_text.specs.meaning.Fronts.{set_of};
 
-    /// The fronts of the nodes and templates of a set.
+    /// Makes the prefixes for the nodes and templates of a set.
     ///
     /// # Errors
     ///
-    /// Memory was refused.
+    /// An allocation failed.
     pub fn new(alloc: Global, templates: &'a Templates) -> Result<Fronts<'a>, AllocError>
         ensures { IfOk result (λ fronts. (set_of fronts).now ≡ templates.entry.now) }
     {

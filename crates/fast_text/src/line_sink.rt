@@ -18,14 +18,13 @@ use fast_lines::holding::event_holds_bytes;
 use fast_stream::{Event, Sink, Stop};
 use fast_template::Templates;
 
-/// A sink that writes a line for each event, with the names of a template set. It takes no memory, and stops only where the
-/// target fails.
+/// A sink that writes a line for each event, with the names of a template set. It allocates nothing, and stops only if the target fails.
 #[derive(Drop)]
 pub struct LineSink<'a, T> {
     templates: &'a Templates,
-    /// What stands before the values of the nodes' fields: of none, or of the first ones.
+    /// The prefixes of field lines, by node; empty, or those of the first nodes.
     fronts: &'a [Front],
-    /// The lines of starts of messages, of no templates or of the first ones.
+    /// The lines that start messages, by template; empty, or those of the first templates.
     messages: &'a [Front],
     target: &'a mut T,
     kept: Room,
@@ -42,7 +41,7 @@ fn put_node<T: Target>(line: &mut LineWriter<'_, T>, templates: &Templates, node
     line.put(node_text(templates, node).as_bytes());
 }
 
-/// Writes what stands before the value of a field.
+/// Writes the prefix of a field's line, up to its value.
 #[inline(always)]
 fn put_field<T: Target>(
     line: &mut LineWriter<'_, T>,
@@ -63,7 +62,7 @@ fn put_field<T: Target>(
     }
 }
 
-/// Writes the line of the start of a message.
+/// Writes the line that starts a message.
 #[inline(always)]
 fn put_message<T: Target>(
     line: &mut LineWriter<'_, T>,
@@ -84,7 +83,7 @@ fn put_message<T: Target>(
     }
 }
 
-/// Writes the line of the start of a group.
+/// Writes the line that starts a group.
 #[inline(always)]
 fn put_group<T: Target>(line: &mut LineWriter<'_, T>, templates: &Templates, node: u32)
     ensures { Writes T.written T.has_failed line.old
@@ -95,7 +94,7 @@ fn put_group<T: Target>(line: &mut LineWriter<'_, T>, templates: &Templates, nod
     line.put(b"\n");
 }
 
-/// Writes the line of the start of a sequence.
+/// Writes the line that starts a sequence.
 #[inline(always)]
 fn put_sequence<T: Target>(
     line: &mut LineWriter<'_, T>,
@@ -143,7 +142,7 @@ fn put_event<T: Target>(
     }
 }
 
-/// A failure of the target is a stop.
+/// Turns a failure of the target into a stop.
 #[inline(always)]
 fn stop_where_failed(outcome: Result<(), Failed>) -> Result<(), Stop>
     ensures { is_ok result ≡ is_ok outcome }
@@ -158,7 +157,7 @@ impl<'a, T: Target> LineSink<'a, T> {
     ghost use Rattle.fast_text.specs.meaning.Fronts.{set_of};
     ghost use Rattle.fast_text.specs.meaning.LineSink.{IsOver};
 
-    /// A sink that writes to a target.
+    /// Makes a sink that writes to a target.
     pub fn new(templates: &'a Templates, target: &'a mut T) -> LineSink<'a, T>
         ensures { IsOver templates.entry target.entry result }
     {
@@ -171,7 +170,7 @@ impl<'a, T: Target> LineSink<'a, T> {
         }
     }
 
-    /// A sink that writes to a target, over the fronts of a set's lines: it writes the same, in less time.
+    /// Makes a sink that writes to a target, and uses the prefixes of a set's lines. It writes the lines of [`LineSink::new`] in less time.
     pub fn with_fronts(fronts: &'a Fronts<'_>, target: &'a mut T) -> LineSink<'a, T>
         ensures { IsOver (set_of fronts.entry.now) target.entry result }
     {

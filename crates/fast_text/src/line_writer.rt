@@ -1,4 +1,4 @@
-//! The parts of a line, one after the other.
+//! Writes lines in parts.
 
 ghost use Rattle.std.specs.Prelude.{◌≡◌, ◌≤◌, [], ◌∷◌, ◌++◌, false, Ok, IsTrue, All, length, take, codes, decimal, flat_map};
 ghost use Rattle.std.specs.Fmt.{signed_decimal};
@@ -12,15 +12,15 @@ use fast_value::Scalar;
 use itoa::write_digits;
 use std::fmt;
 
-/// Writes texts to a target, one after the other, in as few pieces as there is room for. It keeps the first failure, and writes
-/// nothing after it. What is still kept at the end is written by [`LineWriter::finish`].
+/// Writes strings to a target one after the other, in few large pieces, by a buffer. It keeps the first failure, and writes nothing after
+/// it. [`LineWriter::finish`] writes what the buffer holds at the end.
 #[derive(Drop)]
 pub struct LineWriter<'a, T> {
     target: &'a mut T,
-    /// What is not written yet.
+    /// The bytes that are not written yet.
     kept: &'a mut Room,
     outcome: Result<(), Failed>,
-    /// Nothing is kept and nothing has failed: what is put may go into the target's own room.
+    /// True if the buffer is empty and nothing has failed, so that bytes may go directly into the target's own buffer.
     is_free: bool,
     ghost free: { IsTrue is_free → (kept_in kept.now ≡ []) × (outcome ≡ Ok tt) },
 }
@@ -36,26 +36,26 @@ impl<T: Target> fmt::Write for LineWriter<'_, T> {
     }
 }
 
-/// How many digits a number has at most.
+/// The greatest number of digits of a number.
 const DIGITS: usize = 20;
 
-/// How long the letter of a value is, with the space behind it.
+/// The length of the letter of a value, with the space after it.
 const LETTER: usize = 2;
 
-/// How much is copied of an unsigned value: its letter, all digits and the LF, in whole words.
+/// The number of bytes that are copied for an unsigned value: its letter, all digits and the LF, in whole machine words.
 const VALUE: usize = 24;
 
-/// How many bytes are turned into hexadecimal digits at a time.
+/// The number of bytes that are converted to hexadecimal digits at a time.
 const HEX_CHUNK: usize = 32;
 
-/// Whether a byte of a text stands in a line as itself.
+/// Returns whether a byte of a string is written unescaped.
 fn is_plain(byte: u8) -> bool
     ensures { IsTrue result → escaped byte ≡ byte ∷ [] }
 {
     byte != b'"' && byte != b'\\' && byte >= 0x20 && byte != 0x7f
 }
 
-/// How many bytes at the front of a text stand in a line as themselves.
+/// Returns the number of bytes at the start of a string that are written unescaped.
 fn plain_len(text: &[u8]) -> usize
     ensures within { result ≤ length text.now }
     ensures plain { All (λ c. escaped c ≡ c ∷ []) (take result text.now) }
@@ -68,7 +68,7 @@ fn plain_len(text: &[u8]) -> usize
 impl<'a, T: Target> LineWriter<'a, T> {
     ghost use Rattle.fast_text.specs.meaning.LineWriter.{Begins, Finishes, Writes};
 
-    /// A writer that has written nothing. What the room holds is dropped.
+    /// Makes a writer that has written nothing, and empties the buffer `kept`.
     pub fn new(target: &'a mut T, kept: &'a mut Room) -> LineWriter<'a, T>
         ensures { Begins target.entry kept.entry result }
     {
@@ -81,7 +81,7 @@ impl<'a, T: Target> LineWriter<'a, T> {
         }
     }
 
-    /// Writes what is kept to the target.
+    /// Writes the buffered bytes to the target.
     fn write_on(&mut self)
         ensures written { Writes T.written T.has_failed self.old [] self.new }
         ensures empty { kept_in self.new.kept.now ≡ [] }
@@ -93,7 +93,7 @@ impl<'a, T: Target> LineWriter<'a, T> {
         self.kept.clear();
     }
 
-    /// Writes a text to the target where nothing is kept.
+    /// Writes a string to the target; the buffer must be empty.
     fn write_directly(&mut self, text: &[u8])
         requires { kept_in self.old.kept.now ≡ [] }
         ensures { Writes T.written T.has_failed self.old text.now self.new }
@@ -104,7 +104,7 @@ impl<'a, T: Target> LineWriter<'a, T> {
         }
     }
 
-    /// Puts a text that there is no room for behind what is kept.
+    /// Writes a string for which the buffer has no room.
     fn put_past(&mut self, text: &[u8])
         ensures { Writes T.written T.has_failed self.old text.now self.new }
     {
@@ -112,7 +112,7 @@ impl<'a, T: Target> LineWriter<'a, T> {
         self.write_directly(text);
     }
 
-    /// Puts a text behind what was put before. It is inlined so that texts of a known length are stored without a call.
+    /// Writes a string. It is inlined, so that strings of a known length are stored without a call.
     #[inline(always)]
     pub fn put(&mut self, text: &[u8])
         ensures { Writes T.written T.has_failed self.old text.now self.new }
@@ -120,7 +120,7 @@ impl<'a, T: Target> LineWriter<'a, T> {
         self.put_front(text, text.len());
     }
 
-    /// Puts the first bytes of a block behind what was put before.
+    /// Writes the first `count` bytes of a block.
     #[inline(always)]
     pub(crate) fn put_front(&mut self, block: &[u8], count: usize)
         requires { count ≤ length block.now }
@@ -132,7 +132,8 @@ impl<'a, T: Target> LineWriter<'a, T> {
         self.put_behind(block, count);
     }
 
-    /// Puts the first bytes of a block into the target's own room, where nothing else is kept and the target has such room.
+    /// Writes the first `count` bytes of a block into the target's own buffer. Returns false, with nothing written, if bytes are buffered,
+    /// a write has failed, or the target has no such room.
     #[inline(always)]
     fn put_at_once(&mut self, block: &[u8], count: usize) -> bool
         requires { count ≤ length block.now }
@@ -146,7 +147,7 @@ impl<'a, T: Target> LineWriter<'a, T> {
         }
     }
 
-    /// Puts the first bytes of a block behind what is kept.
+    /// Appends the first `count` bytes of a block to the buffer.
     #[inline(never)]
     fn put_behind(&mut self, block: &[u8], count: usize)
         requires { count ≤ length block.now }
@@ -160,7 +161,7 @@ impl<'a, T: Target> LineWriter<'a, T> {
         }
     }
 
-    /// Writes an integer of 0 or more in decimal digits.
+    /// Writes an unsigned integer in decimal digits.
     #[inline(always)]
     pub fn put_unsigned(&mut self, number: u64)
         ensures { Writes T.written T.has_failed self.old (decimal number) self.new }
@@ -170,7 +171,7 @@ impl<'a, T: Target> LineWriter<'a, T> {
         self.put_front(&cells[start..start + DIGITS], DIGITS - start);
     }
 
-    /// Writes an integer in decimal digits, with its sign if it is negative.
+    /// Writes a signed integer in decimal digits.
     pub fn put_signed(&mut self, integer: i64)
         ensures { Writes T.written T.has_failed self.old (signed_decimal integer) self.new }
     {
@@ -182,7 +183,7 @@ impl<'a, T: Target> LineWriter<'a, T> {
         }
     }
 
-    /// Writes a byte of a text, or what stands for it.
+    /// Writes a byte of a string, escaped if necessary.
     fn put_escaped(&mut self, byte: u8)
         ensures { Writes T.written T.has_failed self.old (escaped byte) self.new }
     {
@@ -196,7 +197,7 @@ impl<'a, T: Target> LineWriter<'a, T> {
         }
     }
 
-    /// Writes a text between quotes, with escapes.
+    /// Writes a string in quotes, with escapes.
     pub fn put_quoted(&mut self, text: &[u8])
         ensures { Writes T.written T.has_failed self.old (quoted text.now) self.new }
     {
@@ -214,7 +215,7 @@ impl<'a, T: Target> LineWriter<'a, T> {
         self.put(b"\"");
     }
 
-    /// Writes at most 32 bytes in lower case hexadecimal digits.
+    /// Writes at most 32 bytes as lower case hexadecimal digits.
     fn put_hex_chunk(&mut self, bytes: &[u8])
         requires { length bytes.now ≤ HEX_CHUNK }
         ensures { Writes T.written T.has_failed self.old (flat_map hex_byte bytes.now) self.new }
@@ -225,7 +226,7 @@ impl<'a, T: Target> LineWriter<'a, T> {
         self.put(digits);
     }
 
-    /// Writes bytes in lower case hexadecimal digits.
+    /// Writes bytes as lower case hexadecimal digits.
     pub fn put_hex(&mut self, bytes: &[u8])
         ensures { Writes T.written T.has_failed self.old (flat_map hex_byte bytes.now) self.new }
     {
@@ -237,7 +238,7 @@ impl<'a, T: Target> LineWriter<'a, T> {
         }
     }
 
-    /// Writes the letter of a kind of texts and the space behind it, and a text between quotes.
+    /// Writes the letter of a string type, the space after it, and a string in quotes.
     #[inline(always)]
     fn put_text(&mut self, letter: &[u8], text: &[u8])
         ensures { Writes T.written T.has_failed self.old (letter.now ++ quoted text.now) self.new }
@@ -246,7 +247,7 @@ impl<'a, T: Target> LineWriter<'a, T> {
         self.put_quoted(text);
     }
 
-    /// Writes the letter of a value's kind, a space, and the value.
+    /// Writes the letter of a value's type, a space, and the value.
     pub fn put_value(&mut self, value: Scalar<'_>)
         ensures { Writes T.written T.has_failed self.old (value_text (scalar_data value.entry)) self.new }
     {
@@ -274,7 +275,7 @@ impl<'a, T: Target> LineWriter<'a, T> {
         }
     }
 
-    /// Writes an unsigned value and the LF behind it, in one piece.
+    /// Writes an unsigned value and the LF after it, in one piece.
     #[inline(always)]
     fn put_unsigned_line(&mut self, number: u64)
         ensures { Writes T.written T.has_failed self.old (codes "u " ++ decimal number ++ 0x0A ∷ []) self.new }
@@ -287,7 +288,7 @@ impl<'a, T: Target> LineWriter<'a, T> {
         self.put_front(&cells[at..at + VALUE], LETTER + DIGITS + 1 - at);
     }
 
-    /// Writes a value as [`LineWriter::put_value`] does, and the LF behind it.
+    /// Writes a value as [`LineWriter::put_value`] does, and the LF after it.
     #[inline(always)]
     pub fn put_value_line(&mut self, value: Scalar<'_>)
         ensures { Writes T.written T.has_failed self.old (value_text (scalar_data value.entry) ++ 0x0A ∷ []) self.new }
@@ -301,7 +302,7 @@ impl<'a, T: Target> LineWriter<'a, T> {
         }
     }
 
-    /// Writes what is still kept, and tells whether all was written, or the first failure.
+    /// Writes what the buffer holds. Returns the first failure, if there was one.
     pub fn finish(&mut self) -> Result<(), Failed>
         ensures { Finishes T.written T.has_failed self.old self.new result }
     {

@@ -1,4 +1,4 @@
-//! The names that a template set has for its nodes and templates.
+//! The names of a template set's nodes and templates.
 
 ghost use Rattle.std.specs.Prelude.{◌≡◌};
 ghost use Rattle.fast_template.specs.meaning.Flat.{tree_of};
@@ -6,7 +6,7 @@ ghost use Rattle.fast_lines.specs.meaning.Lines.{template_name, node_name};
 
 use fast_template::Templates;
 
-/// The name of a template, or nothing if the set has no such template.
+/// Returns the name of a template, or an empty string if the set has no such template.
 pub(crate) fn template_text(templates: &Templates, template: u32) -> &str
     ensures { result.now ≡ template_name (tree_of templates.now) template }
 {
@@ -17,7 +17,7 @@ pub(crate) fn template_text(templates: &Templates, template: u32) -> &str
     }
 }
 
-/// The name of a node, or nothing if the set has no such node.
+/// Returns the name of a node, or an empty string if the set has no such node.
 pub(crate) fn node_text(templates: &Templates, node: u32) -> &str
     ensures { result.now ≡ node_name (tree_of templates.now) node }
 {

@@ -1,11 +1,11 @@
-//! What a writer of lines keeps before it writes.
+//! The buffer of a writer of lines.
 
 ghost use Rattle.std.specs.Prelude.{◌≡◌, ◌↔◌, ◌+◌, ◌≤◌, [], ◌++◌, IsTrue, length, take};
 
-/// How many bytes there is room for: most lines are shorter.
+/// The size of the buffer in bytes. Most lines are shorter.
 const ROOM: usize = 512;
 
-/// Room for what a writer keeps before it writes.
+/// The buffer in which a writer keeps bytes before it writes them.
 #[derive(Debug, Drop)]
 pub struct Room {
     cells: [u8; ROOM],
@@ -16,7 +16,7 @@ pub struct Room {
 impl Room {
     ghost use Rattle.fast_text.specs.meaning.Room.{kept_in};
 
-    /// Room in which nothing is kept.
+    /// Makes an empty buffer.
     pub fn new() -> Room
         ensures { kept_in result ≡ [] }
     {
@@ -26,7 +26,7 @@ impl Room {
         }
     }
 
-    /// Keeps nothing any more.
+    /// Empties the buffer.
     #[inline(always)]
     pub(crate) fn clear(&mut self)
         ensures { kept_in self.new ≡ [] }
@@ -34,7 +34,7 @@ impl Room {
         self.len = 0;
     }
 
-    /// What is kept.
+    /// Returns the bytes in the buffer.
     #[inline(always)]
     pub(crate) fn bytes(&self) -> &[u8]
         ensures { result.now ≡ kept_in self.now }
@@ -42,7 +42,7 @@ impl Room {
         &self.cells[..self.len]
     }
 
-    /// Whether there is room for so many bytes more.
+    /// Returns whether the buffer has room for `count` more bytes.
     #[inline(always)]
     pub(crate) fn has_room(&self, count: usize) -> bool
         ensures { IsTrue result ↔ (self.now.len + count ≤ ROOM) }
@@ -50,8 +50,8 @@ impl Room {
         count <= ROOM - self.len
     }
 
-    /// Keeps the first bytes of a block, behind what is kept. All of the block is copied, since that takes no call where its length
-    /// is known to the compiler.
+    /// Appends the first `count` bytes of a block. It copies the whole block, which needs no call if the block's length is known to the
+    /// compiler.
     #[inline(always)]
     pub(crate) fn keep(&mut self, block: &[u8], count: usize)
         requires room { self.old.len + length block.now ≤ ROOM }

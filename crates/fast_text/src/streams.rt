@@ -1,4 +1,4 @@
-//! Readers and writers whose bytes a contract can speak of, and the readers and writers of std.
+//! Readers and writers whose bytes a contract can refer to, and adapters for those of std.
 
 ghost use Rattle.std.specs.Prelude.{◌≡◌, ℕ, ◌≤◌, ◌<◌, List, [], Bool, false, IsTrue, take, length, Option, Some, Ok, IsErr, IfOk, OnOk, OnErr};
 ghost use Rattle.std.specs.Io.KnownBytes.{IsAtEnd};
@@ -20,15 +20,15 @@ impl fmt::Display for Failed {
 
 impl Error for Failed {}
 
-/// Gives bytes.
+/// A reader of bytes.
 pub trait Source {
-    // What reads will give from here on, where it is known.
+    // The bytes that later reads will return, if that is known.
     ghost left: { Self → Option (List ℕ) };
 
     ghost has_failed: { Self → Bool };
 
-    /// Reads into the front of a buffer and answers how many bytes it read. 0 bytes into a buffer that is not empty are the
-    /// end. A read that fails has given nothing.
+    /// Reads into the start of a buffer, and returns the number of bytes read. 0 bytes, if the buffer is not empty, mean the end. A read
+    /// that fails has returned nothing.
     fn read(&mut self, buf: &mut [u8]) -> Result<usize, Failed>
         ensures count { IfOk result (λ n. n ≤ length buf.new) }
         ensures bytes { IfOk result (λ n. Reads (left self.old) (left self.new) (take n buf.new)) }
@@ -37,20 +37,20 @@ pub trait Source {
         ensures fails { OnErr result (IsTrue (has_failed self.new)) }
         ensures stays { OnOk result (has_failed self.new ≡ has_failed self.old) };
 
-    /// Whether a read has failed.
+    /// Returns whether a read has failed.
     fn failed(&self) -> bool
         ensures { result ≡ has_failed self.now };
 }
 
-/// Takes bytes.
+/// A writer of bytes.
 pub trait Target {
-    // What was written so far, where it is known.
+    // The bytes that were written so far, if that is known.
     ghost written: { Self → Option (List ℕ) };
 
     ghost has_failed: { Self → Bool };
 
-    /// Writes a front of a piece and answers how many bytes it wrote: at least one of a piece that is not empty. A write
-    /// that fails has written nothing.
+    /// Writes the start of a piece, and returns the number of bytes written: at least one if the piece is not empty. A write that fails has
+    /// written nothing.
     fn write(&mut self, piece: &[u8]) -> Result<usize, Failed>
         ensures count { IfOk result (λ n. n ≤ length piece.now) }
         ensures some { IfOk result (λ n. 0 < length piece.now → 0 < n) }
@@ -59,18 +59,18 @@ pub trait Target {
         ensures fails { OnErr result (IsTrue (has_failed self.new)) }
         ensures stays { OnOk result (has_failed self.new ≡ has_failed self.old) };
 
-    /// Hands on what the target still keeps to itself, so that it can be seen. A target that keeps nothing does nothing.
+    /// Writes out the bytes that the target buffers, if it does.
     fn flush(&mut self) -> Result<(), Failed>
         ensures kept { Appends (written self.old) (written self.new) [] }
         ensures fails { OnErr result (IsTrue (has_failed self.new)) }
         ensures stays { OnOk result (has_failed self.new ≡ has_failed self.old) };
 
-    /// Whether a write has failed.
+    /// Returns whether a write has failed.
     fn failed(&self) -> bool
         ensures { result ≡ has_failed self.now };
 
-    /// Takes the first bytes of a block into room of its own, where it has room for the whole block, and answers whether it did.
-    /// A target without room of its own never does.
+    /// Appends the first `count` bytes of a block to the target's own buffer, if that has room for the whole block, and returns whether it
+    /// did. A target without a buffer always returns false.
     #[inline(always)]
     fn keep(&mut self, block: &[u8], count: usize) -> bool
         requires { count ≤ length block.now }
@@ -82,7 +82,7 @@ pub trait Target {
         false
     }
 
-    /// Writes a whole piece, or fails when a front of it is written.
+    /// Writes a whole piece. If it fails, a part of the piece may have been written.
     final fn write_all(&mut self, piece: &[u8]) -> Result<(), Failed>
     where
         Self: Sized,
@@ -100,14 +100,14 @@ pub trait Target {
     }
 }
 
-/// Reads the bytes of a slice, and never fails.
+/// A reader of the bytes of a slice. It never fails.
 #[derive(Debug, Drop)]
 pub struct FromBytes<'a> {
     rest: &'a [u8],
 }
 
 impl<'a> FromBytes<'a> {
-    /// A reader of these bytes.
+    /// Makes a reader of these bytes.
     pub fn new(bytes: &'a [u8]) -> FromBytes<'a>
         ensures { ⟦<FromBytes<'a> as Source>⟧.left result ≡ Some bytes.entry.now }
     {
@@ -133,7 +133,7 @@ impl Source for FromBytes<'_> {
     }
 }
 
-/// Writes into a slice that is lent, and fails where the slice is full.
+/// A writer into a borrowed slice. It fails when the slice is full.
 #[derive(Debug, Drop)]
 pub struct ToBytes<'a> {
     cells: &'a mut [u8],
@@ -146,7 +146,7 @@ pub struct ToBytes<'a> {
 impl<'a> ToBytes<'a> {
     ghost use Rattle.fast_text.specs.meaning.ToBytes.{room_of};
 
-    /// A writer that has written nothing.
+    /// Makes a writer that has written nothing.
     pub fn new(cells: &'a mut [u8]) -> ToBytes<'a>
         ensures empty { ⟦<ToBytes<'a> as Target>⟧.written result ≡ Some [] }
         ensures room { room_of result ≡ length cells.old }
@@ -159,14 +159,14 @@ impl<'a> ToBytes<'a> {
         }
     }
 
-    /// What was written.
+    /// Returns the bytes that were written.
     pub fn bytes(&self) -> &[u8]
         ensures { ⟦<ToBytes<'a> as Target>⟧.written self.now ≡ Some result.now }
     {
         &self.cells[..self.len]
     }
 
-    /// How many bytes there is room for.
+    /// Returns the number of bytes that still have room.
     pub fn room(&self) -> usize
         ensures room { result ≡ room_of self.now }
         ensures full_where_failed { IsTrue (⟦<ToBytes<'a> as Target>⟧.has_failed self.now) → result ≡ 0 }
@@ -201,7 +201,7 @@ impl Target for ToBytes<'_> {
     }
 }
 
-/// A reader or a writer of std, and whether a call of it has failed. It gives and takes what that one gives and takes.
+/// A reader or a writer of std, with a flag that says whether a call of it has failed. It reads and writes the same bytes.
 #[derive(Debug, Drop)]
 pub struct Watched<T> {
     inner: T,
@@ -211,7 +211,7 @@ pub struct Watched<T> {
 impl<T> Watched<T> {
     ghost use Rattle.fast_text.specs.meaning.Watched.{inner_of, has_call_failed};
 
-    /// The reader or writer, with no call yet.
+    /// Wraps a reader or a writer, of which no call has failed yet.
     pub fn new(inner: T) -> Watched<T>
         ensures inner { inner_of result ≡ inner }
         ensures good { has_call_failed result ≡ false }
@@ -222,7 +222,7 @@ impl<T> Watched<T> {
         }
     }
 
-    /// How many bytes a read gave; a failure stays known.
+    /// Returns the number of bytes that a read returned, and notes a failure.
     #[inline(always)]
     fn note_read(&mut self, outcome: io::Result<usize>) -> Result<usize, Failed>
         ensures inner { inner_of self.new ≡ inner_of self.old }
@@ -240,7 +240,7 @@ impl<T> Watched<T> {
         }
     }
 
-    /// The reader or writer, as the calls have left it.
+    /// Returns the reader or writer, in the state in which the calls have left it.
     pub fn into_inner(self) -> T
         ensures { result ≡ inner_of self }
     {
