@@ -1,4 +1,4 @@
-//! One line, without its LF.
+//! The parser of one line, without its LF.
 
 ghost use Rattle.std.specs.Prelude.{◌≡◌, ◌≢◌, ◌↔◌, ℕ, ◌<◌, ◌^◌, List, ◌++◌, codes, decimal, IsTrue, IfSome, IfNone};
 ghost use Rattle.fast_lines.specs.meaning.Forms.{LineData, text_of_line, line_data, IsWord, IsForm, keyword_of, IsSpelled, IsNoForm, Gives};
@@ -6,7 +6,7 @@ ghost use Rattle.fast_lines.specs.meaning.Forms.{LineData, text_of_line, line_da
 use crate::numbers::parse_number;
 use crate::values::split_at_byte;
 
-/// What a line says, with names and values that are lent from its text.
+/// A parsed line. Its names and values are borrowed from the input.
 #[derive(Clone, Copy, Debug)]
 pub enum Line<'a> {
     /// The start of a message.
@@ -16,16 +16,16 @@ pub enum Line<'a> {
     },
     /// A field.
     Field {
-        /// Its node.
+        /// The number of its node.
         node: u32,
         /// Its name.
         name: &'a [u8],
-        /// The text of its value, with the letter of its kind.
+        /// Its value, with the letter of its type.
         value: &'a [u8],
     },
     /// The start of a group.
     Group {
-        /// Its node.
+        /// The number of its node.
         node: u32,
         /// Its name.
         name: &'a [u8],
@@ -34,11 +34,11 @@ pub enum Line<'a> {
     GroupEnd,
     /// The start of a sequence.
     Sequence {
-        /// Its node.
+        /// The number of its node.
         node: u32,
         /// Its name.
         name: &'a [u8],
-        /// How many elements it has.
+        /// The number of its elements.
         count: u32,
     },
     /// The start of an element.
@@ -51,7 +51,7 @@ pub enum Line<'a> {
     MessageEnd,
 }
 
-/// The word that a line of more than one word begins with.
+/// The keyword that a line of several words begins with.
 #[derive(Clone, Copy, Debug)]
 enum Keyword {
     /// `message`
@@ -64,11 +64,11 @@ enum Keyword {
     Sequence,
     /// `end`
     End,
-    /// Any other word, which no line begins with.
+    /// Any other word; no line begins with one.
     Other,
 }
 
-/// The keyword that a word is.
+/// Returns the keyword that a word is.
 fn read_keyword(word: &[u8]) -> Keyword
     ensures spelled { IsSpelled result word.now }
     ensures keyword { result ≡ keyword_of word.now }
@@ -88,14 +88,14 @@ fn read_keyword(word: &[u8]) -> Keyword
     }
 }
 
-/// Whether the text is one word.
+/// Returns whether the input is one word.
 fn is_word(text: &[u8]) -> bool
     ensures { IsTrue result ↔ IsWord text.now }
 {
     !text.is_empty() && text.iter().all(|byte| *byte != b' ')
 }
 
-/// A node's number and name.
+/// Parses a node's number and name.
 fn parse_node(text: &[u8]) -> Option<(u32, &[u8])>
     ensures node { IfSome result (λ r. (text.now ≡ decimal r.0 ++ codes " " ++ r.1.now) × IsWord r.1.now) }
     ensures none { IfNone result
@@ -110,7 +110,7 @@ fn parse_node(text: &[u8]) -> Option<(u32, &[u8])>
     }
 }
 
-/// A node's number and name, and what follows the space behind them.
+/// Parses a node's number and name. Returns them with what follows the space after the name.
 fn first_node(text: &[u8]) -> Option<(u32, &[u8], &[u8])>
     ensures node { IfSome result
         (λ r. (text.now ≡ (decimal r.0 ++ codes " " ++ r.1.now) ++ codes " " ++ r.2.now) × IsWord r.1.now) }
@@ -130,7 +130,7 @@ fn first_node(text: &[u8]) -> Option<(u32, &[u8], &[u8])>
     }
 }
 
-/// The line with this behind `message`.
+/// Parses the rest of a line that begins with `message`.
 fn message_line(text: &[u8]) -> Option<Line<'_>>
     ensures line { IfSome result (Gives (codes "message ") text.now) }
     ensures none { IfNone result (IsNoForm Keyword.Message text.now) }
@@ -142,7 +142,7 @@ fn message_line(text: &[u8]) -> Option<Line<'_>>
     }
 }
 
-/// The line with this behind `field`.
+/// Parses the rest of a line that begins with `field`.
 fn field_line(text: &[u8]) -> Option<Line<'_>>
     ensures line { IfSome result (Gives (codes "field ") text.now) }
     ensures none { IfNone result (IsNoForm Keyword.Field text.now) }
@@ -153,7 +153,7 @@ fn field_line(text: &[u8]) -> Option<Line<'_>>
     }
 }
 
-/// The line with this behind `group`.
+/// Parses the rest of a line that begins with `group`.
 fn group_line(text: &[u8]) -> Option<Line<'_>>
     ensures line { IfSome result (Gives (codes "group ") text.now) }
     ensures none { IfNone result (IsNoForm Keyword.Group text.now) }
@@ -164,7 +164,7 @@ fn group_line(text: &[u8]) -> Option<Line<'_>>
     }
 }
 
-/// The line with this behind `sequence`.
+/// Parses the rest of a line that begins with `sequence`.
 fn sequence_line(text: &[u8]) -> Option<Line<'_>>
     ensures line { IfSome result (Gives (codes "sequence ") text.now) }
     ensures none { IfNone result (IsNoForm Keyword.Sequence text.now) }
@@ -178,7 +178,7 @@ fn sequence_line(text: &[u8]) -> Option<Line<'_>>
     }
 }
 
-/// The line with this behind `end`.
+/// Parses the rest of a line that begins with `end`.
 fn end_line(text: &[u8]) -> Option<Line<'_>>
     ensures line { IfSome result (Gives (codes "end ") text.now) }
     ensures none { IfNone result (IsNoForm Keyword.End text.now) }
@@ -196,7 +196,7 @@ fn end_line(text: &[u8]) -> Option<Line<'_>>
     }
 }
 
-/// The line, if the text is of a line's form. The most common ones are told by their first bytes.
+/// Parses a line; `None` if the input has not the form of one. It recognizes the most frequent lines by their first bytes.
 pub fn parse_line(text: &[u8]) -> Option<Line<'_>>
     ensures line { IfSome result (λ l. text.now ≡ text_of_line (line_data l)) }
     ensures form { IfSome result (λ l. IsForm (line_data l)) }
@@ -208,7 +208,7 @@ pub fn parse_line(text: &[u8]) -> Option<Line<'_>>
     }
 }
 
-/// The same, where it may still be an end.
+/// Parses a line that is not a field's, tested first for an end.
 #[inline(always)]
 fn bare_line(text: &[u8]) -> Option<Line<'_>>
     ensures line { IfSome result (λ l. text.now ≡ text_of_line (line_data l)) }
@@ -221,7 +221,7 @@ fn bare_line(text: &[u8]) -> Option<Line<'_>>
     }
 }
 
-/// The same, where it may still be the start of a message.
+/// Parses a line that is neither a field's nor an end, tested first for the start of a message.
 #[inline(always)]
 fn opening_line(text: &[u8]) -> Option<Line<'_>>
     ensures line { IfSome result (λ l. text.now ≡ text_of_line (line_data l)) }
@@ -234,7 +234,7 @@ fn opening_line(text: &[u8]) -> Option<Line<'_>>
     }
 }
 
-/// The line, if the text is of a line's form, told by its first word.
+/// Parses any line, by its first word.
 fn any_line(text: &[u8]) -> Option<Line<'_>>
     ensures line { IfSome result (λ l. text.now ≡ text_of_line (line_data l)) }
     ensures form { IfSome result (λ l. IsForm (line_data l)) }

@@ -1,4 +1,4 @@
-//! The elements of byte vectors are bytes, whatever events and values they stand in.
+//! Proofs that the elements of byte vectors are below 256, in all events and values.
 
 ghost use Rattle.std.specs.Prelude.{◌<◌, All};
 ghost use Rattle.fast_value.specs.meaning.Values.{scalar_data};
@@ -8,7 +8,7 @@ ghost use Rattle.fast_lines.specs.meaning.Values.{HasBytes, HoldsBytes};
 use fast_stream::Event;
 use fast_value::Scalar;
 
-/// The elements of a slice of bytes are below 256.
+/// Proves that the elements of a slice of bytes are below 256.
 #[inline(always)]
 fn elements_are_bytes(bytes: &[u8])
     ensures { All (λ c. c < 256) bytes.now }
@@ -16,7 +16,7 @@ fn elements_are_bytes(bytes: &[u8])
     let _ = bytes.len();
 }
 
-/// So are those of a value.
+/// Proves that the elements of a value's byte vector are below 256.
 #[inline(always)]
 fn value_has_bytes(value: Scalar<'_>)
     ensures { HasBytes (scalar_data value.entry) }
@@ -28,8 +28,8 @@ fn value_has_bytes(value: Scalar<'_>)
     }
 }
 
-/// The elements of a byte vector are bytes in each event that a sink is handed. It does nothing, and costs nothing: a sink calls it
-/// where its contract says so of the events that it takes.
+/// Proves that the elements of an event's byte vector are below 256. It has no effect and no cost: a sink calls it if its own contract says
+/// so of the events that it receives.
 #[inline(always)]
 pub fn event_holds_bytes(event: Event<'_>)
     ensures { HoldsBytes (event_data event.entry) }

@@ -1,4 +1,4 @@
-//! Lines of text for events: what they are, and how one is read.
+//! Lines for events: their definition, and the parser of one line.
 #![tactic(auto)]
 
 pub mod bytes;

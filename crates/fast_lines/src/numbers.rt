@@ -8,11 +8,10 @@ ghost use Rattle.fast_lines.specs.meaning.Numbers.{IsDigits, IsSignedDigits};
 use itoa::Buffer;
 use std::str;
 
-/// The greatest number behind which a digit is taken at once: with it the number still has 64 bits.
+/// The greatest number to which one more digit can be appended without a check: the result still fits in 64 bits.
 const GREATEST: u64 = 1_000_000_000_000_000_000;
 
-/// The integer that a digit and those behind it stand for, where the first is not zero and the integer is not too great to be read at
-/// once. `None` says nothing of the digits.
+/// Parses a non-zero digit and the digits after it, if the integer is small enough for the fast path; `None` says nothing about the digits.
 fn more_digits(first: u8, others: &[u8]) -> Option<u64>
     ensures { IfSome result (λ n. first ∷ others.now ≡ decimal n) }
 {
@@ -34,8 +33,7 @@ fn more_digits(first: u8, others: &[u8]) -> Option<u64>
     Some(number)
 }
 
-/// The integer that decimal digits without leading zeros stand for, where it is not too great to be read at once. `None` says
-/// nothing of the text.
+/// Parses decimal digits without leading zeros, if the integer is small enough for the fast path; `None` says nothing about the input.
 fn short_unsigned(text: &[u8]) -> Option<u64>
     ensures { IfSome result (λ n. text.now ≡ decimal n) }
 {
@@ -48,8 +46,8 @@ fn short_unsigned(text: &[u8]) -> Option<u64>
     more_digits(*first, others)
 }
 
-/// The integer that such digits stand for, behind a minus if it is negative, where it is not too great to be read at once. `None`
-/// says nothing of the text.
+/// Parses decimal digits without leading zeros, after a minus if the integer is negative, if it is small enough for the fast path; `None`
+/// says nothing about the input.
 fn short_signed(text: &[u8]) -> Option<i64>
     ensures { IfSome result (λ x. text.now ≡ signed_decimal x) }
 {
@@ -65,7 +63,7 @@ fn short_signed(text: &[u8]) -> Option<i64>
     }
 }
 
-/// The integer that decimal digits without leading zeros stand for.
+/// Parses decimal digits without leading zeros; `None` if the input is not such digits, or the integer has more than 64 bits.
 pub fn parse_unsigned(text: &[u8]) -> Option<u64>
     ensures number { IfSome result (λ n. text.now ≡ decimal n) }
     ensures none { IfNone result ((n : ℕ) → n < 2 ^ 64 → text.now ≢ decimal n) }
@@ -76,7 +74,7 @@ pub fn parse_unsigned(text: &[u8]) -> Option<u64>
     }
 }
 
-/// The same, by whatever way.
+/// Parses decimal digits without leading zeros, of any length. It is the slow path of [`parse_unsigned`].
 fn long_unsigned(text: &[u8]) -> Option<u64>
     ensures number { IfSome result (λ n. text.now ≡ decimal n) }
     ensures none { IfNone result ((n : ℕ) → n < 2 ^ 64 → text.now ≢ decimal n) }
@@ -90,7 +88,8 @@ fn long_unsigned(text: &[u8]) -> Option<u64>
     }
 }
 
-/// The integer that such digits stand for, behind a minus if it is negative.
+/// Parses decimal digits without leading zeros, after a minus if the integer is negative; `None` if the input is not such digits, or the
+/// integer does not fit in 64 bits.
 pub fn parse_signed(text: &[u8]) -> Option<i64>
     ensures number { IfSome result (λ x. text.now ≡ signed_decimal x) }
     ensures none { IfNone result ((x : ℤ) → IsWithin (signed_range 63) x → text.now ≢ signed_decimal x) }
@@ -101,7 +100,7 @@ pub fn parse_signed(text: &[u8]) -> Option<i64>
     }
 }
 
-/// The same, by whatever way.
+/// Parses decimal digits of any length, after a minus if the integer is negative. It is the slow path of [`parse_signed`].
 fn long_signed(text: &[u8]) -> Option<i64>
     ensures number { IfSome result (λ x. text.now ≡ signed_decimal x) }
     ensures none { IfNone result ((x : ℤ) → IsWithin (signed_range 63) x → text.now ≢ signed_decimal x) }
@@ -115,7 +114,7 @@ fn long_signed(text: &[u8]) -> Option<i64>
     }
 }
 
-/// The same, where it has 32 bits.
+/// Parses decimal digits without leading zeros, after a minus if the integer is negative; `None` if it does not fit in 32 bits.
 pub fn parse_exponent(text: &[u8]) -> Option<i32>
     ensures number { IfSome result (λ x. text.now ≡ signed_decimal x) }
     ensures none { IfNone result ((x : ℤ) → IsWithin (signed_range 31) x → text.now ≢ signed_decimal x) }
@@ -128,7 +127,7 @@ pub fn parse_exponent(text: &[u8]) -> Option<i32>
     }
 }
 
-/// The number of a node, or a count of elements.
+/// Parses the number of a node, or a number of elements.
 pub fn parse_number(text: &[u8]) -> Option<u32>
     ensures number { IfSome result (λ n. text.now ≡ decimal n) }
     ensures none { IfNone result ((n : ℕ) → n < 2 ^ 32 → text.now ≢ decimal n) }
@@ -139,7 +138,7 @@ pub fn parse_number(text: &[u8]) -> Option<u32>
     }
 }
 
-/// Whether the text is decimal digits without leading zeros, however many.
+/// Returns whether the input is decimal digits without leading zeros, of any length.
 pub fn is_digits(text: &[u8]) -> bool
     ensures { IsTrue result ↔ IsDigits text.now }
 {
@@ -149,7 +148,7 @@ pub fn is_digits(text: &[u8]) -> bool
     }
 }
 
-/// The same, where a minus may stand before them.
+/// Returns whether the input is decimal digits without leading zeros, of any length, after an optional minus.
 pub fn is_signed_digits(text: &[u8]) -> bool
     ensures { IsTrue result ↔ IsSignedDigits text.now }
 {

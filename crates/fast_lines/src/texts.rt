@@ -1,4 +1,4 @@
-//! Texts between quotes, as lines have them.
+//! Strings in quotes, as lines have them.
 
 ghost use Rattle.std.specs.Prelude.{◌≡◌, ◌≢◌, ◌↔◌, ℕ, ◌<◌, List, [], ◌∷◌, ◌++◌, IsTrue, All, IfSome, IfNone, IfOk, flat_map};
 ghost use Rattle.fast_lines.specs.meaning.Lines.{hex_digit, hex_byte, escaped, quoted};
@@ -6,42 +6,42 @@ ghost use Rattle.fast_lines.specs.meaning.Texts.{IsMarked, IsControl, IsPlain};
 
 use std::alloc::{AllocError, Global};
 
-/// Whether a byte of a text stands behind a backslash.
+/// Returns whether a byte of a string is written after a backslash.
 fn is_marked(byte: u8) -> bool
     ensures { IsTrue result ↔ IsMarked byte }
 {
     byte == b'"' || byte == b'\\'
 }
 
-/// Whether a byte of a text is written in hexadecimal.
+/// Returns whether a byte of a string is written in hexadecimal.
 fn is_control(byte: u8) -> bool
     ensures { IsTrue result ↔ IsControl byte }
 {
     byte < 0x20 || byte == 0x7f
 }
 
-/// Whether a byte of a text stands as itself.
+/// Returns whether a byte of a string is written unescaped.
 fn is_plain(byte: u8) -> bool
     ensures { IsTrue result ↔ IsPlain byte }
 {
     byte >= 0x20 && byte != 0x7f && byte != b'"' && byte != b'\\'
 }
 
-/// Whether all bytes of a text stand as themselves.
+/// Returns whether all bytes of a string are written unescaped.
 fn are_plain(text: &[u8]) -> bool
     ensures { IsTrue result ↔ All IsPlain text.now }
 {
     text.iter().all(|byte| is_plain(*byte))
 }
 
-/// Whether a text stands between quotes as it is.
+/// Returns whether a string is written between its quotes as it is.
 fn stands_alike(text: &[u8]) -> bool
     ensures { IsTrue result → flat_map escaped text.now ≡ text.now }
 {
     are_plain(text)
 }
 
-/// The number of a lower case hexadecimal digit.
+/// Returns the value of a lower case hexadecimal digit.
 fn digit_value(digit: u8) -> Option<u8>
     ensures value { IfSome result (λ n. (n < 16) × (digit ≡ hex_digit n)) }
     ensures none { IfNone result ((n : ℕ) → n < 16 → digit ≢ hex_digit n) }
@@ -53,7 +53,7 @@ fn digit_value(digit: u8) -> Option<u8>
     }
 }
 
-/// The byte of two such digits.
+/// Returns the byte of two lower case hexadecimal digits.
 fn pair_value(high: u8, low: u8) -> Option<u8>
     ensures value { IfSome result (λ c. high ∷ low ∷ [] ≡ hex_byte c) }
     ensures none { IfNone result ((c : ℕ) → c < 256 → high ∷ low ∷ [] ≢ hex_byte c) }
@@ -64,7 +64,7 @@ fn pair_value(high: u8, low: u8) -> Option<u8>
     }
 }
 
-/// The byte behind `\x`, and what follows it.
+/// Parses the digits after `\x`. Returns the byte and what follows it.
 fn first_control(text: &[u8]) -> Option<(u8, &[u8])>
     ensures first { IfSome result (λ r. 0x5C ∷ 0x78 ∷ text.now ≡ escaped r.0 ++ r.1.now) }
     ensures none { IfNone result ((c : ℕ) (t : List ℕ) → 0x5C ∷ 0x78 ∷ text.now ≢ escaped c ++ t) }
@@ -78,7 +78,7 @@ fn first_control(text: &[u8]) -> Option<(u8, &[u8])>
     }
 }
 
-/// The byte behind a backslash, and what follows it.
+/// Parses an escape after its backslash. Returns the byte and what follows it.
 fn first_escape(text: &[u8]) -> Option<(u8, &[u8])>
     ensures first { IfSome result (λ r. 0x5C ∷ text.now ≡ escaped r.0 ++ r.1.now) }
     ensures none { IfNone result ((c : ℕ) (t : List ℕ) → 0x5C ∷ text.now ≢ escaped c ++ t) }
@@ -95,7 +95,7 @@ fn first_escape(text: &[u8]) -> Option<(u8, &[u8])>
     }
 }
 
-/// The byte that a text between quotes begins with, and what follows it.
+/// Parses the first byte of a string's content. Returns the byte and what follows it.
 fn first_byte(text: &[u8]) -> Option<(u8, &[u8])>
     ensures first { IfSome result (λ r. text.now ≡ escaped r.0 ++ r.1.now) }
     ensures none { IfNone result ((c : ℕ) (t : List ℕ) → text.now ≢ escaped c ++ t) }
@@ -112,7 +112,7 @@ fn first_byte(text: &[u8]) -> Option<(u8, &[u8])>
     }
 }
 
-/// The bytes of a text whose quotes were taken away.
+/// Returns the bytes of a string's content without its quotes; `None` if the content is invalid.
 fn unescape(alloc: Global, text: &[u8]) -> Result<Option<Vec<u8>>, AllocError>
     ensures value { IfOk result (λ o. IfSome o (λ v. text.now ≡ flat_map escaped v.items)) }
     ensures none { IfOk result (λ o. IfNone o ((v : List ℕ) → text.now ≢ flat_map escaped v)) }
@@ -129,7 +129,7 @@ fn unescape(alloc: Global, text: &[u8]) -> Result<Option<Vec<u8>>, AllocError>
     Ok(Some(bytes))
 }
 
-/// The bytes of a text between quotes.
+/// Returns the bytes of a string in quotes; `None` if the input is none.
 pub fn unquote(alloc: Global, text: &[u8]) -> Result<Option<Vec<u8>>, AllocError>
     ensures value { IfOk result (λ o. IfSome o (λ v. text.now ≡ quoted v.items)) }
     ensures none { IfOk result (λ o. IfNone o ((v : List ℕ) → text.now ≢ quoted v)) }

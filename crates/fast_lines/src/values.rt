@@ -14,7 +14,7 @@ use crate::texts::unquote;
 use fast_value::Value;
 use std::alloc::{AllocError, Global};
 
-/// What stands before the first such byte of a text, and behind it.
+/// Splits at the first such byte: returns what precedes it and what follows it.
 pub fn split_at_byte(text: &[u8], byte: u8) -> Option<(&[u8], &[u8])>
     ensures parts { IfSome result (λ r. text.now ≡ r.0.now ++ byte ∷ r.1.now) }
     ensures first { IfSome result (λ r. Lacks byte r.0.now) }
@@ -26,7 +26,7 @@ pub fn split_at_byte(text: &[u8], byte: u8) -> Option<(&[u8], &[u8])>
     }
 }
 
-/// A decimal: the mantissa, `e` and the exponent.
+/// Parses a decimal: the mantissa, `e` and the exponent.
 fn parse_decimal(text: &[u8]) -> Option<(i32, i64)>
     ensures decimal { IfSome result (λ d. text.now ≡ signed_decimal d.1 ++ 0x65 ∷ signed_decimal d.0) }
     ensures none { IfNone result
@@ -42,7 +42,7 @@ fn parse_decimal(text: &[u8]) -> Option<(i32, i64)>
     }
 }
 
-/// Whether the text is a mantissa, `e` and an exponent, however great.
+/// Returns whether the input is a mantissa, `e` and an exponent, of any size.
 fn is_decimal_digits(text: &[u8]) -> bool
     ensures { IsTrue result ↔ IsDecimalDigits text.now }
 {
@@ -52,7 +52,7 @@ fn is_decimal_digits(text: &[u8]) -> bool
     }
 }
 
-/// Whether these are the digits of a number with this letter, however great.
+/// Returns whether these are the digits of a number with this letter, of any size.
 fn is_number_of(letter: u8, digits: &[u8]) -> bool
     ensures { IsTrue result ↔ IsNumberOf letter digits.now }
 {
@@ -64,7 +64,7 @@ fn is_number_of(letter: u8, digits: &[u8]) -> bool
     }
 }
 
-/// Whether the text is a letter and a number of its kind, however great.
+/// Returns whether the input is a letter and a number of its type, of any size.
 pub fn is_number(text: &[u8]) -> bool
     ensures { IsTrue result ↔ IsNumberText text.now }
 {
@@ -74,7 +74,7 @@ pub fn is_number(text: &[u8]) -> bool
     }
 }
 
-/// The value of a field, where it is one that the types of values hold.
+/// Parses the value of a field; `None` if the input is none, or out of the range of the types of values.
 pub fn parse_value(alloc: Global, text: &[u8]) -> Result<Option<Value>, AllocError>
     ensures value { IfOk result (λ o. IfSome o (λ v. text.now ≡ written (value_data v))) }
     ensures none { IfOk result (λ o. IfNone o ((v : ScalarData) → IsHeld v → text.now ≢ written v)) }
