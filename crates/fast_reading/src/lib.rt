@@ -1,4 +1,4 @@
-//! Lines of text back to messages.
+//! Reads lines of events back into messages.
 #![tactic(auto)]
 
 pub mod laws;

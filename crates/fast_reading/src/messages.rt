@@ -1,4 +1,4 @@
-//! Messages of the lines of their events.
+//! Messages from the lines of their events.
 
 ghost use Rattle.std.specs.Prelude.{map, IfOk, IfErr};
 ghost use Rattle.fast_value.specs.meaning.Views.{message_data};
@@ -13,13 +13,13 @@ use fast_template::Templates;
 use fast_value::Message;
 use std::alloc::Global;
 
-/// The messages whose events have these lines. The last LF may be missing.
+/// Returns the messages whose events have these lines. The last LF may be missing.
 ///
-/// Memory and work are linear in the text: nothing is allocated ahead for a count that the text claims.
+/// Memory and time are linear in the input: no allocation depends on a number of elements that the input claims.
 ///
 /// # Errors
 ///
-/// The first line at fault; memory was refused.
+/// `BadLine` for the first invalid line; `Memory` if an allocation failed.
 pub fn read_lines(
     alloc: Global,
     templates: &Templates,
