@@ -1,4 +1,4 @@
-//! The lines of a text, one after the other.
+//! The lines of a file, one after the other.
 
 ghost use Rattle.std.specs.Prelude.{◌≡◌, ◌≢◌, ◌≤◌, ◌∷◌, ◌++◌, length, IsUtf8, IsTrue, IsSome, IfSome, IfNone, IfOk, IfErr};
 ghost use Rattle.fast_lines.specs.meaning.Forms.{LineData, IsForm, line_data, text_of_line};
@@ -14,18 +14,18 @@ use memchr::memchr;
 use std::alloc::Global;
 use std::str;
 
-/// A place in a text: the line ahead, and what follows it.
+/// A position in a file of lines: the next line, and what follows it.
 #[derive(Debug, Drop)]
 pub struct Cursor<'a> {
-    /// The line ahead; `None` where the text ends.
+    /// The next line; `None` at the end.
     pub line: Option<Line<'a>>,
-    /// The value of the line ahead, where that is a field's and the types of values hold it.
+    /// The value of the next line, if that is a field's and the types of values hold it.
     pub value: Option<Value>,
-    /// The number of the line ahead, from 1.
+    /// The number of the next line, from 1.
     pub number: u64,
-    /// What follows the line ahead.
+    /// The input after the next line.
     pub rest: &'a [u8],
-    /// What follows is known to be UTF-8, so that no line of it is looked at again.
+    /// True if `rest` is known to be UTF-8, so that no line of it is checked again.
     pub is_utf8: bool,
     ghost told: { TellsValue line value },
     ghost untold: { TellsNone line value },
@@ -34,7 +34,7 @@ pub struct Cursor<'a> {
     ghost utf8: { IsTrue is_utf8 → ∥ IsUtf8 rest.now ∥₁ },
 }
 
-/// What stands before the first LF of a text, and behind it.
+/// Splits at the first LF: returns what precedes it and what follows it.
 #[inline(always)]
 fn split_at_feed(text: &[u8]) -> Option<(&[u8], &[u8])>
     ensures parts { IfSome result (λ r. text.now ≡ r.0.now ++ 0x0A ∷ r.1.now) }
@@ -47,7 +47,7 @@ fn split_at_feed(text: &[u8]) -> Option<(&[u8], &[u8])>
     }
 }
 
-/// The first line of a text, without its LF, and what follows it. The last line may have none.
+/// Returns the first line without its LF, and what follows it. The last line may have no LF.
 pub fn first_line(text: &[u8]) -> (&[u8], &[u8])
     requires { 1 ≤ length text.now }
     ensures parts { closed text.now ≡ result.0.now ++ 0x0A ∷ closed result.1.now }
@@ -60,7 +60,7 @@ pub fn first_line(text: &[u8]) -> (&[u8], &[u8])
     }
 }
 
-/// The line, if the text is UTF-8 and of a line's form. Where it is known to be UTF-8, that is not looked for.
+/// Parses a line; `None` if it is not UTF-8, or has not the form of a line. `is_utf8` omits the first check.
 pub fn checked_line(text: &[u8], is_utf8: bool) -> Option<Line<'_>>
     requires { IsTrue is_utf8 → IsUtf8 text.now }
     ensures utf8 { IfSome result (λ _. IsUtf8 text.now) }
@@ -75,7 +75,7 @@ pub fn checked_line(text: &[u8], is_utf8: bool) -> Option<Line<'_>>
     }
 }
 
-/// The value of the line of this number, where it is a field's and the types of values hold it.
+/// Parses the value of the line of this number; `None` if the line is not a field's, or the types of values do not hold the value.
 fn value_of(alloc: Global, line: Line<'_>, number: u64) -> Result<Option<Value>, TextFault>
     ensures value { IfOk result (IsValueOf line.entry) }
     ensures line { IfErr result (IsAt number) }
@@ -99,11 +99,11 @@ impl<'a> Cursor<'a> {
     ghost use Rattle.fast_messages.specs.device.Cursors.{ahead, Advances, IsNear};
     ghost use Rattle.fast_messages.specs.device.Refusing.{HasNoNext};
 
-    /// The start of a text.
+    /// Returns the cursor at the start of a file.
     ///
     /// # Errors
     ///
-    /// The first line is not of a line's form; memory was refused.
+    /// The first line has not the form of a line; `Memory` if an allocation failed.
     pub fn new(alloc: Global, text: &'a [u8]) -> Result<Cursor<'a>, TextFault>
         ensures ahead { IfOk result (λ c. ahead c ≡ closed text.entry.now) }
         ensures number { IfOk result (λ c. c.number ≡ 1) }
@@ -113,7 +113,7 @@ impl<'a> Cursor<'a> {
         Cursor::at(alloc, text, 1, str::from_utf8(text).is_ok())
     }
 
-    /// The place before a text whose first line has this number, and which may be known to be UTF-8.
+    /// Returns the cursor before an input whose first line has this number.
     fn at(
         alloc: Global,
         text: &'a [u8],
@@ -152,11 +152,11 @@ impl<'a> Cursor<'a> {
         })
     }
 
-    /// The place before a text that stands behind the line of this number, and which may be known to be UTF-8.
+    /// Returns the cursor after the line of this number, before the rest `text`.
     ///
     /// # Errors
     ///
-    /// The line behind it is not of a line's form; memory was refused.
+    /// The next line has not the form of a line; `Memory` if an allocation failed.
     #[inline(always)]
     pub fn behind(
         alloc: Global,
@@ -170,15 +170,15 @@ impl<'a> Cursor<'a> {
         ensures line { IfErr result (IsNextText number (closed text.entry.now)) }
         ensures refused { IfErr result (OnBadLine (HasNoLines (closed text.entry.now))) }
     {
-        // no text has so many lines that this saturates
+        // No input has enough lines for this to saturate.
         Cursor::at(alloc, text, number.saturating_add(1), is_utf8)
     }
 
-    /// The place behind the line ahead.
+    /// Returns the cursor after the next line.
     ///
     /// # Errors
     ///
-    /// The line behind it is not of a line's form; memory was refused.
+    /// The line after it has not the form of a line; `Memory` if an allocation failed.
     #[inline(always)]
     pub fn advance(self, alloc: Global) -> Result<Cursor<'a>, TextFault>
         requires { IsSome self.line }
@@ -189,7 +189,7 @@ impl<'a> Cursor<'a> {
         Cursor::behind(alloc, self.number, self.rest, self.is_utf8)
     }
 
-    /// That the line ahead is at fault.
+    /// Returns the fault of the next line.
     pub fn fault(&self, kind: LineFault) -> TextFault
         ensures { result ≡ BadLine self.now.number kind }
     {

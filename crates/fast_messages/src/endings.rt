@@ -1,4 +1,4 @@
-//! Lines that open and close the parts of a message, but for those that name something.
+//! Lines without names that open and close the parts of a message.
 
 ghost use Rattle.std.specs.Prelude.{◌≡◌, ◌↔◌, Some, IsTrue, option_map};
 ghost use Rattle.fast_lines.specs.meaning.Forms.{line_data, element, sequence_end};
@@ -6,7 +6,7 @@ ghost use Rattle.fast_messages.specs.device.Naming.{end_line};
 
 use fast_lines::forms::Line;
 
-/// What ends the slots of a body.
+/// The line that ends the slots of a body.
 #[derive(Clone, Copy, Debug)]
 pub enum Ending {
     /// `end message`
@@ -17,7 +17,7 @@ pub enum Ending {
     Element,
 }
 
-/// Whether the line is this ending.
+/// Returns whether the line is this ending.
 pub fn is_ending(ending: Ending, line: Option<Line<'_>>) -> bool
     ensures { IsTrue result ↔ option_map line_data line.entry ≡ Some (end_line ending) }
 {
@@ -28,14 +28,14 @@ pub fn is_ending(ending: Ending, line: Option<Line<'_>>) -> bool
     }
 }
 
-/// Whether the line is the start of an element.
+/// Returns whether the line is the start of an element.
 pub fn is_element(line: Option<Line<'_>>) -> bool
     ensures { IsTrue result ↔ option_map line_data line.entry ≡ Some element }
 {
     matches!(line, Some(Line::Element))
 }
 
-/// Whether the line is the end of a sequence.
+/// Returns whether the line is the end of a sequence.
 pub fn is_sequence_end(line: Option<Line<'_>>) -> bool
     ensures { IsTrue result ↔ option_map line_data line.entry ≡ Some sequence_end }
 {

@@ -1,39 +1,39 @@
-//! What can be wrong with a text of lines.
+//! The faults of a file of lines.
 
 use std::alloc::AllocError;
 use std::error::Error;
 use std::fmt;
 
-/// Why a text is not read.
+/// The error of reading lines.
 #[derive(Clone, Copy, Debug, PartialEq, Eq)]
 pub enum TextFault {
-    /// A line of the text is at fault, or the text ends where a line had to stand.
+    /// A line is invalid, or the input ends where a line is due.
     BadLine {
         /// The number of the first such line, from 1.
         line: u64,
-        /// What is wrong with it: the first of the kinds that applies.
+        /// The fault of the line: the first of the faults, in their order, that applies.
         kind: LineFault,
     },
-    /// Memory was refused.
+    /// An allocation failed.
     Memory,
 }
 
-/// What is wrong with a line.
+/// The fault of a line.
 #[derive(Clone, Copy, Debug, PartialEq, Eq)]
 pub enum LineFault {
-    /// It is not UTF-8, or not of the form of any line.
+    /// It is not UTF-8, or has not the form of any line.
     Form,
-    /// No template has its name.
+    /// No template has this name.
     UnknownTemplate,
-    /// It names nothing that could stand there, whatever is optional and however many elements there are.
+    /// Nothing of its name can come next, whatever is optional and however many elements there are.
     OutOfPlace,
-    /// Its value is none that the field can have.
+    /// Its value is not one of the field.
     WrongValue,
-    /// Something mandatory is left out before it.
+    /// Something mandatory before it is missing.
     PassedOver,
     /// The sequence has not as many elements as its line says.
     WrongCount,
-    /// The text ends where the line had to stand.
+    /// The input ends where a line is due.
     Missing,
 }
 
@@ -41,8 +41,8 @@ impl LineFault {
     ghost use Rattle.std.specs.Prelude.{◌≡◌};
     ghost use Rattle.fast_messages.specs.meaning.Codes.{line_number};
 
-    /// The number of the kind, for a caller that cannot be handed an enum. It is never given to another kind; of two kinds that
-    /// apply to a line the one with the lesser number is told.
+    /// Returns the number of the fault, for callers that cannot receive an enum. No number is ever given to another fault; if several
+    /// faults apply to a line, the one with the least number is reported.
     pub fn number(self) -> u8
         ensures { result ≡ line_number self }
     {

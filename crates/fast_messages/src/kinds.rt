@@ -1,4 +1,4 @@
-//! What is wrong with a line that is not the one that had to stand there.
+//! The fault of a line that is not the one that is due.
 
 ghost use Rattle.std.specs.Prelude.{◌↔◌, ◌<◌, length, slice_index, IsTrue, None};
 ghost use Rattle.fast_tree.specs.meaning.AsWritten.{IsNameByte};
@@ -16,7 +16,7 @@ use fast_spelling::suiting::{may_be_absent, suits_item};
 use fast_template::Templates;
 use fast_value::Item;
 
-/// What is wrong with a line that nothing in this place can have.
+/// Returns the fault of the next line, which nothing at this position can have: `Missing`, `Form`, `UnknownTemplate` or `OutOfPlace`.
 pub fn misplaced(templates: &Templates, line: Option<Line<'_>>) -> LineFault {
     match line {
         None => LineFault::Missing,
@@ -28,7 +28,7 @@ pub fn misplaced(templates: &Templates, line: Option<Line<'_>>) -> LineFault {
     }
 }
 
-/// Whether the name in a line, if it has one, is one that a template or a node can have.
+/// Returns whether the name in a line, if it has one, can be that of a template or a node.
 fn is_named_well(line: Line<'_>) -> bool {
     match line {
         Line::Message { name }
@@ -41,17 +41,17 @@ fn is_named_well(line: Line<'_>) -> bool {
     }
 }
 
-/// The most characters that a name has.
+/// The greatest length of a name in characters.
 const LONGEST_NAME: usize = 64;
 
-/// Whether a name can have the character.
+/// Returns whether a name can contain the character.
 fn is_name_byte(byte: u8) -> bool
     ensures { IsTrue result ↔ IsNameByte byte }
 {
     byte.is_ascii_alphanumeric() || byte == b'_' || byte == b'-' || byte == b'.'
 }
 
-/// Whether the node at this place of a body may be passed over: its field may be absent.
+/// Returns whether the node at index `i` of a body may be omitted: its field may be absent.
 pub fn may_be_passed(templates: &Templates, body: &[u32], i: usize) -> bool
     requires nodes { AreBelow (length (nodes_of templates.now)) body.now }
     requires place { i < length body.now }
@@ -60,7 +60,7 @@ pub fn may_be_passed(templates: &Templates, body: &[u32], i: usize) -> bool
     may_be_absent(templates, body[i])
 }
 
-/// What is wrong with the line ahead, where the first of these nodes is mandatory and the line is not its.
+/// Returns the fault of the next line, if the first of these nodes is mandatory and the line is not one of that node.
 pub fn passed_over(templates: &Templates, left: &[u32], ending: Ending, at: Cursor<'_>) -> LineFault
     requires { AreBelow (length (nodes_of templates.now)) left.now }
 {
@@ -80,7 +80,7 @@ pub fn passed_over(templates: &Templates, left: &[u32], ending: Ending, at: Curs
     }
 }
 
-/// Whether the line ahead, which is that of a node, has a value that is none of the node's.
+/// Returns whether the next line, which is that of a node, has a value that is not one of the node.
 fn has_wrong_value(templates: &Templates, node: u32, at: Cursor<'_>) -> bool
     requires { node < length (nodes_of templates.now) }
 {

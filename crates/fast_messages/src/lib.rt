@@ -1,4 +1,4 @@
-//! A message of the lines of its events, one after the other.
+//! Reads one message from the lines of its events.
 #![tactic(auto)]
 
 pub mod cursors;

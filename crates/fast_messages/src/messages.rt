@@ -1,4 +1,4 @@
-//! A message of the lines of its events.
+//! The reader of one message from the lines of its events.
 
 ghost use Rattle.std.specs.Prelude.{◌≡◌, ◌<◌, ◌↔◌, ◌+◌, ℕ, List, [], ◌∷◌, ◌++◌, length, Some, IsTrue, IfOk, IfErr, OnOk, option_map};
 ghost use Rattle.fast_value.specs.meaning.Kinds.{U, I, Dec};
@@ -29,7 +29,7 @@ use fast_template::{Shape, Templates};
 use fast_value::{Item, Message, Value};
 use std::alloc::Global;
 
-/// The message that begins with the line ahead, and the place behind it.
+/// Reads the message that begins with the next line. Returns it with the cursor after it.
 pub fn read_message<'a>(
     alloc: Global,
     templates: &Templates,
@@ -51,7 +51,7 @@ pub fn read_message<'a>(
     Ok((Message { template, items }, next))
 }
 
-/// The slots of a body, up to the line that ends it, and the place behind that line.
+/// Reads the slots of a body up to the line that ends it. Returns them with the cursor after that line.
 #[cycle(reading)]
 fn read_body<'a>(
     alloc: Global,
@@ -91,7 +91,7 @@ fn read_body<'a>(
     Ok((slots, next))
 }
 
-/// The item of a node, whose line is ahead, and the place behind it.
+/// Reads the item of a node, whose line is next. Returns it with the cursor after it.
 #[cycle(reading)]
 fn read_item<'a>(
     alloc: Global,
@@ -125,7 +125,7 @@ fn read_item<'a>(
     }
 }
 
-/// Whether so many elements are all that a sequence's line says.
+/// Returns whether `len` elements are as many as the sequence's line says.
 #[inline(always)]
 fn has_all(len: usize, count: u32) -> bool
     ensures { IsTrue result ↔ len ≡ count }
@@ -133,7 +133,7 @@ fn has_all(len: usize, count: u32) -> bool
     len == count as usize
 }
 
-/// Whether so many elements are fewer than a sequence's line says.
+/// Returns whether `len` elements are fewer than the sequence's line says.
 #[inline(always)]
 fn lacks_some(len: usize, count: u32) -> bool
     ensures { IsTrue result ↔ len < count }
@@ -141,7 +141,7 @@ fn lacks_some(len: usize, count: u32) -> bool
     len < count as usize
 }
 
-/// So many elements of a sequence, up to the line that ends it, and the place behind that line.
+/// Reads that many elements of a sequence, up to the line that ends it. Returns them with the cursor after that line.
 #[cycle(reading)]
 fn read_rows<'a>(
     alloc: Global,
@@ -179,7 +179,7 @@ fn read_rows<'a>(
     Ok((rows, next))
 }
 
-/// Puts an item behind the others.
+/// Appends an item.
 #[inline(always)]
 pub fn push<T: Drop>(items: &mut Vec<T>, item: T) -> Result<(), TextFault>
     ensures ok { OnOk result (items.new.items ≡ items.old.items ++ item ∷ []) }
@@ -191,7 +191,7 @@ pub fn push<T: Drop>(items: &mut Vec<T>, item: T) -> Result<(), TextFault>
     }
 }
 
-/// How many elements a sequence's line says; none where it is no sequence's.
+/// Returns the number of elements in a sequence's line, 0 for any other line.
 fn count_of(line: Option<Line<'_>>) -> u32
     ensures { (n : ℕ) (name : List ℕ) (count : ℕ) → option_map line_data line.entry ≡ Some (sequence_line n name count)
         → result ≡ count }
@@ -202,7 +202,7 @@ fn count_of(line: Option<Line<'_>>) -> u32
     }
 }
 
-/// That a value is none that its field can have. The types of values bound it.
+/// Returns the fault of a value that is not one of its field. The types of values bound its numbers.
 fn wrong_value(value: &Value, line: u64) -> TextFault
     ensures fault { result ≡ BadLine line LineFault.WrongValue }
     ensures told { IsTold (value_data value.now) }
@@ -216,7 +216,7 @@ fn wrong_value(value: &Value, line: u64) -> TextFault
     TextFault::BadLine { line, kind }
 }
 
-/// An unsigned integer is of its type.
+/// Returns `WrongValue`, and proves that an unsigned integer is in the range of its Rust type.
 fn told_unsigned(number: u64) -> LineFault
     ensures kind { result ≡ LineFault.WrongValue }
     ensures told { IsTold (U number) }
@@ -225,7 +225,7 @@ fn told_unsigned(number: u64) -> LineFault
     LineFault::WrongValue
 }
 
-/// A signed integer is of its type.
+/// Returns `WrongValue`, and proves that a signed integer is in the range of its Rust type.
 fn told_signed(number: i64) -> LineFault
     ensures kind { result ≡ LineFault.WrongValue }
     ensures told { IsTold (I number) }
@@ -234,7 +234,7 @@ fn told_signed(number: i64) -> LineFault
     LineFault::WrongValue
 }
 
-/// The parts of a decimal are of their types.
+/// Returns `WrongValue`, and proves that the parts of a decimal are in the range of their Rust types.
 fn told_decimal(exponent: i32, mantissa: i64) -> LineFault
     ensures kind { result ≡ LineFault.WrongValue }
     ensures told { IsTold (Dec exponent mantissa) }
@@ -243,7 +243,7 @@ fn told_decimal(exponent: i32, mantissa: i64) -> LineFault
     LineFault::WrongValue
 }
 
-/// The value of a field, whose line is ahead, and the place behind it.
+/// Reads the value of a field, whose line is next. Returns it with the cursor after it.
 fn read_value<'a>(
     alloc: Global,
     templates: &Templates,

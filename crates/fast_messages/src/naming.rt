@@ -1,4 +1,4 @@
-//! Which node or template a line names.
+//! The node or template that a line names.
 
 ghost use Rattle.std.specs.Prelude.{◌≡◌, ◌≢◌, ◌↔◌, ◌<◌, ℕ, length, slice_get, Some, IsTrue, IsUtf8, IfSome, IfNone, option_map, string_bytes};
 ghost use Rattle.fast_tree.specs.declared.instructions.Template.{Template};
@@ -12,7 +12,7 @@ use fast_lines::forms::Line;
 use fast_template::{Shape, Templates};
 use std::str;
 
-/// The number of the template with a name.
+/// Returns the number of the template of this name.
 pub fn number_of(templates: &Templates, name: &[u8]) -> Option<u32>
     ensures found { IfSome result
         (λ i. (u : Template) × (slice_get (templates_of templates.now) i ≡ Some u) × (string_bytes u.name ≡ name.now)) }
@@ -26,7 +26,7 @@ pub fn number_of(templates: &Templates, name: &[u8]) -> Option<u32>
     }
 }
 
-/// Whether the line is that of a node.
+/// Returns whether the line is that of a node.
 pub fn names(templates: &Templates, node: u32, line: Option<Line<'_>>) -> bool
     requires { node < length (nodes_of templates.now) }
     ensures { IsTrue result ↔ Names (tree_of templates.now) node (instruction_in (nodes_of templates.now) node)
@@ -54,7 +54,7 @@ pub fn names(templates: &Templates, node: u32, line: Option<Line<'_>>) -> bool
     }
 }
 
-/// Whether a node is a field of this name.
+/// Returns whether a node is a field of this name.
 fn is_value_called(templates: &Templates, node: u32, name: &[u8]) -> bool
     requires { node < length (nodes_of templates.now) }
     ensures { IsTrue result ↔ (IsValue (instruction_in (nodes_of templates.now) node)
@@ -67,7 +67,7 @@ fn is_value_called(templates: &Templates, node: u32, name: &[u8]) -> bool
     }
 }
 
-/// Whether a node is a group of this name.
+/// Returns whether a node is a group of this name.
 fn is_group_called(templates: &Templates, node: u32, name: &[u8]) -> bool
     requires { node < length (nodes_of templates.now) }
     ensures { IsTrue result ↔ (IsGroup (instruction_in (nodes_of templates.now) node)
@@ -80,7 +80,7 @@ fn is_group_called(templates: &Templates, node: u32, name: &[u8]) -> bool
     }
 }
 
-/// Whether a node is a sequence of this name.
+/// Returns whether a node is a sequence of this name.
 fn is_sequence_called(templates: &Templates, node: u32, name: &[u8]) -> bool
     requires { node < length (nodes_of templates.now) }
     ensures { IsTrue result ↔ (IsSequence (instruction_in (nodes_of templates.now) node)
