@@ -1,4 +1,4 @@
-//! How many messages a stream has.
+//! An example: the number of messages of a stream.
 
 ghost use Rattle.std.specs.Prelude.{◌≡◌, ◌↔◌, Err, IfOk, IfErr};
 ghost use Rattle.fast_template.specs.meaning.Flat.{tree_of};
@@ -12,13 +12,13 @@ use fast_value::Limits;
 use std::alloc::Global;
 use thiserror::Error;
 
-/// Why a call did not do its work.
+/// The error of these examples.
 #[derive(Clone, Copy, Debug, Error)]
 pub enum Refusal {
-    /// No decoder is made.
+    /// No decoder was made.
     #[error("decoder: {0}")]
     Make(MakeError),
-    /// The stream is at fault.
+    /// The stream has a fault.
     #[error("stream: {0}")]
     Stream(Fault),
 }
@@ -45,7 +45,7 @@ impl From<Fault> for Refusal {
     }
 }
 
-/// A sink that counts the messages that are whole.
+/// A sink that counts messages, at their ends.
 #[derive(Drop)]
 pub(crate) struct Counter {
     pub(crate) messages: u64,
@@ -66,11 +66,11 @@ impl Sink for Counter {
     }
 }
 
-/// How many messages of a stream, which comes in pieces, are whole.
+/// Returns the number of whole messages of a stream, which comes in pieces.
 ///
 /// # Errors
 ///
-/// `Make` where no decoder is made; else `Stream` with the stream's first fault, or with `L4` where there are 2^64 bytes or more.
+/// `Make` if no decoder was made; else `Stream` with the first fault of the stream, or with `L4` if it has 2^64 bytes or more.
 pub fn messages_in(
     alloc: Global,
     templates: &Templates,

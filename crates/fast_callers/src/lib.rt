@@ -1,4 +1,4 @@
-//! Callers of the decoder, to be read and copied: messages that are counted, the last price of a symbol, and a stream that stops at a
+//! Examples of callers of the decoder, to read and to copy: counting messages, the last price of a symbol, and a stream that stops at a
 //! fault.
 #![tactic(auto)]
 

@@ -1,4 +1,4 @@
-//! The last price of a symbol.
+//! An example: the last price of a symbol.
 
 ghost use Rattle.std.specs.Prelude.{◌≡◌, ◌↔◌, Err, IfOk, IfErr};
 ghost use Rattle.fast_template.specs.meaning.Flat.{tree_of};
@@ -20,21 +20,21 @@ pub struct Price {
     pub mantissa: i64,
 }
 
-/// Which nodes of a template set hold what is looked for.
+/// The nodes of a template set that hold symbols and prices.
 #[derive(Clone, Copy, Debug, PartialEq, Eq)]
 pub struct Columns {
-    /// The node of an ASCII symbol.
+    /// The node of the symbol, an ASCII field.
     pub symbol: u32,
-    /// The node of a decimal price.
+    /// The node of the price, a decimal field.
     pub price: u32,
 }
 
-/// A sink that keeps the last price behind a symbol.
+/// A sink that keeps the last price of a symbol.
 #[derive(Drop)]
 struct LastPrice<'a> {
     columns: Columns,
     symbol: &'a [u8],
-    /// Whether the last symbol was the one that is looked for.
+    /// True if the last symbol was the one of interest.
     is_ours: bool,
     price: Option<Price>,
 }
@@ -60,11 +60,11 @@ impl Sink for LastPrice<'_> {
     }
 }
 
-/// The last price of a symbol in a stream, if it has one. A price belongs to the last symbol before it.
+/// Returns the last price of a symbol in a stream, if there is one. A price belongs to the last symbol before it.
 ///
 /// # Errors
 ///
-/// `Make` where no decoder is made; else `Stream` with the stream's first fault, or with `L4` where there are 2^64 bytes or more.
+/// `Make` if no decoder was made; else `Stream` with the first fault of the stream, or with `L4` if it has 2^64 bytes or more.
 pub fn last_price(
     alloc: Global,
     templates: &Templates,

@@ -1,4 +1,4 @@
-//! A stream that is read up to its first fault.
+//! An example: a stream that is read up to its first fault.
 
 ghost use Rattle.std.specs.Prelude.{◌≡◌, ◌↔◌, Err, IfOk};
 ghost use Rattle.fast_template.specs.meaning.Flat.{tree_of};
@@ -11,25 +11,25 @@ use fast_template::Templates;
 use fast_value::Limits;
 use std::alloc::Global;
 
-/// How far a stream was read.
+/// The result of [`up_to_fault`].
 #[derive(Clone, Copy, Debug, PartialEq, Eq)]
 pub struct Stopped {
-    /// How many messages were whole.
+    /// The number of whole messages.
     pub messages: u64,
-    /// How many bytes were read, up to the fault if there is one.
+    /// The number of bytes consumed, up to the fault if there is one.
     pub bytes: u64,
-    /// What is wrong, and where, if anything is.
+    /// The fault and its offset, if there is one.
     pub fault: Option<Fault>,
-    /// Whether there is no fault, and no message that is begun and not whole.
+    /// True if there is no fault, and no message is incomplete.
     pub is_between: bool,
 }
 
-/// Reads a stream up to its first fault, or to its end. A feed handler would tell the fault, reset the decoder, and go on where the next
-/// message is known to begin, as at a packet.
+/// Reads a stream up to its first fault, or to its end. A feed handler would report the fault, reset the decoder, and go on where the next
+/// message is known to begin, for example at the next packet.
 ///
 /// # Errors
 ///
-/// No decoder is made.
+/// No decoder was made.
 pub fn up_to_fault(
     alloc: Global,
     templates: &Templates,
@@ -42,7 +42,7 @@ pub fn up_to_fault(
 {
     let mut decoder = Decoder::new(alloc, templates, limits)?;
     let mut counter = Counter { messages: 0 };
-    // the decoder tells the fault below
+    // The error is ignored here: `decoder.fault()` returns it below.
     let _ = decoder.feed(stream, &mut counter);
     Ok(Stopped {
         messages: counter.messages,
