@@ -1,4 +1,4 @@
-//! The command that takes the words, as clap is told it.
+//! The commands, options and arguments of fastcat, for clap.
 
 ghost use Rattle.std.specs.Prelude.{◌≡◌, false, IfOk, Ok};
 ghost use Rattle.clap.specs.Built.{AddsArg, AddsSubcommand};
@@ -11,10 +11,10 @@ ghost use Rattle.fast_usage.specs.meaning.Commands.{number_rule, flag_rule, temp
 use clap::{Arg, ArgAction, Command, value_parser};
 use std::alloc::{AllocError, Global};
 
-/// The version that `fastcat --version` tells.
+/// The version that `fastcat --version` prints.
 const VERSION: &str = "0.1.0";
 
-/// What stands below the help of the whole command.
+/// The text after the help of the whole command.
 const TEMPLATES_HELP: &str = "T is @vectors or a text in TOML such as
   [[template]]
   name = \"Trade\"
@@ -26,7 +26,7 @@ Examples:
   fastcat show templates.toml stream.fast
   fastcat convert templates.toml lines.txt >stream.fast";
 
-/// The argument for the templates.
+/// Returns the argument for the templates.
 fn templates_arg<'a>(alloc: Global) -> Arg<'a>
     ensures rule { rule_of result ≡ templates_rule }
     ensures local { result.global ≡ false }
@@ -37,7 +37,7 @@ fn templates_arg<'a>(alloc: Global) -> Arg<'a>
         .help("The path of a template text (see fastcat --help), or @vectors for the built-in set")
 }
 
-/// The argument for the input.
+/// Returns the argument for the input.
 fn input_arg<'a>(alloc: Global, help: &'a str) -> Arg<'a>
     ensures rule { rule_of result ≡ input_rule }
     ensures local { result.global ≡ false }
@@ -45,7 +45,7 @@ fn input_arg<'a>(alloc: Global, help: &'a str) -> Arg<'a>
     Arg::new(alloc, "input").value_name("F").help(help)
 }
 
-/// A flag.
+/// Returns a flag.
 fn flag_arg<'a>(alloc: Global, name: &'a str, help: &'a str) -> Arg<'a>
     ensures rule { rule_of result ≡ flag_rule name.entry.now }
     ensures local { result.global ≡ false }
@@ -56,7 +56,7 @@ fn flag_arg<'a>(alloc: Global, name: &'a str, help: &'a str) -> Arg<'a>
         .help(help)
 }
 
-/// An option with a number of 32 bits.
+/// Returns an option with a number of 32 bits.
 fn number_arg<'a>(alloc: Global, name: &'a str, help: &'a str) -> Arg<'a>
     ensures rule { rule_of result ≡ number_rule name.entry.now }
     ensures local { result.global ≡ false }
@@ -68,7 +68,7 @@ fn number_arg<'a>(alloc: Global, name: &'a str, help: &'a str) -> Arg<'a>
         .help(help)
 }
 
-/// A command that was made, with one more argument.
+/// Adds an argument to a command.
 fn with_arg<'a>(
     command: Result<Command<'a>, AllocError>,
     arg: Arg<'a>,
@@ -78,7 +78,7 @@ fn with_arg<'a>(
     command?.arg(arg)
 }
 
-/// A command with one more subcommand that was made.
+/// Adds a subcommand to a command.
 fn with_subcommand<'a>(
     command: Command<'a>,
     subcommand: Result<Command<'a>, AllocError>,
@@ -89,7 +89,7 @@ fn with_subcommand<'a>(
     command.subcommand(subcommand?)
 }
 
-/// A command with the options for the limits.
+/// Adds the options for the limits to a command.
 fn with_limits<'a>(alloc: Global, command: Command<'a>) -> Result<Command<'a>, AllocError>
     requires { (out-Command command).has_globals ≡ false }
     ensures { IfOk result (MakesApp (with_limits (app_of command.entry))) }
@@ -102,7 +102,7 @@ fn with_limits<'a>(alloc: Global, command: Command<'a>) -> Result<Command<'a>, A
     with_arg(command, number_arg(alloc, "max-total", total))
 }
 
-/// A command with the options that all of them have.
+/// Adds the options that all commands have.
 fn with_options<'a>(alloc: Global, command: Command<'a>) -> Result<Command<'a>, AllocError>
     requires { (out-Command command).has_globals ≡ false }
     ensures { IfOk result (MakesApp (with_options (app_of command.entry))) }
@@ -114,7 +114,7 @@ fn with_options<'a>(alloc: Global, command: Command<'a>) -> Result<Command<'a>, 
     )
 }
 
-/// A command that was made, with the options that all of them have.
+/// Adds the options that all commands have.
 fn and_options<'a>(
     alloc: Global,
     command: Result<Command<'a>, AllocError>,
@@ -126,7 +126,7 @@ fn and_options<'a>(
     with_options(alloc, command?)
 }
 
-/// A command with the arguments for the templates, for the input and for hexadecimal digits.
+/// Adds the arguments for the templates and the input, and the flag for hexadecimal digits.
 fn with_input<'a>(
     alloc: Global,
     command: Command<'a>,
@@ -141,7 +141,7 @@ fn with_input<'a>(
     with_arg(command, flag_arg(alloc, "hex", hex))
 }
 
-/// The subcommand that checks a template text.
+/// Returns the subcommand that checks a template file.
 fn check_command<'a>(alloc: Global) -> Result<Command<'a>, AllocError>
     ensures { IfOk result (MakesApp check_app) }
 {
@@ -152,7 +152,7 @@ fn check_command<'a>(alloc: Global) -> Result<Command<'a>, AllocError>
     and_options(alloc, command)
 }
 
-/// The subcommand that shows a stream.
+/// Returns the subcommand that shows a stream.
 fn show_command<'a>(alloc: Global) -> Result<Command<'a>, AllocError>
     ensures { IfOk result (MakesApp show_app) }
 {
@@ -167,7 +167,7 @@ fn show_command<'a>(alloc: Global) -> Result<Command<'a>, AllocError>
     and_options(alloc, command)
 }
 
-/// The subcommand that turns lines into a stream.
+/// Returns the subcommand that converts lines to a stream.
 fn convert_command<'a>(alloc: Global) -> Result<Command<'a>, AllocError>
     ensures { IfOk result (MakesApp convert_app) }
 {
@@ -180,11 +180,11 @@ fn convert_command<'a>(alloc: Global) -> Result<Command<'a>, AllocError>
     and_options(alloc, command)
 }
 
-/// The whole command.
+/// Returns the whole command.
 ///
 /// # Errors
 ///
-/// Memory was refused.
+/// An allocation failed.
 pub fn fastcat_command<'a>(alloc: Global) -> Result<Command<'a>, AllocError>
     ensures { IfOk result (MakesApp fastcat_app) }
 {

@@ -1,4 +1,4 @@
-//! The command fastcat, its subcommands, arguments and helps, as clap is told them.
+//! The command line of fastcat: its subcommands, arguments and help, defined for clap.
 #![tactic(auto)]
 
 pub mod commands;
