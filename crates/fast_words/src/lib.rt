@@ -1,4 +1,4 @@
-//! The words of a call of fastcat, and what they ask for.
+//! The arguments of a call of fastcat, parsed to a plan.
 #![tactic(auto)]
 
 pub mod plans;

@@ -1,4 +1,4 @@
-//! The words of a call.
+//! The parser of a call's arguments.
 
 ghost use Rattle.std.specs.Prelude.{◌≡◌, List, map, Some, IfOk};
 ghost use Rattle.clap.specs.Walk.{Row, Text, rows_of};
@@ -15,7 +15,7 @@ use fast_usage::fastcat_command;
 use fast_value::Limits;
 use std::alloc::Global;
 
-/// The task that a subcommand's name asks for.
+/// Returns the task of a subcommand's name.
 fn task_named(name: &str) -> Task
     ensures { result ≡ task_named name.now }
 {
@@ -28,14 +28,14 @@ fn task_named(name: &str) -> Task
     }
 }
 
-/// A number that was given, or what is understood without it.
+/// Returns the number of an option, or its default.
 fn number_or(matches: &ArgMatches<'_>, name: &str, otherwise: u32) -> u32
     ensures { IsNumberAt name.now (rows_of (found_of matches.now)) otherwise result }
 {
     matches.get_one::<u32>(name).unwrap_or(otherwise)
 }
 
-/// The plan of a subcommand with what was given to it.
+/// Returns the plan of a subcommand with its matches.
 fn plan_of<'a>(name: &str, matches: &ArgMatches<'a>) -> Plan<'a>
     ensures { IsPlanOf name.now (rows_of (found_of matches.now)) result }
 {
@@ -53,8 +53,8 @@ fn plan_of<'a>(name: &str, matches: &ArgMatches<'a>) -> Plan<'a>
     }
 }
 
-/// What the words ask for, of which the first is the program's name. An error has the text of a help or of the version, if one was
-/// asked for, or of a mistake in the words.
+/// Parses arguments to a plan; the first argument is the program's name. An error has the help or the version if that was asked for, or the
+/// message of a usage error.
 pub fn plan<'a>(alloc: Global, words: &'a [&'a str]) -> Result<Plan<'a>, Error>
     ensures plan { IfOk result
         (λ p. (name : Text) × (rows : List Row)
@@ -64,7 +64,7 @@ pub fn plan<'a>(alloc: Global, words: &'a [&'a str]) -> Result<Plan<'a>, Error>
     let matches = fastcat_command(alloc)?.try_get_matches_from(words)?;
     Ok(match matches.subcommand() {
         Some((name, given)) => plan_of(name, given),
-        // Words without a subcommand are an error already.
+        // clap refuses a call without a subcommand before this.
         None => plan_of("show", &matches),
     })
 }
