@@ -1,4 +1,4 @@
-//! Turns lines, as a stream is shown, back into the stream.
+//! Converts the lines of a stream, as `show` prints them, back to the stream.
 
 ghost use Rattle.std.specs.Prelude.{◌≡◌, ◌⊎◌, ℕ, Bool, List, Option, map, Err, IsTrue, OnOk, OnErr};
 ghost use Rattle.fast_value.specs.meaning.Views.{message_data};
@@ -20,10 +20,10 @@ use fast_text::{Failed, LineWriter, Room, Source, Target};
 use fast_value::{Limits, Message};
 use std::alloc::Global;
 
-/// The most bytes of a text of lines.
+/// The greatest size of a file of lines, in bytes.
 const LIMIT: usize = 67_108_864;
 
-/// Writes the bytes of a message, or a line with their digits.
+/// Writes the bytes of a message, or a line with their hexadecimal digits.
 fn write_bytes<T: Target>(bytes: &[u8], hex: bool, writer: &mut T) -> Result<(), Failed>
     ensures written { OnOk result (Appends (T.written writer.old) (T.written writer.new) (form hex bytes.now)) }
     ensures part { OnErr result (AppendsFront (T.written writer.old) (T.written writer.new) (form hex bytes.now)) }
@@ -41,7 +41,7 @@ fn write_bytes<T: Target>(bytes: &[u8], hex: bool, writer: &mut T) -> Result<(),
     line.finish()
 }
 
-/// Encodes messages, one after the other, and writes the bytes of each.
+/// Encodes messages in order, and writes the bytes of each.
 fn write_messages<T: Target>(
     alloc: Global,
     encoder: &mut Encoder<'_>,
@@ -74,17 +74,16 @@ fn write_messages<T: Target>(
     Ok(())
 }
 
-/// Turns lines into the stream of the messages whose lines they are: its bytes, or with `hex` a line of lower case digits for
-/// each message. The last LF of the lines may be missing.
+/// Converts lines to the stream of their messages: its bytes, or with `hex` a line of lower case digits for each message. The last LF of
+/// the lines may be missing.
 ///
-/// Nothing is written before the whole text, of at most 67,108,864 bytes, was read and found to be the lines of messages. At a
-/// message that is not encoded the messages before it have been written. What was written is handed on at the end, whether all
-/// messages were or not.
+/// It reads the whole input, of at most 67,108,864 bytes, and parses all lines before it writes anything. If a message is not encoded, the
+/// messages before it have been written. The writer is flushed at the end, in either case.
 ///
 /// # Errors
 ///
-/// In this order: that there is no encoder with these limits; that the text cannot be read, or is too long; that it is not the
-/// lines of messages; that a message is not encoded; where there is no memory, or the writer fails, that.
+/// In this order: no encoder can be made with these limits; the input cannot be read, or is too long; it is not the lines of messages; a
+/// message is not encoded. Also, wherever it occurs: an allocation failed, or the writer failed.
 pub fn run_convert<S: Source, T: Target>(
     alloc: Global,
     templates: &Templates,
@@ -96,7 +95,7 @@ pub fn run_convert<S: Source, T: Target>(
     ensures converted { IsConverted templates.now limits hex (S.left reader.old) (S.left reader.new)
         (T.written writer.old) (T.written writer.new) (IsTrue (S.has_failed reader.new))
         (IsTrue (T.has_failed writer.new)) result }
-    // A writer or a reader that fails is told.
+    // A writer or a reader that fails is reported.
     ensures writer_told { (result ≡ Err RunFault.Write) ⊎ (T.has_failed writer.new ≡ T.has_failed writer.old) }
     ensures reader_told { (result ≡ Err RunFault.Read) ⊎ (S.has_failed reader.new ≡ S.has_failed reader.old) }
     ensures bad_limits { AreBadLimits limits → result ≡ Err (RunFault.Make MakeError.BadLimits) }
@@ -110,7 +109,7 @@ pub fn run_convert<S: Source, T: Target>(
     convert_read(alloc, templates, &mut encoder, hex, reader, writer)
 }
 
-/// Reads lines, and turns them into the stream that a new encoder writes of them.
+/// Reads lines, and converts them to the stream that a new encoder writes for them.
 fn convert_read<S: Source, T: Target>(
     alloc: Global,
     templates: &Templates,
@@ -134,7 +133,7 @@ fn convert_read<S: Source, T: Target>(
     convert_text(alloc, templates, encoder, &text, hex, writer)
 }
 
-/// Turns the lines of a text into the stream that a new encoder writes of them.
+/// Converts lines in memory to the stream that a new encoder writes for them.
 fn convert_text<T: Target>(
     alloc: Global,
     templates: &Templates,
@@ -145,7 +144,7 @@ fn convert_text<T: Target>(
 ) -> Result<(), RunFault>
     requires set { tree encoder.old ≡ tree_of templates.now }
     requires fresh { encoder.old.dictionary ≡ fresh (tree_of templates.now).entries }
-    // Of any reader that has given the whole text.
+    // For any reader that has returned the whole input.
     ensures converted { (left_old left_new : Option (List ℕ)) (reader_failed : Bool) → IsWhole left_old left_new text.now
         → IsConverted templates.now encoder.old.limits hex left_old left_new (T.written writer.old) (T.written writer.new)
         (IsTrue reader_failed) (IsTrue (T.has_failed writer.new)) result }

@@ -1,4 +1,4 @@
-//! Turns the lines of streams in the FAST encoding back into streams, over readers and writers.
+//! Converts the lines of FAST streams back to streams, over readers and writers.
 #![tactic(auto)]
 
 pub mod convert;
