@@ -1,4 +1,4 @@
-//! All codes, each with its sentence.
+//! The list of all codes, each with its sentence.
 
 use fast_explain::Note;
 use fast_notation::StaticCode;
@@ -8,7 +8,7 @@ use fast_stream::FaultCode;
 use fast_value::Code;
 use std::fmt::Write;
 
-/// The codes of template texts, in the order in which they are looked for.
+/// The codes of template files, in the order in which they are checked.
 static OF_TEMPLATES: [StaticCode; 12] = [
     StaticCode::S1,
     StaticCode::C1,
@@ -45,7 +45,7 @@ static OF_STREAMS: [FaultCode; 17] = [
     FaultCode::Stream(Code::L5),
 ];
 
-/// The kinds of lines at fault.
+/// The faults of lines.
 static OF_LINES: [LineFault; 7] = [
     LineFault::Form,
     LineFault::UnknownTemplate,
@@ -65,7 +65,7 @@ static OF_MESSAGES: [EncodeFault; 5] = [
     EncodeFault::R9,
 ];
 
-/// Lists all codes, a line for each, with its sentence.
+/// Returns the list of all codes, a line for each, with its sentence.
 pub(crate) fn all_codes() -> Note {
     let mut note = Note::new();
     let _ = writeln!(note, "\nCodes of template texts:");

@@ -1,5 +1,4 @@
-//! The command fastcat: shows streams in the FAST encoding as lines, turns lines back into streams, and says how large template
-//! sets are.
+//! The command fastcat: shows FAST streams as lines, converts lines back to streams, and checks template files.
 #![tactic(auto)]
 
 mod codes;
@@ -21,16 +20,16 @@ use std::fmt::Write;
 use std::process::ExitCode;
 use std::{env, fs, io};
 
-/// What a call without words stands for.
+/// The arguments that a call without arguments stands for.
 const NO_WORDS: [&str; 4] = ["fastcat", "show", "--hex", BUILT_IN];
 
-/// The status of a mistake in the words.
+/// The exit status of a usage error.
 const MISTAKE: u8 = 2;
 
-/// How often a run reads at most.
+/// The greatest number of reads of a run.
 const MAX_READS: u64 = 1 << 40;
 
-/// Shows what a reader gives on standard output, in large pieces.
+/// Shows a reader's stream on standard output, in large pieces.
 fn show_from<S: Source>(
     rt: &HostRuntime,
     templates: &Templates,
@@ -48,7 +47,7 @@ fn show_from<S: Source>(
     )
 }
 
-/// The same, and notes in words what is wrong with the stream.
+/// Shows a reader's stream on standard output, and notes an explanation of a fault.
 fn explain_from<S: Source + Drop>(
     rt: &HostRuntime,
     templates: &Templates,
@@ -68,7 +67,7 @@ fn explain_from<S: Source + Drop>(
     ending
 }
 
-/// Writes the stream whose lines a reader gives on standard output, in large pieces.
+/// Converts a reader's lines, and writes the stream to standard output in large pieces.
 fn convert_from<S: Source>(
     rt: &HostRuntime,
     templates: &Templates,
@@ -86,7 +85,7 @@ fn convert_from<S: Source>(
     Ok(ShowEnd::Good)
 }
 
-/// Does with what a reader gives what a plan asks for.
+/// Processes a reader's input as a plan asks for.
 fn read_from<S: Source + Drop>(
     rt: &HostRuntime,
     templates: &Templates,
@@ -101,7 +100,7 @@ fn read_from<S: Source + Drop>(
     }
 }
 
-/// Reads a template set, and notes in words why it is refused.
+/// Reads a template set, and notes an explanation if it is refused.
 fn read_explained<S: Source>(
     alloc: Global,
     reader: &mut S,
@@ -115,7 +114,7 @@ fn read_explained<S: Source>(
     templates
 }
 
-/// The template set that a plan names.
+/// Returns the template set that a plan names.
 fn templates_of(rt: &HostRuntime, plan: &Plan<'_>, note: &mut Note) -> Result<Templates, RunFault> {
     if plan.has_built_in() {
         return Ok(built_in(rt.alloc())?);
@@ -127,7 +126,7 @@ fn templates_of(rt: &HostRuntime, plan: &Plan<'_>, note: &mut Note) -> Result<Te
     }
 }
 
-/// Does what a plan asks for, and notes in words why it is not done.
+/// Executes a plan, and notes an explanation if it fails.
 fn carry_out(rt: &HostRuntime, plan: &Plan<'_>, note: &mut Note) -> Result<ShowEnd, RunFault> {
     let templates = templates_of(rt, plan, note)?;
     match (plan.task, plan.input) {
@@ -150,20 +149,20 @@ fn carry_out(rt: &HostRuntime, plan: &Plan<'_>, note: &mut Note) -> Result<ShowE
     }
 }
 
-/// Reports how a run has ended, and gives the status of the program.
+/// Reports the end of a run, and returns the exit status.
 fn ended(rt: &HostRuntime, ending: Result<ShowEnd, RunFault>) -> ExitCode {
     let mut errors = Watched::new(rt.stderr());
     ExitCode::from(report(&ending, &mut errors))
 }
 
-/// Reports how a run has ended, and then in words why.
+/// Reports the end of a run and then the explanation, and returns the exit status.
 fn ended_with(rt: &HostRuntime, ending: Result<ShowEnd, RunFault>, note: &Note) -> ExitCode {
     let status = ended(rt, ending);
     let _ = Watched::new(rt.stderr()).write_all(note.as_str().as_bytes());
     status
 }
 
-/// Carries out a plan, and explains the ending where that is asked for.
+/// Executes a plan, and explains a failure if that is asked for.
 fn run_plan(rt: &HostRuntime, plan: &Plan<'_>) -> ExitCode {
     let mut note = Note::new();
     let ending = carry_out(rt, plan, &mut note);
@@ -179,7 +178,7 @@ fn run_plan(rt: &HostRuntime, plan: &Plan<'_>) -> ExitCode {
     ended_with(rt, ending, &note)
 }
 
-/// Prints a text of help, and behind it all codes.
+/// Prints the help and then all codes.
 fn print_help(rt: &HostRuntime, error: &Error) -> io::Result<()> {
     error.print(rt)?;
     match Watched::new(rt.stdout()).write_all(all_codes().as_str().as_bytes()) {
@@ -188,7 +187,7 @@ fn print_help(rt: &HostRuntime, error: &Error) -> io::Result<()> {
     }
 }
 
-/// Prints the text of a help that was asked for, or of a mistake in the words.
+/// Prints the help, the version, or the message of a usage error, and returns the exit status.
 fn explained(rt: &HostRuntime, error: &Error) -> ExitCode {
     if error.kind() == ErrorKind::OutOfMemory {
         return ended(rt, Err(RunFault::Memory));
@@ -200,18 +199,18 @@ fn explained(rt: &HostRuntime, error: &Error) -> ExitCode {
     };
     match printed {
         Err(_) if !error.use_stderr() => ended(rt, Err(RunFault::Write)),
-        // A mistake has its status also where what is said of it cannot be written.
+        // A usage error has its status even if its message cannot be written.
         _ => ExitCode::from(error.exit_code() as u8),
     }
 }
 
-/// Says that a word is not UTF-8, which is a mistake in the words too.
+/// Reports that an argument is not UTF-8, which is a usage error too.
 fn not_text(rt: &HostRuntime) -> ExitCode {
     let _ = eprintln!(rt; "error: a word is not UTF-8");
     ExitCode::from(MISTAKE)
 }
 
-/// Runs the command on its words, of which the first is the program's name.
+/// Runs the command on its arguments, of which the first is the program's name.
 fn run(rt: &HostRuntime, words: &[&str]) -> ExitCode {
     match plan(rt.alloc(), words) {
         Ok(plan) => run_plan(rt, &plan),
@@ -219,7 +218,7 @@ fn run(rt: &HostRuntime, words: &[&str]) -> ExitCode {
     }
 }
 
-/// The words as they lie in memory.
+/// Borrows the arguments as strings.
 fn texts_of<'a>(alloc: Global, words: &'a [String]) -> Result<Vec<&'a str>, AllocError> {
     let mut texts = Vec::new(alloc);
     for word in words {
