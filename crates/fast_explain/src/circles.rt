@@ -1,4 +1,4 @@
-//! Templates that refer to themselves, by way of others.
+//! Templates that refer to themselves, directly or through others.
 
 use crate::keys::{name_of, target_of};
 use crate::notes::{Note, put, put_quoted};
@@ -8,19 +8,19 @@ use std::alloc::{AllocError, Global};
 use std::collections::HashMap;
 use toml::Value;
 
-/// How many templates of a circle are told at most.
+/// The greatest number of templates of a cycle that are listed.
 const TOLD: usize = 16;
 
-/// The templates from which the first one is reached, each with the one behind which it was found.
+/// A breadth-first search from one template along references: the templates found so far, each with its predecessor.
 #[derive(Drop)]
 struct Search {
-    /// The templates that were found, in their order.
+    /// The templates that were found, in order.
     found: Vec<usize>,
-    /// For each template, the one behind which it was found.
+    /// The predecessor of each template: the one whose reference led to it.
     before: Vec<Option<usize>>,
 }
 
-/// Takes up a template behind another one, if it was not found before.
+/// Adds a template after its predecessor, if it was not found before.
 fn add(search: &mut Search, number: usize, target: usize) -> Result<(), AllocError> {
     if let Some(before) = search.before.get_mut(target) {
         if before.is_none() {
@@ -31,12 +31,12 @@ fn add(search: &mut Search, number: usize, target: usize) -> Result<(), AllocErr
     Ok(())
 }
 
-/// The number of the template that a field refers to, if it does.
+/// Returns the number of the template that a field refers to, if it is a reference.
 fn target_number(names: &HashMap<String, usize>, field: &Value) -> Option<usize> {
     number_of(names, target_of(field)?)
 }
 
-/// Takes up what a template refers to, and tells whether the first one is among it.
+/// Adds the templates that a template refers to. Returns whether the first template is one of them.
 fn take_up(
     alloc: Global,
     names: &HashMap<String, usize>,
@@ -61,7 +61,7 @@ fn take_up(
     Ok(false)
 }
 
-/// The templates of a circle, from the one that refers to the first one: each is the one behind which the last was found.
+/// Returns the templates of a cycle in the order of their references, from the first template to the last, by their predecessors.
 fn circle_to(
     alloc: Global,
     before: &[Option<usize>],
@@ -81,7 +81,7 @@ fn circle_to(
     Ok(circle)
 }
 
-/// The templates of a circle: the last of them refers to the first one.
+/// Returns the templates of a cycle: the last of them refers to the first.
 fn circle_from(
     alloc: Global,
     names: &HashMap<String, usize>,
@@ -107,14 +107,14 @@ fn circle_from(
     Ok(Vec::new(alloc))
 }
 
-/// Puts the name of a template, and what comes behind it.
+/// Writes the name of a template, and `behind` after it.
 fn put_name(note: &mut Note, template: &Value, behind: &str) {
     if let Some(name) = name_of(template) {
         let _ = put_quoted(note, name) && put(note, &[behind]);
     }
 }
 
-/// Tells the names of the templates of a circle.
+/// Writes the names of the templates of a cycle.
 fn tell_names(note: &mut Note, templates: &[Value], circle: &[usize]) {
     let mut count: usize = 0;
     for number in circle {
@@ -129,7 +129,7 @@ fn tell_names(note: &mut Note, templates: &[Value], circle: &[usize]) {
     }
 }
 
-/// Ends the line of a place, and tells the circle of references that leads from a template to itself.
+/// Ends the line of the position, and writes the cycle of references that leads from a template to itself.
 pub(crate) fn tell_circle(
     alloc: Global,
     templates: &[Value],

@@ -1,15 +1,15 @@
-//! Texts that are no array of templates, and places in a text.
+//! Files that are not an array of templates, and positions in a file.
 
 use crate::keys::{unknown_key, value_at};
 use crate::notes::{Found, Note, Right, put, put_number, put_quoted, tell_right};
 use toml::{Table, Value};
 
-/// The only key of a template text.
+/// The only key of a template file.
 static KEYS: [&str; 1] = ["template"];
 
 const TABLES: Right = Right::Said("an array of tables, each begun by [[template]]");
 
-/// Tells the line and the column of a place of a text, both from 1. A column counts characters.
+/// Writes the line and the column of the end of `before`, both from 1. A column counts characters.
 pub(crate) fn tell_place(note: &mut Note, before: &[u8]) {
     let mut line: usize = 1;
     let mut column: usize = 1;
@@ -28,7 +28,7 @@ pub(crate) fn tell_place(note: &mut Note, before: &[u8]) {
         && put(note, &["\n"]);
 }
 
-/// Tells of a document without an array of templates what stands in its place.
+/// Writes what a document without an array of templates has in its place.
 pub(crate) fn tell_document(note: &mut Note, document: &Table) {
     if let Some(key) = unknown_key(document, &KEYS) {
         return tell_key(note, key, Found::Key, Right::OneOf(&KEYS));
@@ -39,7 +39,7 @@ pub(crate) fn tell_document(note: &mut Note, document: &Table) {
     }
 }
 
-/// Tells of what stands in the place of the templates what is wrong.
+/// Writes what is wrong with a value that should be the array of templates.
 fn tell_value(note: &mut Note, value: &Value) {
     match value.as_array() {
         Some(items) => tell_items(note, items.as_slice()),
@@ -47,7 +47,7 @@ fn tell_value(note: &mut Note, value: &Value) {
     }
 }
 
-/// Tells the first of some templates that is none.
+/// Writes the first item of the array that is not a template.
 fn tell_items(note: &mut Note, items: &[Value]) {
     let mut number: u64 = 0;
     for item in items {
@@ -60,7 +60,7 @@ fn tell_items(note: &mut Note, items: &[Value]) {
     tell_key(note, "template", Found::Empty, TABLES)
 }
 
-/// Tells what is wrong at a key of a document.
+/// Writes what is wrong at a key of a document.
 fn tell_key(note: &mut Note, key: &str, found: Found<'_>, right: Right) {
     let _ = put(note, &["  key "]) && put_quoted(note, key) && put(note, &["\n"]);
     tell_right(note, found, right);

@@ -1,4 +1,4 @@
-//! What a person needs to know of a refusal or a fault: the sentence of its code, the place, and what would be right there.
+//! Explanations of refused template files and of faults: the sentence of the code, its position, and what would be valid there.
 #![tactic(auto)]
 
 mod circles;

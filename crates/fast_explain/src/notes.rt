@@ -1,44 +1,44 @@
-//! Where the words of an explanation are kept, and how what stands in a text is told.
+//! The buffer of an explanation, and how it quotes a template file.
 
 use arrayvec::ArrayString;
 use std::fmt::Write;
 use toml::Value;
 
-/// How many bytes an explanation has at most.
+/// The greatest length of an explanation in bytes.
 pub const NOTE_ROOM: usize = 4096;
 
-/// The lines of an explanation. What there is no room for is left out.
+/// The lines of an explanation. Whatever has no room is omitted.
 pub type Note = ArrayString<NOTE_ROOM>;
 
-/// How many characters of a text are told at most.
+/// The greatest number of characters that are quoted of a string.
 const QUOTED: usize = 64;
 
-/// What stands at a place.
+/// What a template file has at a position.
 #[derive(Clone, Copy)]
 pub(crate) enum Found<'a> {
     /// Nothing.
     Nothing,
     /// An array without items.
     Empty,
-    /// A key that has no meaning there.
+    /// A key that is not valid there.
     Key,
-    /// A value of the text.
+    /// A value of the file.
     Of(&'a Value),
 }
 
-/// What would be right at a place.
+/// What would be valid at a position.
 #[derive(Clone, Copy)]
 pub(crate) enum Right {
     /// One of these words.
     OneOf(&'static [&'static str]),
-    /// What is said.
+    /// This phrase.
     Said(&'static str),
 }
 
-/// In which part of a field something stands.
+/// The part of a field that is at fault.
 #[derive(Clone, Copy)]
 pub(crate) enum Part {
-    /// In none: in the field itself.
+    /// The field itself.
     Whole,
     Length,
     Exponent,
@@ -46,7 +46,7 @@ pub(crate) enum Part {
 }
 
 impl Part {
-    /// The key of a part.
+    /// Returns the key of a part.
     pub(crate) fn key(self) -> &'static str {
         match self {
             Part::Whole => "",
@@ -57,20 +57,20 @@ impl Part {
     }
 }
 
-/// What is not right about a table: below which of its keys, and why.
+/// An error of form in a table: its part, its key, what is there and what would be valid.
 #[derive(Clone, Copy)]
 pub(crate) struct Misfit<'a> {
-    /// The part of a field in which it stands.
+    /// The part of the field that is at fault.
     pub(crate) part: Part,
-    /// The key; without one it is the value itself.
+    /// The key; `None` for the value itself.
     pub(crate) key: Option<&'a str>,
-    /// What stands there.
+    /// What the file has there.
     pub(crate) found: Found<'a>,
-    /// What would be right.
+    /// What would be valid.
     pub(crate) right: Right,
 }
 
-/// Puts texts behind what is told, up to one for which there is no room, and says whether there was room for all.
+/// Appends strings, up to the first that has no room. Returns whether all had room.
 pub(crate) fn put(note: &mut Note, texts: &[&str]) -> bool {
     for text in texts {
         if note.write_str(text).is_err() {
@@ -80,12 +80,12 @@ pub(crate) fn put(note: &mut Note, texts: &[&str]) -> bool {
     true
 }
 
-/// Puts a number.
+/// Appends a number. Returns whether it had room.
 pub(crate) fn put_number(note: &mut Note, number: u64) -> bool {
     write!(note, "{number}").is_ok()
 }
 
-/// Puts a text between quotes, without what a terminal would obey.
+/// Appends a string in quotes, without control characters. Returns whether it had room.
 pub(crate) fn put_quoted(note: &mut Note, text: &str) -> bool {
     let mut count: usize = 0;
     if !put(note, &["\""]) {
@@ -106,7 +106,7 @@ pub(crate) fn put_quoted(note: &mut Note, text: &str) -> bool {
     put(note, &["\""])
 }
 
-/// Puts a text or a number, and of other values the type.
+/// Appends a string or a number; of any other value, its type. Returns whether it had room.
 fn put_value(note: &mut Note, value: &Value) -> bool {
     if let Some(text) = value.as_str() {
         return put_quoted(note, text);
@@ -117,7 +117,7 @@ fn put_value(note: &mut Note, value: &Value) -> bool {
     }
 }
 
-/// Puts what stands at a place.
+/// Appends what the file has at a position. Returns whether it had room.
 pub(crate) fn put_found(note: &mut Note, found: Found<'_>) -> bool {
     match found {
         Found::Nothing => put(note, &["missing"]),
@@ -127,7 +127,7 @@ pub(crate) fn put_found(note: &mut Note, found: Found<'_>) -> bool {
     }
 }
 
-/// Puts the words of which one would be right.
+/// Appends the words of which one would be valid. Returns whether they had room.
 fn put_words(note: &mut Note, words: &[&str]) -> bool {
     if !put(note, &["one of"]) {
         return false;
@@ -142,7 +142,7 @@ fn put_words(note: &mut Note, words: &[&str]) -> bool {
     true
 }
 
-/// Puts what would be right.
+/// Appends what would be valid. Returns whether it had room.
 fn put_right(note: &mut Note, right: Right) -> bool {
     match right {
         Right::Said(words) => put(note, &[words]),
@@ -150,7 +150,7 @@ fn put_right(note: &mut Note, right: Right) -> bool {
     }
 }
 
-/// Tells in a line what stands at a place and what would be right there.
+/// Writes a line with what the file has at a position and what would be valid there.
 pub(crate) fn tell_right(note: &mut Note, found: Found<'_>, right: Right) {
     let _ = put(note, &["  "])
         && put_found(note, found)
@@ -159,7 +159,7 @@ pub(crate) fn tell_right(note: &mut Note, found: Found<'_>, right: Right) {
         && put(note, &["\n"]);
 }
 
-/// Ends the line of a place with the keys of a misfit.
+/// Ends the line of a position with the keys of an error.
 fn tell_keys(note: &mut Note, part: Part, key: Option<&str>) {
     let name = part.key();
     match key {
@@ -179,7 +179,7 @@ fn tell_keys(note: &mut Note, part: Part, key: Option<&str>) {
     }
 }
 
-/// Ends the line of a place with the keys of a misfit, and tells what is wrong there in the next.
+/// Ends the line of a position with the keys of an error, and writes what is wrong there in the next line.
 pub(crate) fn tell(note: &mut Note, misfit: &Misfit<'_>) {
     tell_keys(note, misfit.part, misfit.key);
     tell_right(note, misfit.found, misfit.right);

@@ -1,4 +1,4 @@
-//! Where a code of template texts stands in a template.
+//! The position of a fault within a template.
 
 use crate::circles::tell_circle;
 use crate::keys::{entry_of, items_of, name_of, target_of};
@@ -13,7 +13,7 @@ use std::alloc::{AllocError, Global};
 use std::collections::HashMap;
 use toml::Value;
 
-/// The templates of a text, and one of them.
+/// The templates of a file, and the one at fault.
 #[derive(Clone, Copy)]
 pub(crate) struct Place<'a> {
     pub(crate) templates: &'a [Value],
@@ -21,7 +21,7 @@ pub(crate) struct Place<'a> {
     pub(crate) template: &'a Value,
 }
 
-/// A reference that names no template.
+/// Returns the error of a reference that names no template.
 fn target_misfit<'a>(names: &HashMap<String, usize>, field: &'a Value) -> Option<Misfit<'a>> {
     let name = target_of(field)?;
     if number_of(names, name).is_some() {
@@ -35,7 +35,7 @@ fn target_misfit<'a>(names: &HashMap<String, usize>, field: &'a Value) -> Option
     })
 }
 
-/// What does not fit in a field, by the code.
+/// Returns the error of a field, by the code.
 fn misfit_at<'a>(
     alloc: Global,
     names: &HashMap<String, usize>,
@@ -49,7 +49,7 @@ fn misfit_at<'a>(
     }
 }
 
-/// Tells what number is too great, and what it is at most.
+/// Writes a number that is too great, and its greatest value.
 fn tell_most(note: &mut Note, number: u64, words: &str, most: u64) {
     let _ = put(note, &["\n"]);
     let _ = put(note, &["  "])
@@ -59,7 +59,7 @@ fn tell_most(note: &mut Note, number: u64, words: &str, most: u64) {
         && put(note, &["\n"]);
 }
 
-/// Tells whether a field is a reference from which too many lead on, and if so, which.
+/// Writes the number of references that lead on from a field, if the field is a reference from which too many do. Returns whether it is.
 fn tells_links(known: Known<'_>, walk: &Walk<'_>, field: &Value, note: &mut Note) -> bool {
     let Some(name) = target_of(field) else {
         return false;
@@ -79,7 +79,7 @@ fn tells_links(known: Known<'_>, walk: &Walk<'_>, field: &Value, note: &mut Note
     true
 }
 
-/// Tells whether groups and sequences nest too deep down to a field, and if so, how deep.
+/// Writes how deep groups and sequences nest at a field, if that is too deep. Returns whether it is.
 fn tells_depth(known: Known<'_>, walk: &Walk<'_>, field: &Value, note: &mut Note) -> bool {
     if tells_links(known, walk, field, note) {
         return true;
@@ -94,7 +94,7 @@ fn tells_depth(known: Known<'_>, walk: &Walk<'_>, field: &Value, note: &mut Note
     true
 }
 
-/// Tells whether the segment of a field can use too many bits, and if so, how many.
+/// Writes how many bits of its presence map the segment of a field can use, if these are too many. Returns whether they are.
 fn tells_bits(known: Known<'_>, walk: &Walk<'_>, field: &Value, note: &mut Note) -> bool {
     let bits = segment_bits(known, items_of(field, "fields"));
     if bits <= SEGMENT_LIMIT as u64 {
@@ -105,7 +105,7 @@ fn tells_bits(known: Known<'_>, walk: &Walk<'_>, field: &Value, note: &mut Note)
     true
 }
 
-/// Tells whether a field is at fault with the code, and if so, why.
+/// Writes why a field is at fault with the code, if it is. Returns whether it is.
 fn tells(
     alloc: Global,
     known: Known<'_>,
@@ -128,7 +128,7 @@ fn tells(
     }
 }
 
-/// Tells the first field that is at fault with the code, and whether there is one.
+/// Writes the first field that is at fault with the code. Returns whether there is one.
 fn tell_first(
     alloc: Global,
     known: Known<'_>,
@@ -148,7 +148,8 @@ fn tell_first(
     Ok(false)
 }
 
-/// Tells the first field that is at fault with the code, or what stands behind the place where none is.
+/// Writes the first field that is at fault with the code. For C5, if there is none, it writes that the fault is in a template that this one
+/// refers to.
 fn tell_field(
     alloc: Global,
     known: Known<'_>,
@@ -168,7 +169,7 @@ fn tell_field(
     Ok(())
 }
 
-/// Tells which earlier template has what stands at a key of another one.
+/// Writes which earlier template has the same value at a key.
 fn tell_earlier(note: &mut Note, number: u64, earlier: &Value, found: Found<'_>) {
     let name = name_of(earlier).unwrap_or("");
     let _ = put(note, &["  "])
@@ -180,7 +181,7 @@ fn tell_earlier(note: &mut Note, number: u64, earlier: &Value, found: Found<'_>)
         && put(note, &[" has it\n"]);
 }
 
-/// Whether two templates have the same name or the same identifier, whichever stands at the key.
+/// Returns whether two templates have the same name or the same identifier, by the key.
 fn is_same(one: &Value, other: &Value, key: &str) -> bool {
     match key {
         "name" => name_of(one) == name_of(other),
@@ -191,7 +192,7 @@ fn is_same(one: &Value, other: &Value, key: &str) -> bool {
     }
 }
 
-/// Tells which earlier template has the name or the identifier, whichever stands at the key.
+/// Writes which earlier template has the same name or the same identifier, by the key.
 fn tell_twice(place: Place<'_>, key: &'static str, note: &mut Note) {
     let _ = put(note, &[", key \"", key, "\"\n"]);
     for (k, other) in place.templates.iter().enumerate() {
@@ -207,12 +208,12 @@ fn tell_twice(place: Place<'_>, key: &'static str, note: &mut Note) {
     }
 }
 
-/// The identifier of a template.
+/// Returns the identifier of a template.
 fn id_of(template: &Value) -> Option<i64> {
     entry_of(template, "id")?.as_integer()
 }
 
-/// Tells how many nodes there are up to a template and with it.
+/// Writes the number of nodes up to a template, that one included.
 fn tell_nodes(known: Known<'_>, number: usize, note: &mut Note) {
     let mut nodes: u64 = 0;
     for (k, size) in known.sizes.iter().enumerate() {
@@ -230,7 +231,7 @@ fn tell_nodes(known: Known<'_>, number: usize, note: &mut Note) {
     );
 }
 
-/// Tells which segment can use too many bits.
+/// Writes which segment can use too many bits of its presence map.
 fn tell_bits(
     alloc: Global,
     known: Known<'_>,
@@ -246,7 +247,7 @@ fn tell_bits(
     tell_field(alloc, known, template, StaticCode::C5, note)
 }
 
-/// Tells where in a template a code stands that is one of sizes.
+/// Writes the position in a template of a code that is about sizes.
 fn tell_size(
     alloc: Global,
     names: &HashMap<String, usize>,
@@ -269,7 +270,7 @@ fn tell_size(
     }
 }
 
-/// Tells where in a template a code stands for which the names of all are looked at.
+/// Writes the position in a template of a code that depends on the names of all templates.
 fn tell_named(
     alloc: Global,
     place: Place<'_>,
@@ -291,7 +292,7 @@ fn tell_named(
     }
 }
 
-/// Tells what is not of the form of a template.
+/// Writes the error of form in a template.
 fn tell_shape(alloc: Global, place: Place<'_>, note: &mut Note) -> Result<(), AllocError> {
     match shapes::template_misfit(place.template) {
         Some(misfit) => {
@@ -302,7 +303,7 @@ fn tell_shape(alloc: Global, place: Place<'_>, note: &mut Note) -> Result<(), Al
     }
 }
 
-/// Tells where in a template a code stands.
+/// Writes the position of a code in a template.
 pub(crate) fn tell_code(
     alloc: Global,
     place: Place<'_>,

@@ -1,4 +1,4 @@
-//! Tables that are not of the form of a template or of a field.
+//! Tables that have not the form of a template or of a field.
 
 use crate::keys::{has_key, is_one_of, text_of, unknown_key, value_at};
 use crate::notes::{Found, Misfit, Part, Right};
@@ -51,7 +51,7 @@ static LENGTH_KEYS: [&str; 5] = ["name", "op", "value", "key", "dictionary"];
 /// The keys of a reference.
 static REFERENCE_KEYS: [&str; 2] = ["kind", "name"];
 
-/// What a field can be.
+/// The values of a field's `kind`.
 static KINDS: [&str; 11] = [
     "uInt32", "int32", "uInt64", "int64", "decimal", "ascii", "unicode", "bytes", "group",
     "sequence", "ref",
@@ -68,30 +68,30 @@ static OPERATORS: [&str; 7] = [
     "tail",
 ];
 
-/// The parts of fields, in the order in which they are looked at.
+/// The parts of fields, in the order in which they are checked.
 static PARTS: [Part; 3] = [Part::Length, Part::Exponent, Part::Mantissa];
 
-/// What may stand at a key.
+/// The form that the value of a key must have.
 #[derive(Clone, Copy)]
 enum Form {
-    /// A name, which may not be missing.
+    /// A name; the key is mandatory.
     OwnName,
     Name,
     Dictionary,
     Flag,
     Fields,
     Id,
-    /// What a field is, which may not be missing.
+    /// The type of a field; the key is mandatory.
     Kind,
     Operator,
     Text,
-    /// Nothing, since there is no operator.
+    /// No value, since there is no operator.
     NoValue,
-    /// Nothing, since the operator keeps nothing.
+    /// No value, since the operator keeps no previous value.
     NoKey,
 }
 
-/// A key, and what may stand at it.
+/// A key, and the form of its value.
 type Rule = (&'static str, Form);
 
 /// The rules of a template.
@@ -119,20 +119,20 @@ static PART_RULES: [Rule; 1] = [("name", Form::Name)];
 /// The rules of an operator.
 static OPERATOR_RULES: [Rule; 2] = [("op", Form::Operator), ("value", Form::Text)];
 
-/// The rules where there is no operator.
+/// The rules for a field without operator.
 static NONE_RULES: [Rule; 3] = [
     ("value", Form::NoValue),
     ("key", Form::NoKey),
     ("dictionary", Form::NoKey),
 ];
 
-/// The rules beside an operator that keeps nothing.
+/// The rules for the keys next to an operator that keeps no previous value.
 static CONSTANT_RULES: [Rule; 2] = [("key", Form::NoKey), ("dictionary", Form::NoKey)];
 
-/// The rules beside an operator that keeps a value.
+/// The rules for the keys next to an operator that keeps a previous value.
 static KEPT_RULES: [Rule; 2] = [("key", Form::Name), ("dictionary", Form::Dictionary)];
 
-/// What would be right where something stands that has not this form.
+/// Returns what would be valid for a value that has not this form.
 fn right_of(form: Form) -> Right {
     match form {
         Form::Kind => Right::OneOf(&KINDS),
@@ -141,7 +141,7 @@ fn right_of(form: Form) -> Right {
     }
 }
 
-/// What is said of a form.
+/// Returns the phrase for a form.
 fn words_of(form: Form) -> &'static str {
     match form {
         Form::OwnName | Form::Name => "a name, of 1 to 64 letters, digits, _, - and points",
@@ -155,7 +155,7 @@ fn words_of(form: Form) -> &'static str {
     }
 }
 
-/// What does not fit at a key.
+/// Returns the error at a key.
 fn at<'a>(key: &'a str, found: Found<'a>, right: Right) -> Option<Misfit<'a>> {
     Some(Misfit {
         part: Part::Whole,
@@ -165,12 +165,12 @@ fn at<'a>(key: &'a str, found: Found<'a>, right: Right) -> Option<Misfit<'a>> {
     })
 }
 
-/// Whether the byte may stand in a name.
+/// Returns whether a name can contain the byte.
 fn is_name_byte(byte: u8) -> bool {
     byte.is_ascii_alphanumeric() || matches!(byte, b'_' | b'-' | b'.')
 }
 
-/// Whether the text is a name.
+/// Returns whether the string is a name.
 fn is_name(text: &str) -> bool {
     for byte in text.as_bytes() {
         if !is_name_byte(*byte) {
@@ -180,7 +180,7 @@ fn is_name(text: &str) -> bool {
     !text.is_empty() && text.len() <= 64
 }
 
-/// Whether a text has a form of texts.
+/// Returns whether a string has a form.
 fn suits(text: &str, form: Form) -> bool {
     match form {
         Form::Kind => is_one_of(&KINDS, text),
@@ -190,7 +190,7 @@ fn suits(text: &str, form: Form) -> bool {
     }
 }
 
-/// Whether a value has a form.
+/// Returns whether a value has a form.
 fn fits(value: &Value, form: Form) -> bool {
     match form {
         Form::Flag => value.is_bool(),
@@ -205,7 +205,7 @@ fn fits(value: &Value, form: Form) -> bool {
     }
 }
 
-/// What does not fit at the key of a rule.
+/// Returns the error at the key of a rule, if the rule is broken.
 fn broken<'a>(table: &'a Table, key: &'static str, form: Form) -> Option<Misfit<'a>> {
     let found = match value_at(table, key) {
         Some(value) if fits(value, form) => return None,
@@ -216,7 +216,7 @@ fn broken<'a>(table: &'a Table, key: &'static str, form: Form) -> Option<Misfit<
     at(key, found, right_of(form))
 }
 
-/// What does not fit by the first rule that is broken.
+/// Returns the error of the first rule that is broken.
 fn first_broken<'a>(table: &'a Table, rules: &[Rule]) -> Option<Misfit<'a>> {
     for (key, form) in rules {
         let misfit = broken(table, *key, *form);
@@ -227,7 +227,7 @@ fn first_broken<'a>(table: &'a Table, rules: &[Rule]) -> Option<Misfit<'a>> {
     None
 }
 
-/// A key that is not one of these, or what does not fit by the rules.
+/// Returns the error of a key that is not one of these, else that of the first rule that is broken.
 fn unfit<'a>(
     table: &'a Table,
     keys: &'static [&'static str],
@@ -239,7 +239,7 @@ fn unfit<'a>(
     }
 }
 
-/// A value that is no table.
+/// Returns the error of a value that is not a table.
 fn no_table<'a>(value: &'a Value) -> Option<Misfit<'a>> {
     Some(Misfit {
         part: Part::Whole,
@@ -249,7 +249,7 @@ fn no_table<'a>(value: &'a Value) -> Option<Misfit<'a>> {
     })
 }
 
-/// What does not fit in a template, but for its fields.
+/// Returns the error of a template, its fields aside.
 pub(crate) fn template_misfit<'a>(template: &'a Value) -> Option<Misfit<'a>> {
     match template.as_table() {
         Some(table) => unfit(table, &TEMPLATE_KEYS, &TEMPLATE_RULES),
@@ -257,7 +257,7 @@ pub(crate) fn template_misfit<'a>(template: &'a Value) -> Option<Misfit<'a>> {
     }
 }
 
-/// The rules beside an operator.
+/// Returns the rules for the keys next to an operator.
 fn rules_beside(operator: &str) -> &'static [Rule] {
     match operator {
         "none" => &NONE_RULES,
@@ -266,7 +266,7 @@ fn rules_beside(operator: &str) -> &'static [Rule] {
     }
 }
 
-/// What does not fit of an operator and what stands beside it.
+/// Returns the error of an operator and of the keys next to it.
 fn operator_misfit<'a>(table: &'a Table) -> Option<Misfit<'a>> {
     let misfit = first_broken(table, &OPERATOR_RULES);
     if misfit.is_some() {
@@ -281,7 +281,7 @@ fn operator_misfit<'a>(table: &'a Table) -> Option<Misfit<'a>> {
     )
 }
 
-/// What does not fit in the value of a part of a field.
+/// Returns the error of the value of a part of a field.
 fn inner_misfit<'a>(value: &'a Value, keys: &'static [&'static str]) -> Option<Misfit<'a>> {
     let Some(table) = value.as_table() else {
         return no_table(value);
@@ -293,7 +293,7 @@ fn inner_misfit<'a>(value: &'a Value, keys: &'static [&'static str]) -> Option<M
     operator_misfit(table)
 }
 
-/// What does not fit in a part of a field, where it stands.
+/// Returns the error of a part of a field, with that part.
 fn part_misfit<'a>(table: &'a Table, part: Part) -> Option<Misfit<'a>> {
     let value = value_at(table, part.key())?;
     let misfit = inner_misfit(
@@ -306,7 +306,7 @@ fn part_misfit<'a>(table: &'a Table, part: Part) -> Option<Misfit<'a>> {
     Some(Misfit { part, ..misfit })
 }
 
-/// The keys of a field of a kind.
+/// Returns the keys of a field of this type.
 fn keys_of(table: &Table, kind: &str) -> &'static [&'static str] {
     match kind {
         "group" => &GROUP_KEYS,
@@ -317,8 +317,8 @@ fn keys_of(table: &Table, kind: &str) -> &'static [&'static str] {
     }
 }
 
-/// What does not fit in a field of a kind, but for the fields in it. Keys that a kind has not are told first, so that the rules are
-/// those of all kinds.
+/// Returns the error of a field of this type, the fields in it aside. Keys that the type does not have come first, so that the rules can be
+/// those of all types.
 fn misfit_of_kind<'a>(table: &'a Table, kind: &str) -> Option<Misfit<'a>> {
     let misfit = unfit(table, keys_of(table, kind), &SEGMENT_RULES);
     if misfit.is_some() {
@@ -333,7 +333,7 @@ fn misfit_of_kind<'a>(table: &'a Table, kind: &str) -> Option<Misfit<'a>> {
     operator_misfit(table)
 }
 
-/// What does not fit in a field, but for the fields in it.
+/// Returns the error of a field, the fields in it aside.
 pub(crate) fn field_misfit<'a>(field: &'a Value) -> Option<Misfit<'a>> {
     let Some(table) = field.as_table() else {
         return no_table(field);

@@ -1,4 +1,4 @@
-//! A second decoder of what is read: it stands at the end where the first one does, and tells at which field.
+//! A second decoder of the same input, which ends at the same byte as the first and finds the field there.
 
 use crate::notes::{Note, put, put_number, put_quoted};
 use crate::tails::{is_digit, value_of};
@@ -9,15 +9,15 @@ use fast_tree::{Node, Shape, Template};
 use fast_value::{Code, Limits};
 use std::alloc::Global;
 
-/// How many groups and sequences nest at most.
+/// The greatest depth to which groups and sequences nest.
 const DEPTH: usize = 64;
 
-/// A sink that knows which message is in hand, and which groups and sequences of it are open.
+/// A sink that keeps the template of the current message, and its open groups and sequences.
 #[derive(Drop)]
 struct Hearer {
-    /// The number of its template, if one is.
+    /// The number of the current message's template, if there is a message.
     template: Option<u32>,
-    /// The nodes of what is open, the outermost first.
+    /// The nodes of the open groups and sequences, the outermost first.
     open: ArrayVec<u32, DEPTH>,
 }
 
@@ -42,17 +42,17 @@ impl Sink for Hearer {
     }
 }
 
-/// A decoder that is fed what another one is.
+/// A decoder that is fed the input of another one.
 #[derive(Drop)]
 pub(crate) struct Shadow<'t> {
     templates: &'t Templates,
     decoder: Decoder<'t>,
     hearer: Hearer,
-    /// The first digit of a byte whose second has not come.
+    /// The first digit of a byte whose second digit has not been read.
     half: Option<u8>,
 }
 
-/// Whether a code is one of presence maps.
+/// Returns whether a code is about presence maps.
 fn is_of_maps(code: Option<FaultCode>) -> bool {
     matches!(
         code,
@@ -60,12 +60,12 @@ fn is_of_maps(code: Option<FaultCode>) -> bool {
     )
 }
 
-/// Whether a code is one of sequences with too many elements.
+/// Returns whether a code is about sequences with too many elements.
 fn is_of_counts(code: Option<FaultCode>) -> bool {
     matches!(code, Some(FaultCode::Stream(Code::L2 | Code::L5)))
 }
 
-/// What of a message is at fault with a code, or cut, before its template is known.
+/// Returns the part of a message that is at fault with a code, or truncated, before its template is known.
 fn part_of_message(code: Option<FaultCode>) -> &'static str {
     if code.is_none() {
         "  the presence map or the template identifier of a message"
@@ -76,7 +76,7 @@ fn part_of_message(code: Option<FaultCode>) -> &'static str {
     }
 }
 
-/// The nodes of the segment within a node.
+/// Returns the nodes of a group's or sequence's segment.
 fn body_of(node: &Node) -> &[u32] {
     match &node.shape {
         Shape::Field(_) | Shape::Decimal { .. } => &[],
@@ -84,7 +84,7 @@ fn body_of(node: &Node) -> &[u32] {
     }
 }
 
-/// The last node of a segment before another one, or of all.
+/// Returns the last node of a segment before another one, or the last of all.
 fn last_before(body: &[u32], next: Option<u32>) -> Option<u32> {
     let mut last = None;
     for number in body {
@@ -96,7 +96,7 @@ fn last_before(body: &[u32], next: Option<u32>) -> Option<u32> {
     last
 }
 
-/// Tells a node.
+/// Writes a node.
 fn tell_node(number: u32, node: &Node, note: &mut Note) {
     let word = match &node.shape {
         Shape::Field(_) | Shape::Decimal { .. } => "field",
@@ -110,7 +110,7 @@ fn tell_node(number: u32, node: &Node, note: &mut Note) {
 }
 
 impl<'t> Shadow<'t> {
-    /// A decoder before the first byte, if there is memory for one.
+    /// Makes a decoder that has read nothing; `None` if no decoder can be made, for example if an allocation fails.
     pub(crate) fn new(
         alloc: Global,
         templates: &'t Templates,
@@ -130,7 +130,7 @@ impl<'t> Shadow<'t> {
         }
     }
 
-    /// Takes a piece of the stream, or of its hexadecimal digits.
+    /// Reads a piece of the stream, or of its hexadecimal digits.
     pub(crate) fn take_in(&mut self, piece: &[u8], is_hex: bool) {
         if is_hex {
             self.take_digits(piece);
@@ -139,12 +139,12 @@ impl<'t> Shadow<'t> {
         }
     }
 
-    /// Takes bytes of the stream.
+    /// Reads bytes of the stream.
     fn take(&mut self, bytes: &[u8]) {
         let _ = self.decoder.feed(bytes, &mut self.hearer);
     }
 
-    /// Takes bytes of the stream as hexadecimal digits.
+    /// Reads bytes of the stream from hexadecimal digits.
     fn take_digits(&mut self, text: &[u8]) {
         for character in text {
             if is_digit(*character) {
@@ -160,7 +160,7 @@ impl<'t> Shadow<'t> {
         }
     }
 
-    /// The nodes of the innermost segment, of which this is the template.
+    /// Returns the nodes of the innermost open segment, in a message of this template.
     fn segment<'a>(&'a self, template: &'a Template) -> &'a [u32] {
         if let Some(number) = self.hearer.open.last().copied() {
             if number < self.templates.nodes() {
@@ -170,14 +170,14 @@ impl<'t> Shadow<'t> {
         template.body.as_slice()
     }
 
-    /// Tells a node, if the set has it.
+    /// Writes a node, if the set has it.
     fn tell_number(&self, number: u32, note: &mut Note) {
         if number < self.templates.nodes() {
             tell_node(number, self.templates.node(number), note);
         }
     }
 
-    /// Tells what is in hand of a message of this template: of the innermost segment this node, or what lies before it.
+    /// Writes which part of the innermost open segment is at fault or truncated: this node, or the part before it.
     fn tell_due(
         &self,
         template: &Template,
@@ -189,7 +189,7 @@ impl<'t> Shadow<'t> {
             let _ = put(note, &[", its presence map"]);
             return;
         }
-        // A sequence that is too long has been passed.
+        // A sequence with too many elements is past already.
         let place = if is_of_counts(code) {
             last_before((&*self).segment(&*template), next)
         } else {
@@ -200,8 +200,8 @@ impl<'t> Shadow<'t> {
         }
     }
 
-    /// Tells what of a message of this template is at fault with this code, or cut: the groups and sequences that are open, and what is
-    /// in hand of the innermost one.
+    /// Writes which part of a message is at fault with a code, or truncated: the groups and sequences that are open, and the part of the
+    /// innermost one.
     fn tell_way(&self, template: &Template, code: Option<FaultCode>, note: &mut Note) {
         let _ = put(note, &["  template "]) && put_quoted(note, template.name.as_str());
         for number in self.hearer.open.iter() {
@@ -216,7 +216,7 @@ impl<'t> Shadow<'t> {
         }
     }
 
-    /// The template of the message in hand, if one is.
+    /// Returns the template of the current message, if there is one.
     fn template(&self) -> Option<&Template> {
         let number = self.hearer.template?;
         if number < self.templates.count() {
@@ -225,7 +225,7 @@ impl<'t> Shadow<'t> {
         None
     }
 
-    /// Tells what is at fault with this code, or what is cut: a field, or a presence map.
+    /// Writes what is at fault with a code, or truncated: a field, or a presence map.
     pub(crate) fn tell_place(&self, code: Option<FaultCode>, note: &mut Note) {
         match self.template() {
             Some(template) => self.tell_way(template, code, note),

@@ -1,4 +1,4 @@
-//! What templates come to with their references in place.
+//! The sizes of templates with their references resolved.
 
 use crate::keys::{has_flag, has_key, is_segment, items_of, name_of, table_at, target_of, text_of};
 use crate::walks::Walk;
@@ -7,20 +7,20 @@ use std::alloc::{AllocError, Global};
 use std::collections::HashMap;
 use toml::{Table, Value};
 
-/// What the fields of a template come to. Numbers that are too great stay at the greatest.
+/// The size of a template. Numbers saturate.
 #[derive(Clone, Copy)]
 pub(crate) struct Size {
-    /// The nodes.
+    /// The number of nodes.
     pub(crate) nodes: u64,
-    /// How deep groups and sequences nest.
+    /// The depth to which groups and sequences nest.
     pub(crate) depth: u64,
-    /// How many references lead on, one behind the other.
+    /// The length of the longest chain of references.
     pub(crate) links: u64,
-    /// The bits that the template's own segment can use, without that of the identifier.
+    /// The bits that the template's own segment can use of its presence map, without that of the template identifier.
     pub(crate) bits: u64,
 }
 
-/// The number of each template by its name: of two with one name, the last one's.
+/// Returns the number of each template by its name; of two with the same name, that of the last.
 pub(crate) fn index(
     alloc: Global,
     templates: &[Value],
@@ -35,7 +35,7 @@ pub(crate) fn index(
     Ok(names)
 }
 
-/// The number of the template of a name, if there is one.
+/// Returns the number of the template of a name, if there is one.
 pub(crate) fn number_of(names: &HashMap<String, usize>, name: &str) -> Option<usize> {
     match names.get(name) {
         Some(number) => Some(*number),
@@ -43,14 +43,14 @@ pub(crate) fn number_of(names: &HashMap<String, usize>, name: &str) -> Option<us
     }
 }
 
-/// What is known of the templates of a text: the number of each by its name, and the sizes of those that have one.
+/// The templates of a file: the number of each by its name, and the sizes that are known.
 #[derive(Clone, Copy)]
 pub(crate) struct Known<'a> {
     pub(crate) names: &'a HashMap<String, usize>,
     pub(crate) sizes: &'a [Option<Size>],
 }
 
-/// The presence bits that the operator of a table uses: one or none.
+/// Returns the number of presence bits that the operator of a table uses: 0 or 1.
 fn own_bit(table: &Table, optional: bool) -> u64 {
     match operator_named(text_of(table, "op").unwrap_or("none")) {
         Some(operator) => u64::from(operator.uses_bit(optional)),
@@ -58,7 +58,7 @@ fn own_bit(table: &Table, optional: bool) -> u64 {
     }
 }
 
-/// The presence bits that the operator of a part of a field uses.
+/// Returns the number of presence bits that the operator of a part of a field uses.
 fn part_bit(table: &Table, part: &str, optional: bool) -> u64 {
     match table_at(table, part) {
         Some(inner) => own_bit(inner, optional),
@@ -66,7 +66,7 @@ fn part_bit(table: &Table, part: &str, optional: bool) -> u64 {
     }
 }
 
-/// The bits that a field uses of its own segment.
+/// Returns the number of presence bits that a field uses in its own segment.
 fn bits_of(field: &Value) -> u64 {
     let Some(table) = field.as_table() else {
         return 0;
@@ -82,13 +82,13 @@ fn bits_of(field: &Value) -> u64 {
     }
 }
 
-/// The size of the template of a name, if it is known.
+/// Returns the size of the template of a name, if it is known.
 pub(crate) fn size_named(known: Known<'_>, name: &str) -> Option<Size> {
     let number = number_of(known.names, name)?;
     *known.sizes.get(number)?
 }
 
-/// The bits that fields use of their segment.
+/// Returns the number of presence bits that fields use in their segment.
 pub(crate) fn segment_bits(known: Known<'_>, fields: &[Value]) -> u64 {
     let mut bits: u64 = 0;
     for field in fields {
@@ -104,7 +104,7 @@ pub(crate) fn segment_bits(known: Known<'_>, fields: &[Value]) -> u64 {
     bits
 }
 
-/// How deep groups and sequences nest down to a field, and in it where it is a reference.
+/// Returns the depth to which groups and sequences nest at a field, and within it if it is a reference.
 pub(crate) fn depth_at(known: Known<'_>, around: usize, field: &Value) -> u64 {
     let inner = match target_of(field) {
         Some(name) => match size_named(known, name) {
@@ -116,7 +116,7 @@ pub(crate) fn depth_at(known: Known<'_>, around: usize, field: &Value) -> u64 {
     inner.saturating_add(around as u64)
 }
 
-/// The size of a template with one field more, of which so many groups and sequences are around, if it is known.
+/// Returns the size of a template with one more field, which `around` groups and sequences enclose, if it is known.
 fn size_with(known: Known<'_>, around: usize, field: &Value, size: Size) -> Option<Size> {
     let depth = depth_at(known, around, field).max(size.depth);
     let (nodes, links) = match target_of(field) {
@@ -134,7 +134,7 @@ fn size_with(known: Known<'_>, around: usize, field: &Value, size: Size) -> Opti
     })
 }
 
-/// The size of a template, if those are known that it refers to.
+/// Returns the size of a template, if the sizes of all templates that it refers to are known.
 fn size_of(alloc: Global, known: Known<'_>, template: &Value) -> Result<Option<Size>, AllocError> {
     let mut size = Some(Size {
         nodes: 0,
@@ -155,7 +155,7 @@ fn size_of(alloc: Global, known: Known<'_>, template: &Value) -> Result<Option<S
     Ok(size)
 }
 
-/// The sizes of templates, where some are known.
+/// Returns the sizes of templates, one step further than those that are known.
 fn next_sizes(
     alloc: Global,
     known: Known<'_>,
@@ -172,7 +172,7 @@ fn next_sizes(
     Ok(next)
 }
 
-/// How many sizes are known.
+/// Returns how many sizes are known.
 fn count_of(sizes: &[Option<Size>]) -> usize {
     let mut count: usize = 0;
     for size in sizes {
@@ -183,7 +183,7 @@ fn count_of(sizes: &[Option<Size>]) -> usize {
     count
 }
 
-/// The sizes of all templates from which no more than 64 references lead on.
+/// Returns the sizes of all templates whose chains of references have at most 64 links.
 pub(crate) fn sizes_of(
     alloc: Global,
     names: &HashMap<String, usize>,

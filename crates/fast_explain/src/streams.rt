@@ -1,4 +1,4 @@
-//! Why a stream is at fault, in words.
+//! Explanations of a stream's fault.
 
 ghost use Rattle.std.specs.Prelude.{◌≤◌, length};
 
@@ -7,7 +7,7 @@ use crate::tails::Kept;
 use fast_stream::FaultCode;
 use std::fmt::Write;
 
-/// Tells what a code says, or that there is none.
+/// Writes the sentence of a code, or that the stream is truncated.
 fn tell_code(code: Option<FaultCode>, note: &mut Note) {
     let _ = match code {
         Some(code) => writeln!(note, "  {code}").is_ok(),
@@ -15,8 +15,8 @@ fn tell_code(code: Option<FaultCode>, note: &mut Note) {
     };
 }
 
-/// Says of a stream in words what is wrong behind so many bytes of it, in which field of which message, and which bytes stand there.
-/// Without a code the stream ends inside a message.
+/// Explains the fault of a stream after `consumed` bytes: the sentence of the code, the field of the message, and the bytes there. Without
+/// a code, the stream ends inside a message.
 pub fn explain_stream<S>(code: Option<FaultCode>, consumed: u64, reader: &Kept<'_, S>) -> Note
     ensures { length result.bytes ≤ NOTE_ROOM }
 {

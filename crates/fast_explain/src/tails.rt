@@ -1,4 +1,4 @@
-//! What a reader has given: its last bytes, and where all of them have led.
+//! A reader that keeps the last bytes of its input, and decodes all of them a second time.
 
 ghost use Rattle.std.specs.Prelude.{◌≡◌};
 
@@ -11,42 +11,42 @@ use fast_value::Limits;
 use std::alloc::Global;
 use std::fmt::Write;
 
-/// How many bytes are kept: more than two reads give.
+/// The number of bytes that are kept: more than two reads return.
 const KEPT: usize = 8192;
 
-/// How many bytes of the stream are told before the one in question, and behind it.
+/// The number of bytes of the stream that are printed before the byte in question, and after it.
 const AROUND: u64 = 8;
 
-/// The digits of a byte.
+/// The hexadecimal digits.
 const DIGITS: &[u8; 16] = b"0123456789ABCDEF";
 
 /// The last bytes of an input.
 #[derive(Drop)]
 struct Tail {
     cells: [u8; KEPT],
-    /// How many bytes there were.
+    /// The number of bytes read.
     count: u64,
-    /// How many digits were dropped, where the input is hexadecimal.
+    /// The number of digits that were dropped, if the input is hexadecimal.
     dropped: u64,
     is_hex: bool,
 }
 
-/// A reader whose last bytes are kept, and decoded a second time. It gives what the inner one gives.
+/// A reader whose last bytes are kept, and decoded a second time. It returns the bytes of the inner reader.
 #[derive(Drop)]
 pub struct Kept<'t, S> {
     inner: S,
     tail: Tail,
-    /// The second decoder, if there was memory for one.
+    /// The second decoder, if it could be allocated.
     shadow: Option<Shadow<'t>>,
 }
 
-/// Whether a character is a hexadecimal digit.
+/// Returns whether a character is a hexadecimal digit.
 pub(crate) fn is_digit(character: u8) -> bool {
     matches!(character, b'0'..=b'9' | b'a'..=b'f' | b'A'..=b'F')
 }
 
 impl Tail {
-    /// Takes in a byte.
+    /// Adds a byte.
     fn push(&mut self, byte: u8) {
         let at = (self.count % KEPT as u64) as usize;
         if let Some(cell) = self.cells.get_mut(at) {
@@ -58,20 +58,20 @@ impl Tail {
         self.count = self.count.saturating_add(1);
     }
 
-    /// Takes in a piece.
+    /// Adds a piece.
     fn take(&mut self, piece: &[u8]) {
         for byte in piece {
             self.push(*byte);
         }
     }
 
-    /// The kept byte of a number.
+    /// Returns the kept byte of a number.
     fn byte(&self, number: u64) -> u8 {
         let at = (number % KEPT as u64) as usize;
         self.cells.get(at).copied().unwrap_or(0)
     }
 
-    /// Tells the offset of a byte of the stream, and the bytes around it.
+    /// Writes the offset of a byte of the stream, and the bytes around it.
     fn tell(&self, place: u64, note: &mut Note) {
         let _ = write!(note, "  offset 0x{place:x}:");
         let mut digits = self.dropped;
@@ -89,7 +89,7 @@ impl Tail {
     }
 }
 
-/// The value of a hexadecimal digit.
+/// Returns the value of a hexadecimal digit.
 pub(crate) fn value_of(character: u8) -> u8 {
     match character {
         b'0'..=b'9' => character - b'0',
@@ -99,7 +99,7 @@ pub(crate) fn value_of(character: u8) -> u8 {
     }
 }
 
-/// Tells one digit of a byte, where that one is near the byte in question, which stands in brackets.
+/// Writes a digit of a byte, if that byte is near the byte in question, which is written in brackets.
 fn tell_digit(note: &mut Note, number: u64, place: u64, is_last: bool, digit: u8) {
     if number.saturating_add(AROUND) < place || place.saturating_add(AROUND) < number {
         return;
@@ -119,7 +119,7 @@ fn tell_digit(note: &mut Note, number: u64, place: u64, is_last: bool, digit: u8
 impl<'t, S> Kept<'t, S> {
     ghost use Rattle.fast_explain.specs.meaning.Listening.{reader_of};
 
-    /// The reader, of which nothing was read, of a stream of these templates, or of its hexadecimal digits.
+    /// Makes a reader of a stream under these templates, or of its hexadecimal digits.
     pub fn new(
         alloc: Global,
         inner: S,
@@ -141,7 +141,7 @@ impl<'t, S> Kept<'t, S> {
         }
     }
 
-    /// Takes note of a piece.
+    /// Keeps and decodes a piece.
     fn note(&mut self, piece: &[u8])
         ensures { reader_of self.new ≡ reader_of self.old }
     {
@@ -151,14 +151,14 @@ impl<'t, S> Kept<'t, S> {
         }
     }
 
-    /// Tells the field at which the stream is at fault with this code, or cut.
+    /// Writes the field at which the stream is at fault with a code, or truncated.
     pub fn tell_place(&self, code: Option<FaultCode>, note: &mut Note) {
         if let Some(shadow) = &self.shadow {
             shadow.tell_place(code, note);
         }
     }
 
-    /// Tells the offset of the last of so many bytes of the stream, and the bytes around it.
+    /// Writes the offset of the last of `consumed` bytes of the stream, and the bytes around it.
     pub fn tell_bytes(&self, consumed: u64, note: &mut Note) {
         if let Some(place) = consumed.checked_sub(1) {
             self.tail.tell(place, note);

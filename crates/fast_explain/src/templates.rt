@@ -1,4 +1,4 @@
-//! Why a template text is refused, in words.
+//! Explanations of a template file's fault.
 
 ghost use Rattle.std.specs.Prelude.{◌≤◌, length};
 
@@ -11,7 +11,7 @@ use std::alloc::{AllocError, Global};
 use std::fmt::Write;
 use toml::{Table, Value};
 
-/// The templates of a document.
+/// Returns the templates of a document.
 fn templates_of(document: &Table) -> &[Value] {
     let Some(value) = value_at(document, "template") else {
         return &[];
@@ -22,7 +22,7 @@ fn templates_of(document: &Table) -> &[Value] {
     }
 }
 
-/// Tells where a fault stands in the document of a text.
+/// Writes the position of a fault in the document of a file.
 fn tell_fault(
     alloc: Global,
     document: &Table,
@@ -48,7 +48,7 @@ fn tell_fault(
     }
 }
 
-/// Tells where a fault stands in a text that is UTF-8.
+/// Writes the position of a fault in a file that is UTF-8.
 fn tell_read(
     alloc: Global,
     text: &str,
@@ -68,7 +68,7 @@ fn tell_read(
     }
 }
 
-/// Tells where a fault stands in a text.
+/// Writes the position of a fault in a file.
 fn tell_text(
     alloc: Global,
     bytes: &[u8],
@@ -86,8 +86,8 @@ fn tell_text(
     }
 }
 
-/// Says of a fault of a template text in words what it is, where it stands, and what would be right there. The text is the one that
-/// was refused with this fault. Where memory is wanting the words end early.
+/// Explains the fault of a template file: the sentence of the code, its position, and what would be valid there. `bytes` must be the file
+/// that was refused with this fault. If an allocation fails, the explanation ends early.
 pub fn explain_templates(alloc: Global, bytes: &[u8], fault: StaticFault) -> Note
     ensures { length result.bytes ≤ NOTE_ROOM }
 {

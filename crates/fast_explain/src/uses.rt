@@ -1,4 +1,4 @@
-//! Operators that do not suit their types, and initial values that are missing or mean nothing.
+//! Operators that do not suit their types, and initial values that are missing or invalid.
 
 use crate::keys::{has_flag, has_key, is_one_of, table_at, text_of, value_at};
 use crate::notes::{Found, Misfit, Part, Right};
@@ -10,23 +10,23 @@ use toml::{Table, Value};
 /// The operators of integers.
 static FOR_INTEGERS: [&str; 6] = ["none", "constant", "default", "copy", "increment", "delta"];
 
-/// The operators of texts.
+/// The operators of strings and byte vectors.
 static FOR_TEXTS: [&str; 6] = ["none", "constant", "default", "copy", "delta", "tail"];
 
 /// The operators of decimals.
 static FOR_DECIMALS: [&str; 5] = ["none", "constant", "default", "copy", "delta"];
 
-/// What an operator is used on.
+/// The use of an operator.
 #[derive(Clone, Copy)]
 struct Use<'a> {
-    /// The table that has its keys.
+    /// The table with the keys of the operator.
     table: &'a Table,
     part: Part,
     kind: Kind,
     optional: bool,
 }
 
-/// The kind of a name, but for decimals.
+/// Returns the type of a name, decimals aside.
 fn kind_named(name: &str) -> Option<Kind> {
     match name {
         "uInt32" => Some(Kind::UInt32),
@@ -40,7 +40,7 @@ fn kind_named(name: &str) -> Option<Kind> {
     }
 }
 
-/// The operators that suit a kind.
+/// Returns the operators that suit a type.
 fn operators_of(kind: Kind) -> &'static [&'static str] {
     match kind {
         Kind::UInt32 | Kind::Int32 | Kind::UInt64 | Kind::Int64 => &FOR_INTEGERS,
@@ -49,7 +49,7 @@ fn operators_of(kind: Kind) -> &'static [&'static str] {
     }
 }
 
-/// What an initial value of a kind has to be.
+/// Returns the phrase for the form of a type's initial values.
 fn initial_of(kind: Kind) -> &'static str {
     match kind {
         Kind::UInt32 => "1 to 20 digits, for a number of 0 to 4294967295",
@@ -65,7 +65,7 @@ fn initial_of(kind: Kind) -> &'static str {
     }
 }
 
-/// Whether an initial value is none of its use.
+/// Returns whether an initial value is invalid for its use.
 fn is_no_initial(alloc: Global, used: Use<'_>, text: &str) -> bool {
     match parse_initial(alloc, used.kind, text) {
         Ok(Initial::I(number)) => matches!(used.part, Part::Exponent)
@@ -76,7 +76,7 @@ fn is_no_initial(alloc: Global, used: Use<'_>, text: &str) -> bool {
     }
 }
 
-/// What has to stand beside a mandatory default.
+/// Returns the phrase for what a mandatory default needs.
 fn right_default(used: Use<'_>) -> &'static str {
     match used.part {
         Part::Mantissa => "the value that is taken by default",
@@ -84,7 +84,7 @@ fn right_default(used: Use<'_>) -> &'static str {
     }
 }
 
-/// What the initial value of a use has to be.
+/// Returns the phrase for the form of an initial value of a use.
 fn right_initial(used: Use<'_>) -> &'static str {
     match used.part {
         Part::Exponent => "1 to 20 digits, perhaps behind a -, for a number of -63 to 63",
@@ -92,7 +92,7 @@ fn right_initial(used: Use<'_>) -> &'static str {
     }
 }
 
-/// What has to stand in the place of an initial value, if that is what the code says.
+/// Returns what would be valid in place of an initial value, if the code is about that.
 fn other_initial(alloc: Global, used: Use<'_>, text: &str, code: StaticCode) -> Option<Right> {
     match code {
         StaticCode::S3 if is_no_initial(alloc, used, text) => Some(Right::Said(right_initial(
@@ -102,7 +102,7 @@ fn other_initial(alloc: Global, used: Use<'_>, text: &str, code: StaticCode) -> 
     }
 }
 
-/// The initial value that has to stand beside an operator, if that is what the code says.
+/// Returns what would be valid for a missing initial value, if the code is about that.
 fn missing_initial(used: Use<'_>, operator: &str, code: StaticCode) -> Option<Right> {
     match code {
         StaticCode::S4 if operator == "constant" => Some(Right::Said(
@@ -115,7 +115,7 @@ fn missing_initial(used: Use<'_>, operator: &str, code: StaticCode) -> Option<Ri
     }
 }
 
-/// What would be right of the use of an operator, if it is at fault as the code says.
+/// Returns what would be valid for the use of an operator, if it has the fault of the code.
 fn right_of(alloc: Global, used: Use<'_>, operator: &str, code: StaticCode) -> Option<Right> {
     if matches!(code, StaticCode::S2) {
         let suiting = operators_of(used.kind);
@@ -130,7 +130,7 @@ fn right_of(alloc: Global, used: Use<'_>, operator: &str, code: StaticCode) -> O
     }
 }
 
-/// What is wrong with the use of an operator, if it is what the code says.
+/// Returns the error of the use of an operator, if it has the fault of the code.
 fn use_misfit<'a>(alloc: Global, used: Use<'a>, code: StaticCode) -> Option<Misfit<'a>> {
     let operator = text_of(used.table, "op").unwrap_or("none");
     let right = right_of(alloc, used, operator, code)?;
@@ -150,7 +150,7 @@ fn use_misfit<'a>(alloc: Global, used: Use<'a>, code: StaticCode) -> Option<Misf
     })
 }
 
-/// What is wrong with the use of an operator by a part of a field, if it is what the code says.
+/// Returns the error of the use of an operator in a part of a field, if it has the fault of the code.
 fn part_misfit<'a>(
     alloc: Global,
     table: &'a Table,
@@ -168,7 +168,7 @@ fn part_misfit<'a>(
     use_misfit(alloc, used, code)
 }
 
-/// What is wrong with the use of an operator by a field that has no parts, if it is what the code says.
+/// Returns the error of the use of an operator in a field without parts, if it has the fault of the code.
 fn whole_misfit<'a>(
     alloc: Global,
     table: &'a Table,
@@ -185,7 +185,7 @@ fn whole_misfit<'a>(
     use_misfit(alloc, used, code)
 }
 
-/// What is wrong with the uses of operators by a decimal, if it is what the code says.
+/// Returns the error of the uses of operators in a decimal, if one has the fault of the code.
 fn decimal_misfit<'a>(
     alloc: Global,
     table: &'a Table,
@@ -200,7 +200,7 @@ fn decimal_misfit<'a>(
     exponent.or(mantissa)
 }
 
-/// What is wrong with the uses of operators by a field of a kind, if it is what the code says.
+/// Returns the error of the uses of operators in a field of this type, if one has the fault of the code.
 fn misfit_of_kind<'a>(
     alloc: Global,
     table: &'a Table,
@@ -215,7 +215,7 @@ fn misfit_of_kind<'a>(
     }
 }
 
-/// What is wrong with the uses of operators by a field, if it is what the code says.
+/// Returns the error of the uses of operators in a field, if one has the fault of the code.
 pub(crate) fn field_misfit<'a>(
     alloc: Global,
     field: &'a Value,

@@ -1,31 +1,31 @@
-//! The fields of a template as they stand in a text, one after the other, and the way that leads to each.
+//! The fields of a template in the order of the file, and the path to each.
 
 use crate::keys::{items_of, name_of};
 use crate::notes::{Note, put, put_number, put_quoted};
 use std::alloc::{AllocError, Global};
 use toml::Value;
 
-/// How many fields a way names at its begin and at its end; those between are left out.
+/// The number of fields that a path names at its start and at its end; it omits those in between.
 const NAMED: usize = 8;
 
 /// The fields of one table.
 #[derive(Clone, Copy)]
 struct Level<'a> {
     fields: &'a [Value],
-    /// How many of them have been come to.
+    /// The number of them that were visited.
     passed: usize,
 }
 
-/// Goes over the fields of a template: each one before those in it.
+/// A walk over the fields of a template, each one before those in it.
 #[derive(Drop)]
 pub(crate) struct Walk<'a> {
-    /// The tables around the field that was come to last, outermost first.
+    /// The tables around the last visited field, the outermost first.
     levels: Vec<Level<'a>>,
     last: Option<&'a Value>,
 }
 
 impl<'a> Walk<'a> {
-    /// Before the first field of a template.
+    /// Starts before the first field of a template.
     pub(crate) fn new(alloc: Global, template: &'a Value) -> Walk<'a> {
         Walk {
             levels: Vec::new(alloc),
@@ -33,7 +33,7 @@ impl<'a> Walk<'a> {
         }
     }
 
-    /// The next field, if there is one more.
+    /// Returns the next field, if there is one.
     pub(crate) fn next(&mut self) -> Result<Option<&'a Value>, AllocError> {
         if let Some(last) = self.last {
             self.levels.push(Level {
@@ -45,7 +45,7 @@ impl<'a> Walk<'a> {
         Ok(self.last)
     }
 
-    /// The first field of the innermost table that has one left. Tables without one are left.
+    /// Returns the first field of the innermost table that has one left, and leaves the tables that have none.
     fn following(&mut self) -> Option<&'a Value> {
         for _level in 0..=self.levels.len() {
             let level = self.levels.last_mut()?;
@@ -58,12 +58,12 @@ impl<'a> Walk<'a> {
         None
     }
 
-    /// How many groups and sequences are around the field that was come to last.
+    /// Returns the number of groups and sequences around the last visited field.
     pub(crate) fn depth(&self) -> usize {
         self.levels.len().saturating_sub(1)
     }
 
-    /// Tells the way to the field that was come to last.
+    /// Writes the path to the last visited field.
     pub(crate) fn tell_way(&self, note: &mut Note) {
         let count = self.levels.len();
         for (k, level) in self.levels.iter().enumerate() {
@@ -78,7 +78,7 @@ impl<'a> Walk<'a> {
     }
 }
 
-/// Tells which of the fields of a table one is.
+/// Writes the number and the name of a field of a table.
 fn tell_field(note: &mut Note, number: usize, field: Option<&Value>) {
     let _ = put(note, &[", field "]) && put_number(note, number as u64);
     if let Some(field) = field {
@@ -88,7 +88,7 @@ fn tell_field(note: &mut Note, number: usize, field: Option<&Value>) {
     }
 }
 
-/// Begins the line of a place with a template.
+/// Begins the line of a position with a template.
 pub(crate) fn tell_template(note: &mut Note, number: usize, template: &Value) {
     let begun = put(note, &["  template "]);
     let _ = begun
