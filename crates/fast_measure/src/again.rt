@@ -1,4 +1,4 @@
-//! Streams that are decoded whole, in pieces, and again behind the encoder, for tests.
+//! Streams that are decoded whole, in pieces, and again after re-encoding, for tests.
 
 ghost use Rattle.std.specs.Prelude.{◌<◌};
 
@@ -10,7 +10,8 @@ use fast_template::Templates;
 use fast_value::{Limits, Message};
 use std::alloc::Global;
 
-/// Decodes a stream leniently into messages, encodes them, and decodes that in strict mode; or the status where one of these is not done.
+/// Decodes a stream leniently to messages, encodes them, and decodes the result in strict mode. The error is the status of the first step
+/// that failed.
 fn run_again(alloc: Global, set: &Templates, limits: Limits, stream: &[u8]) -> Result<Answer, u64> {
     let lenient = Limits {
         strict: false,
@@ -27,7 +28,7 @@ fn run_again(alloc: Global, set: &Templates, limits: Limits, stream: &[u8]) -> R
     run_once(alloc, set, strict, &list, usize::MAX)
 }
 
-/// Decodes a stream into messages, or the status where that is not done.
+/// Decodes a stream to messages. The error is a status.
 fn hold_all(
     alloc: Global,
     set: &Templates,
@@ -42,7 +43,7 @@ fn hold_all(
     }
 }
 
-/// Encodes messages into a list, or the status where that is not done.
+/// Encodes messages into a vector. The error is a status.
 fn encode_held(
     alloc: Global,
     set: &Templates,
@@ -57,7 +58,7 @@ fn encode_held(
     }
 }
 
-/// Decodes a stream whole, or in pieces of so many bytes.
+/// Decodes a stream whole, or in pieces of `piece` bytes.
 fn run_once(
     alloc: Global,
     set: &Templates,
@@ -71,19 +72,19 @@ fn run_once(
     Ok(answer_of(&mut decoder, stream, piece, Check::new()))
 }
 
-/// What three ways to decode a stream came to.
+/// The results of decoding a stream in three ways.
 #[derive(Clone, Copy)]
 pub struct ThreeWays {
     /// Whole.
     pub whole: Answer,
     /// In pieces.
     pub pieces: Answer,
-    /// Behind the encoder.
+    /// After re-encoding.
     pub again: Answer,
 }
 
 impl ThreeWays {
-    /// Where there is no template set.
+    /// Returns three equal results, for a run without a template set.
     fn ended(status: u64) -> ThreeWays {
         ThreeWays {
             whole: Answer::ended(status),
@@ -93,11 +94,10 @@ impl ThreeWays {
     }
 }
 
-/// Decodes a stream whole; in pieces of so many bytes, or in one where `piece` is 0; and, whatever the limits say of strictness, leniently
-/// into messages, which are encoded, and what was encoded is decoded in strict mode.
+/// Decodes a stream in three ways, each with a checksum: whole; in pieces of `piece` bytes, or in one if `piece` is 0; and leniently to
+/// messages (whatever `limits.strict`), which are encoded, and the result is decoded in strict mode.
 ///
-/// All with checksums. Where the stream does not end between two messages, or a message was refused, the third answer is that status
-/// alone, as `encode` tells it.
+/// If the stream does not end between two messages, or a message is refused, the third result has only that status, as `encode` returns it.
 pub fn three_ways(
     alloc: Global,
     templates: &[u8],

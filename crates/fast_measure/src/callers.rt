@@ -1,4 +1,4 @@
-//! Each of the callers of fast_callers, once over a stream, for tests.
+//! Runs of the callers of fast_callers over a stream, for tests.
 
 use crate::decoding::{BETWEEN, INSIDE, read_set, status_of};
 use fast_callers::{Columns, last_price, messages_in, up_to_fault};
@@ -6,32 +6,32 @@ use fast_template::Templates;
 use fast_value::Limits;
 use std::alloc::Global;
 
-/// What a caller that refuses a stream has in the place of a number.
+/// The number that stands for a refused stream.
 const REFUSED: u64 = u64::MAX;
 
-/// What the callers say of a stream.
+/// The results of the callers for a stream.
 #[derive(Clone, Copy)]
 pub struct Called {
-    /// The number of messages, or 2^64 - 1 where the stream is refused.
+    /// The number of messages, or 2^64 - 1 if the stream is refused.
     pub messages: u64,
-    /// Whether there is a price of the symbol: 0 or 1, or 2^64 - 1 where the stream is refused.
+    /// 1 if there is a price of the symbol, 0 if not, or 2^64 - 1 if the stream is refused.
     pub has_price: u64,
-    /// The price's exponent.
+    /// The exponent of the price.
     pub exponent: i64,
-    /// The price's mantissa.
+    /// The mantissa of the price.
     pub mantissa: i64,
     /// The number of messages up to the first fault.
     pub whole: u64,
-    /// The number of bytes up to there.
+    /// The number of bytes up to the first fault.
     pub bytes: u64,
-    /// How the stream ends there, as the status of an `Answer` says.
+    /// The status at the first fault or the end, as that of an [`Answer`](crate::decoding::Answer).
     pub status: u64,
-    /// The place of the fault.
+    /// The offset of the fault.
     pub place: u64,
 }
 
 impl Called {
-    /// Where nothing is called, or all refuse.
+    /// Returns the results if nothing is called, or all callers refuse.
     fn none() -> Called {
         Called {
             messages: REFUSED,
@@ -45,7 +45,7 @@ impl Called {
         }
     }
 
-    /// Writes the eight numbers, each as eight bytes, the least first.
+    /// Writes the eight numbers, each as eight bytes, the least significant first.
     pub fn write_to(&self, out: &mut [u8; 64]) {
         out[..8].copy_from_slice(&self.messages.to_le_bytes());
         out[8..16].copy_from_slice(&self.has_price.to_le_bytes());
@@ -57,7 +57,7 @@ impl Called {
         out[56..].copy_from_slice(&self.place.to_le_bytes());
     }
 
-    /// Counts the messages of a stream, fed in two pieces.
+    /// Counts the messages of a stream that is fed in two pieces.
     fn count(&mut self, alloc: Global, set: &Templates, stream: &[u8], cut: usize) {
         let (front, rest) = stream.split_at(cut.min(stream.len()));
         if let Ok(messages) = messages_in(alloc, set, Limits::default(), &[front, rest]) {
@@ -65,7 +65,7 @@ impl Called {
         }
     }
 
-    /// Looks for the last price of a symbol, of which node 0 is the symbol and node 1 the price.
+    /// Finds the last price of a symbol; node 0 is the symbol and node 1 the price.
     fn look(&mut self, alloc: Global, set: &Templates, stream: &[u8], symbol: &[u8]) {
         let columns = Columns {
             symbol: 0,
@@ -95,7 +95,7 @@ impl Called {
     }
 }
 
-/// Calls each of the callers over a stream, with the limits that there are by default.
+/// Calls each caller over a stream, with the default limits.
 pub fn call_all(
     alloc: Global,
     templates: &[u8],

@@ -1,4 +1,4 @@
-//! Streams that are cut behind each of their bytes, for tests.
+//! Streams that are truncated after each of their bytes, for tests.
 
 ghost use Rattle.std.specs.Prelude.{◌<◌};
 
@@ -8,19 +8,19 @@ use fast_decoder::Decoder;
 use fast_value::Limits;
 use std::alloc::Global;
 
-/// What came of a stream, and of its fronts.
+/// The results for a stream and its prefixes.
 #[derive(Clone, Copy)]
 pub struct Cuts {
-    /// Of the whole stream.
+    /// The result for the whole stream.
     pub whole: Answer,
-    /// How many fronts were decoded.
+    /// The number of prefixes that were decoded.
     pub fronts: u64,
-    /// How many of these are not as they have to be.
+    /// The number of prefixes with a wrong result.
     pub wrong: u64,
 }
 
 impl Cuts {
-    /// Where nothing is decoded.
+    /// Returns the result if nothing is decoded.
     fn ended(status: u64) -> Cuts {
         Cuts {
             whole: Answer::ended(status),
@@ -30,7 +30,7 @@ impl Cuts {
     }
 }
 
-/// Decodes a stream behind a reset, fed in pieces of so many bytes.
+/// Decodes a stream after a reset, in pieces of `piece` bytes.
 fn decode_again(decoder: &mut Decoder<'_>, stream: &[u8], piece: usize) -> Answer
     requires { 0 < piece }
 {
@@ -38,8 +38,8 @@ fn decode_again(decoder: &mut Decoder<'_>, stream: &[u8], piece: usize) -> Answe
     answer_of(decoder, stream, piece, Check::new())
 }
 
-/// Whether a front comes to the same whole and in pieces of one, two and three bytes; and before the last byte that the whole stream
-/// consumed to no fault and no more events, and from there on to what the whole stream came to.
+/// Returns whether a prefix has the same result whole and in pieces of one, two and three bytes; and, if it ends before the last byte that
+/// the whole stream consumed, no fault and no more events, else the result of the whole stream.
 fn is_right(decoder: &mut Decoder<'_>, front: &[u8], due: Answer) -> bool {
     let is = decode_again(decoder, front, usize::MAX);
     let is_alike = decode_again(decoder, front, 1) == is
@@ -54,7 +54,7 @@ fn is_right(decoder: &mut Decoder<'_>, front: &[u8], due: Answer) -> bool {
         }
 }
 
-/// As `cut_everywhere`, or the status where nothing is decoded.
+/// Does the work of [`cut_everywhere`]. The error is the status if nothing is decoded.
 fn cut(alloc: Global, templates: &[u8], limits: Limits, stream: &[u8]) -> Result<Cuts, u64> {
     let set = read_set(alloc, templates)?;
     let mut decoder = decoder_of(alloc, &set, limits)?;
@@ -76,7 +76,7 @@ fn cut(alloc: Global, templates: &[u8], limits: Limits, stream: &[u8]) -> Result
     })
 }
 
-/// Decodes a stream, and each of its fronts whole and in pieces, all with checksums.
+/// Decodes a stream, and each of its prefixes whole and in pieces, all with checksums.
 pub fn cut_everywhere(alloc: Global, templates: &[u8], limits: Limits, stream: &[u8]) -> Cuts {
     match cut(alloc, templates, limits, stream) {
         Ok(cuts) => cuts,

@@ -17,24 +17,24 @@ pub const INSIDE: u64 = 1;
 /// The status of a run for which no decoder was made.
 pub const NOT_MADE: u64 = 256;
 
-/// The status of a run for which there was no memory.
+/// The status of a run in which an allocation failed.
 pub const NO_MEMORY: u64 = 518;
 
-/// What a run came to.
+/// The result of a run.
 #[derive(Clone, Copy, PartialEq, Eq)]
 pub struct Answer {
-    /// 0 between two messages, 1 inside of one, 2 to 19 at a fault; 256 where no decoder was made, 518 where there was no memory for one.
+    /// 0 between two messages, 1 inside a message, 2 to 19 at a fault; 256 if no decoder was made, 518 if an allocation for it failed.
     pub status: u64,
     /// The number of bytes consumed.
     pub consumed: u64,
     /// The number of events.
     pub events: u64,
-    /// What stands for their values.
+    /// The checksum of the events and their values.
     pub sum: u64,
 }
 
 impl Answer {
-    /// The answer where nothing is decoded.
+    /// Returns the result of a run that decodes nothing.
     pub fn ended(status: u64) -> Answer {
         Answer {
             status,
@@ -44,7 +44,7 @@ impl Answer {
         }
     }
 
-    /// What a run came to, or the answer where nothing is decoded.
+    /// Returns the result of a run, or that of one that decodes nothing.
     pub fn of(run: Result<Answer, u64>) -> Answer {
         match run {
             Ok(answer) => answer,
@@ -52,7 +52,7 @@ impl Answer {
         }
     }
 
-    /// Writes the four numbers, each as eight bytes, the least first.
+    /// Writes the four numbers, each as eight bytes, the least significant first.
     pub fn write_to(&self, out: &mut [u8; 32]) {
         out[..8].copy_from_slice(&self.status.to_le_bytes());
         out[8..16].copy_from_slice(&self.consumed.to_le_bytes());
@@ -61,7 +61,7 @@ impl Answer {
     }
 }
 
-/// The status of a stream at fault, from 2.
+/// Returns the status of a stream at fault, from 2.
 pub fn status_of(code: FaultCode) -> u64 {
     match code {
         FaultCode::Stream(code) => match code {
@@ -87,7 +87,7 @@ pub fn status_of(code: FaultCode) -> u64 {
     }
 }
 
-/// The template set of a text, or the status of a run without one.
+/// Reads a template set. The error is the status of a run without one.
 pub fn read_set(alloc: Global, text: &[u8]) -> Result<Templates, u64> {
     let Ok(text) = std::str::from_utf8(text) else {
         return Err(NOT_MADE);
@@ -99,7 +99,7 @@ pub fn read_set(alloc: Global, text: &[u8]) -> Result<Templates, u64> {
     }
 }
 
-/// The status of a run for which no decoder or no encoder is made.
+/// Returns the status of a run for which no decoder or encoder is made.
 pub fn status_of_make(error: MakeError) -> u64 {
     match error {
         MakeError::Memory => NO_MEMORY,
@@ -107,7 +107,7 @@ pub fn status_of_make(error: MakeError) -> u64 {
     }
 }
 
-/// A decoder, or the status of a run without one.
+/// Makes a decoder. The error is the status of a run without one.
 pub fn decoder_of<'t>(
     alloc: Global,
     set: &'t Templates,
@@ -119,7 +119,7 @@ pub fn decoder_of<'t>(
     }
 }
 
-/// Feeds a stream, in pieces of so many bytes, to a decoder.
+/// Feeds a stream to a decoder, in pieces of `piece` bytes.
 pub fn feed_all<S: Sink>(
     decoder: &mut Decoder<'_>,
     stream: &[u8],
@@ -136,7 +136,7 @@ pub fn feed_all<S: Sink>(
     if decoder.between() { BETWEEN } else { INSIDE }
 }
 
-/// Feeds a stream to a decoder between two messages, and says what came of it.
+/// Feeds a stream to a decoder that is between two messages, and returns the result.
 pub fn answer_of<S: Tallied>(
     decoder: &mut Decoder<'_>,
     stream: &[u8],
@@ -171,7 +171,8 @@ fn run<S: Tallied>(
     Ok(answer_of(&mut decoder, stream, piece, sink))
 }
 
-/// Decodes a stream under a template set, fed in pieces of so many bytes, or in one where `piece` is 0: counted, or with a checksum.
+/// Decodes a stream under a template set, in pieces of `piece` bytes, or in one if `piece` is 0. It counts the events, or computes their
+/// checksum.
 pub fn decode(
     alloc: Global,
     templates: &[u8],
@@ -189,7 +190,7 @@ pub fn decode(
     Answer::of(run)
 }
 
-/// How many bytes a piece has: all, where none are asked for.
+/// Returns the number of bytes of a piece: for 0 the greatest number, thus all.
 pub fn bytes_of(piece: usize) -> usize
     ensures { 0 < result }
 {

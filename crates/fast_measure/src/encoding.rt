@@ -1,4 +1,4 @@
-//! One run of the encoder over the messages of a stream in memory.
+//! Runs of the encoder over the messages of a stream in memory.
 
 use crate::decoding::{BETWEEN, decoder_of, feed_all, read_set, status_of_make};
 use crate::sinks::with_bytes;
@@ -9,22 +9,22 @@ use fast_template::Templates;
 use fast_value::{Limits, Message};
 use std::alloc::Global;
 
-/// What a run came to.
+/// The result of a run.
 #[derive(Clone, Copy)]
 pub struct Encoded {
-    /// How the stream ended, as that of an `Answer` says; from 513 where a message was refused: E1, E2, E3, E4, R9; 518 where there was no
-    /// memory for it, or for a set, a decoder or an encoder.
+    /// The status at the end of the stream, as that of an [`Answer`](crate::decoding::Answer); from 513 if a message was refused: E1, E2,
+    /// E3, E4, R9; 518 if an allocation failed, for a message, a set, a decoder or an encoder.
     pub status: u64,
     /// The number of messages.
     pub messages: u64,
-    /// The number of bytes of all rounds.
+    /// The number of bytes, over all rounds.
     pub bytes: u64,
-    /// The checksum of the last round's bytes.
+    /// The checksum of the bytes of the last round.
     pub sum: u64,
 }
 
 impl Encoded {
-    /// The answer where nothing is encoded, or not all.
+    /// Returns the result if nothing, or not all, is encoded.
     fn failed(status: u64) -> Encoded {
         Encoded {
             status,
@@ -34,7 +34,7 @@ impl Encoded {
         }
     }
 
-    /// Writes the four numbers, each as eight bytes, the least first.
+    /// Writes the four numbers, each as eight bytes, the least significant first.
     pub fn write_to(&self, out: &mut [u8; 32]) {
         out[..8].copy_from_slice(&self.status.to_le_bytes());
         out[8..16].copy_from_slice(&self.messages.to_le_bytes());
@@ -43,7 +43,7 @@ impl Encoded {
     }
 }
 
-/// The status of a run in which a message was refused, from 513.
+/// Returns the status of a run in which a message was refused, from 513.
 pub fn status_of(fault: EncodeFault) -> u64 {
     match fault {
         EncodeFault::E1 => 513,
@@ -55,7 +55,7 @@ pub fn status_of(fault: EncodeFault) -> u64 {
     }
 }
 
-/// An encoder, or the status of a run without one.
+/// Makes an encoder. The error is the status of a run without one.
 pub fn encoder_of<'t>(
     alloc: Global,
     set: &'t Templates,
@@ -67,7 +67,7 @@ pub fn encoder_of<'t>(
     }
 }
 
-/// Encodes messages, one after the other, into an emptied list.
+/// Encodes messages in order into a vector, which it clears first.
 pub fn encode_all(
     encoder: &mut Encoder<'_>,
     messages: &[Message],
@@ -81,7 +81,7 @@ pub fn encode_all(
     Ok(())
 }
 
-/// Encodes a message, once more where memory was refused.
+/// Encodes a message, and tries again if an allocation failed.
 fn encode_again(
     encoder: &mut Encoder<'_>,
     message: &Message,
@@ -93,7 +93,7 @@ fn encode_again(
     }
 }
 
-/// Encodes messages, one after the other, each once more where memory was refused.
+/// Encodes messages in order, and tries each again if an allocation failed.
 fn encode_patiently(
     alloc: Global,
     encoder: &mut Encoder<'_>,
@@ -111,7 +111,7 @@ fn encode_patiently(
     })
 }
 
-/// Encodes messages so many times, each time from a reset encoder.
+/// Encodes messages `rounds` times, each time from a reset encoder.
 fn encode_rounds(
     alloc: Global,
     encoder: &mut Encoder<'_>,
@@ -132,8 +132,8 @@ fn encode_rounds(
     })
 }
 
-/// As `encode`, or the status where nothing is encoded. Decoder and encoder are made before the first byte is decoded: `tools/growths` goes by
-/// the order of the requests for memory.
+/// Does the work of [`encode`]. The error is the status if nothing is encoded. Decoder and encoder are made before the first byte is
+/// decoded: `tools/growths` depends on the order of the allocations.
 fn run(
     alloc: Global,
     templates: &[u8],
@@ -146,7 +146,7 @@ fn run(
     run_behind(alloc, &set, limits, stream, rounds, &mut decoder)
 }
 
-/// The same with a decoder that is made.
+/// Does the work of [`encode`] with a decoder that is made already.
 fn run_behind(
     alloc: Global,
     set: &Templates,
@@ -163,7 +163,7 @@ fn run_behind(
     }
 }
 
-/// The same over messages.
+/// Does the work of [`encode`] for messages that are decoded already.
 fn run_over(
     alloc: Global,
     encoder: &mut Encoder<'_>,
@@ -180,8 +180,8 @@ fn run_over(
     }
 }
 
-/// Decodes a stream under a template set into messages, once, and encodes these so many times, each time from a reset encoder. Where no
-/// number is given it encodes each message once, and once more where memory was refused.
+/// Decodes a stream under a template set to messages, once, and encodes these `rounds` times, each time from a reset encoder. If `rounds`
+/// is `None`, it encodes each message once, and once more if an allocation failed.
 pub fn encode(
     alloc: Global,
     templates: &[u8],

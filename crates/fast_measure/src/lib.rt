@@ -1,5 +1,5 @@
-//! Runs of the decoder and the encoder over streams in memory, for measurements and for streams over a heap that refuses. What they come to
-//! is numbers; they promise nothing but that they return.
+//! Runs of the decoder and the encoder over streams in memory, for measurements and for tests with a heap that refuses allocations. Their
+//! results are numbers; their contracts promise only that they return.
 #![tactic(auto)]
 
 mod again;

@@ -1,4 +1,4 @@
-//! Runs of the decoder over a stream in memory, whose events become records in a caller's buffers.
+//! Runs of the decoder over a stream in memory that write records into buffers.
 
 ghost use Rattle.std.specs.Prelude.{◌<◌};
 
@@ -10,16 +10,16 @@ use fast_records::{Outcome, Record, Waiting, feed_records};
 use fast_value::Limits;
 use std::alloc::{AllocError, Global};
 
-/// How many records there is room for at a time.
+/// The size of the buffer of records.
 const RECORDS: usize = 4096;
 
-/// How many bytes of texts there is room for at a time.
+/// The size of the buffer of strings, in bytes.
 const TEXTS: usize = 65_536;
 
-/// The status of a run whose next record had no room.
+/// The status of a run whose next record has no room.
 const NO_ROOM: u64 = 257;
 
-/// A record that says nothing.
+/// An empty record.
 const BLANK: Record = Record {
     kind: 0,
     node: 0,
@@ -28,17 +28,17 @@ const BLANK: Record = Record {
     exponent: 0,
 };
 
-/// The buffers of a caller, and what waits for room in them.
+/// The buffers of a caller, and the events that wait for room in them.
 #[derive(Drop)]
 struct Buffers {
     records: Vec<Record>,
     texts: Vec<u8>,
     waiting: Waiting,
-    /// How many records were written.
+    /// The number of records written.
     written: u64,
 }
 
-/// Feeds one piece, as often as its records fill the buffers. Answers the status of a run that ends there.
+/// Feeds one piece, in as many calls as its records fill the buffers. Returns the status of a run that ends there.
 fn feed_piece(decoder: &mut Decoder<'_>, buffers: &mut Buffers, piece: &[u8]) -> Option<u64> {
     let mut rest = piece;
     for _ in 0..u64::MAX {
@@ -61,7 +61,7 @@ fn feed_piece(decoder: &mut Decoder<'_>, buffers: &mut Buffers, piece: &[u8]) ->
     Some(NO_ROOM)
 }
 
-/// Feeds a stream in pieces of so many bytes, and answers the status at its end.
+/// Feeds a stream in pieces of `piece` bytes, and returns the status at its end.
 fn feed_pieces(decoder: &mut Decoder<'_>, buffers: &mut Buffers, stream: &[u8], piece: usize) -> u64
     requires { 0 < piece }
 {
@@ -73,8 +73,8 @@ fn feed_pieces(decoder: &mut Decoder<'_>, buffers: &mut Buffers, stream: &[u8], 
     if decoder.between() { BETWEEN } else { INSIDE }
 }
 
-/// Decodes a stream under a template set into records, fed in pieces of so many bytes, or in one where `piece` is 0. The answer's
-/// sum is 0.
+/// Decodes a stream under a template set to records, in pieces of `piece` bytes, or in one if `piece` is 0. The checksum of the result is
+/// 0.
 pub fn decode_records(
     alloc: Global,
     templates: &[u8],
@@ -107,7 +107,7 @@ fn run(
     })
 }
 
-/// Buffers of which nothing is filled.
+/// Makes empty buffers.
 fn buffers_of(alloc: Global) -> Result<Buffers, AllocError> {
     Ok(Buffers {
         records: vec![in alloc; BLANK; RECORDS]?,

@@ -1,38 +1,38 @@
-//! Two sinks that use every value, so that nothing of a stream can be left undecoded.
+//! Two sinks that use every value, so that the compiler cannot remove any decoding.
 
 use fast_decoder::{Event, Sink, Stop};
 use fast_value::Scalar;
 
-/// What a sink came to.
+/// The result of a sink.
 #[derive(Clone, Copy)]
 pub struct Tally {
     /// The number of events, modulo 2^64.
     pub events: u64,
-    /// What stands for their values.
+    /// The checksum of the events and their values.
     pub sum: u64,
 }
 
 /// A sink with a tally.
 pub trait Tallied: Sink + Drop {
-    /// The tally of the events that were taken.
+    /// Returns the tally of the events received.
     fn tally(&self) -> Tally;
 }
 
-/// The cheapest sink that uses every value: it counts, and folds numbers and lengths by exclusive or.
+/// The cheapest sink that uses every value: it counts events, and combines numbers and lengths by exclusive or.
 #[derive(Drop)]
 pub struct Count {
     tally: Tally,
 }
 
 impl Count {
-    /// A sink that has taken nothing.
+    /// Makes a sink that has received nothing.
     pub fn new() -> Count {
         Count {
             tally: Tally { events: 0, sum: 0 },
         }
     }
 
-    /// What a value is folded as.
+    /// Returns the number by which a value is combined.
     #[inline(always)]
     fn folded(value: Scalar<'_>) -> u64 {
         match value {
@@ -79,10 +79,10 @@ const BASIS: u64 = 0xcbf2_9ce4_8422_2325;
 /// The factor of the checksum.
 const PRIME: u64 = 0x0000_0100_0000_01b3;
 
-/// Spreads kinds of events and numbers of nodes over a word.
+/// The factor that spreads event types and node numbers over 64 bits.
 const SPREAD: u64 = 0x9e37_79b9_7f4a_7c15;
 
-/// The word that stands for a kind of event and a node.
+/// Returns the number for an event type and a node.
 #[inline(always)]
 fn key(kind: u64, node: u32) -> u64 {
     (node as u64)
@@ -91,7 +91,7 @@ fn key(kind: u64, node: u32) -> u64 {
         .wrapping_mul(SPREAD)
 }
 
-/// At most eight bytes as a word, the first byte lowest.
+/// Returns at most eight bytes as a 64-bit number, the first byte least significant.
 #[inline(always)]
 fn word_of(bytes: &[u8]) -> u64 {
     if let Some(word) = bytes.first_chunk::<8>() {
@@ -104,14 +104,14 @@ fn word_of(bytes: &[u8]) -> u64 {
     word
 }
 
-/// A sink that takes a checksum (FNV-1a over words of 64 bits) of events and values.
+/// A sink that computes a checksum (FNV-1a over words of 64 bits) of events and values.
 #[derive(Drop)]
 pub struct Check {
     tally: Tally,
 }
 
 impl Check {
-    /// A sink that has taken nothing.
+    /// Makes a sink that has received nothing.
     pub fn new() -> Check {
         Check {
             tally: Tally {
@@ -122,13 +122,13 @@ impl Check {
     }
 }
 
-/// The checksum with one more word.
+/// Returns the checksum with one more word.
 #[inline(always)]
 fn with_word(sum: u64, word: u64) -> u64 {
     (sum ^ word).wrapping_mul(PRIME)
 }
 
-/// The checksum with bytes, eight of them a word and the last word filled with zeros.
+/// Returns the checksum with these bytes, eight to a word, the last word filled with zeros.
 #[inline(never)]
 fn with_words(sum: u64, bytes: &[u8]) -> u64 {
     let mut sum = sum;
@@ -138,7 +138,7 @@ fn with_words(sum: u64, bytes: &[u8]) -> u64 {
     sum
 }
 
-/// The checksum of bytes alone, as that of one field of bytes at node 0.
+/// Returns the checksum of bytes alone, as that of one byte vector at node 0.
 pub fn with_bytes(bytes: &[u8]) -> u64 {
     with_words(
         with_word(BASIS, key(7, 0).wrapping_add(bytes.len() as u64)),
@@ -146,7 +146,7 @@ pub fn with_bytes(bytes: &[u8]) -> u64 {
     )
 }
 
-/// The kind of a value, and the number that stands for it beside its kind and node: of a text its length.
+/// Returns the type of a value and its number; the number of a string is its length.
 #[inline(always)]
 fn value_told(value: Scalar<'_>) -> (u64, u64) {
     match value {
@@ -162,7 +162,7 @@ fn value_told(value: Scalar<'_>) -> (u64, u64) {
     }
 }
 
-/// The kind of an event, its node or template, and the number beside them.
+/// Returns the type of an event, its node or template, and its number.
 #[inline(always)]
 fn told(event: Event<'_>) -> (u64, u32, u64) {
     match event {
@@ -181,7 +181,7 @@ fn told(event: Event<'_>) -> (u64, u32, u64) {
     }
 }
 
-/// The checksum with what of a value has no room in its first word: an exponent, or the bytes of a text.
+/// Returns the checksum with the part of a value that is not in its first word: an exponent, or the bytes of a string.
 #[inline(always)]
 fn with_rest(sum: u64, value: Scalar<'_>) -> u64 {
     match value {

@@ -1,4 +1,4 @@
-//! A run of the decoder with a sink that stops, and one behind a reset.
+//! Runs of the decoder with a sink that stops, and after a reset.
 
 use crate::decoding::{Answer, answer_of, bytes_of, decoder_of, read_set};
 use crate::sinks::{Check, Tallied, Tally};
@@ -6,7 +6,7 @@ use fast_decoder::{Event, Sink, Stop};
 use fast_value::Limits;
 use std::alloc::Global;
 
-/// A sink that takes so many events, with their checksum, and stops at the next.
+/// A sink that receives a given number of events, with their checksum, and stops at the next.
 #[derive(Drop)]
 struct Stopping {
     check: Check,
@@ -35,17 +35,17 @@ impl Tallied for Stopping {
     }
 }
 
-/// What came of a stream whose sink stopped, and then, behind a reset, of the same stream with one that does not.
+/// The results of a run whose sink stopped, and of a run over the same stream after a reset, whose sink does not.
 #[derive(Clone, Copy)]
 pub struct Runs {
-    /// With the sink that stops.
+    /// The run with the sink that stops.
     pub stopped: Answer,
-    /// Behind the reset.
+    /// The run after the reset.
     pub again: Answer,
 }
 
 impl Runs {
-    /// Where nothing is decoded.
+    /// Returns the results if nothing is decoded.
     fn ended(status: u64) -> Runs {
         Runs {
             stopped: Answer::ended(status),
@@ -54,7 +54,7 @@ impl Runs {
     }
 }
 
-/// As `stop_and_decode`, or the status where nothing is decoded.
+/// Does the work of [`stop_and_decode`]. The error is the status if nothing is decoded.
 fn run_twice(
     alloc: Global,
     templates: &[u8],
@@ -78,8 +78,8 @@ fn run_twice(
     })
 }
 
-/// Decodes a stream twice, fed in pieces of so many bytes, or in one where `piece` is 0: first with a sink that takes `most` events and
-/// stops at the next, and then, behind a reset, with one that does not stop. Both with checksums.
+/// Decodes a stream twice, in pieces of `piece` bytes, or in one if `piece` is 0: first with a sink that receives `most` events and stops
+/// at the next, and then, after a reset, with one that does not stop. Both compute checksums.
 pub fn stop_and_decode(
     alloc: Global,
     templates: &[u8],

@@ -9,21 +9,21 @@ use std::mem;
 /// The slots of a message, a group or an element.
 type Slots = Vec<Option<Item>>;
 
-/// A message, a group or a sequence in the making.
+/// A message, a group or a sequence that is not complete.
 #[derive(Drop)]
 struct Open<'t> {
     /// The number of its template or node.
     number: u32,
     /// The nodes of its instructions, in order.
     body: &'t [u32],
-    /// The slots so far, of a sequence those of the open element.
+    /// The slots so far; those of the open element, for a sequence.
     slots: Slots,
-    /// The elements that are whole.
+    /// The elements that are complete.
     elements: Vec<Slots>,
 }
 
 impl<'t> Open<'t> {
-    /// One without slots.
+    /// Makes one without slots.
     fn new(alloc: Global, number: u32, body: &'t [u32]) -> Open<'t> {
         Open {
             number,
@@ -33,7 +33,7 @@ impl<'t> Open<'t> {
         }
     }
 
-    /// Adds an item of a node, behind absent slots for the instructions that had no event.
+    /// Adds an item of a node, after absent slots for the instructions that had no event.
     fn add(&mut self, node: u32, item: Item) -> Result<(), AllocError> {
         for next in self.body.iter().skip(self.slots.len()) {
             if *next == node {
@@ -45,7 +45,7 @@ impl<'t> Open<'t> {
         Ok(())
     }
 
-    /// Adds absent slots for all instructions that are left, and takes the slots out.
+    /// Adds absent slots for all remaining instructions, and returns the slots.
     fn end(&mut self, alloc: Global) -> Result<Slots, AllocError> {
         for _ in self.slots.len()..self.body.len() {
             self.slots.push(None)?;
@@ -54,19 +54,19 @@ impl<'t> Open<'t> {
     }
 }
 
-/// A sink that keeps messages as trees, and stops on want of memory.
+/// A sink that keeps messages as trees. It stops if an allocation fails.
 #[derive(Drop)]
 pub struct Trees<'t> {
     alloc: Global,
     templates: &'t Templates,
-    /// What is in the making, the innermost one last.
+    /// The open parts of the current message, the innermost last.
     open: Vec<Open<'t>>,
-    /// The messages that are whole.
+    /// The messages that are complete.
     pub messages: Vec<Message>,
 }
 
 impl<'t> Trees<'t> {
-    /// A sink without messages.
+    /// Makes a sink without messages.
     pub fn new(alloc: Global, templates: &'t Templates) -> Trees<'t> {
         Trees {
             alloc,
@@ -82,7 +82,7 @@ impl<'t> Trees<'t> {
         Ok(())
     }
 
-    /// Adds an item of a node to what is open innermost.
+    /// Adds an item of a node to the innermost open part.
     fn add(&mut self, node: u32, item: Item) -> Result<(), AllocError> {
         match self.open.last_mut() {
             Some(innermost) => innermost.add(node, item),
@@ -134,7 +134,7 @@ impl<'t> Trees<'t> {
         Ok(())
     }
 
-    /// Takes an event.
+    /// Receives an event.
     fn hold(&mut self, event: Event<'_>) -> Result<(), AllocError> {
         match event {
             Event::MessageStart { template } => self.begin(
@@ -155,7 +155,7 @@ impl<'t> Trees<'t> {
     }
 }
 
-/// The nodes of a template's instructions.
+/// Returns the nodes of a template's instructions.
 fn body_of_template(templates: &Templates, template: u32) -> &[u32] {
     if template >= templates.count() {
         return &[];
@@ -163,7 +163,7 @@ fn body_of_template(templates: &Templates, template: u32) -> &[u32] {
     templates.template(template).body.as_slice()
 }
 
-/// The nodes of a group's or an element's instructions.
+/// Returns the nodes of a group's or an element's instructions.
 fn body_of(templates: &Templates, node: u32) -> &[u32] {
     if node >= templates.nodes() {
         return &[];
