@@ -1,4 +1,4 @@
-//! Says how large a template set is.
+//! The command `check`: prints the size of a template set.
 
 ghost use Rattle.std.specs.Prelude.{◌≡◌, IsTrue, IfErr, OnOk, OnErr};
 ghost use Rattle.fast_template.specs.meaning.Flat.{tree_of};
@@ -40,8 +40,8 @@ fn write_set<T: Target>(templates: &Templates, limits: Limits, target: &mut T) -
     line.finish()
 }
 
-/// Writes five lines: how many templates, nodes and dictionary entries a set has, how deep it nests, and the most events that
-/// a message of it can have within the limits. It makes no decoder and takes no memory.
+/// Writes five lines: the number of templates, of nodes and of dictionary entries of a set, how deep it nests, and the greatest number of
+/// events that a message of it can have within the limits. It makes no decoder, and allocates nothing.
 pub fn run_check<T: Target>(
     templates: &Templates,
     limits: Limits,

@@ -1,4 +1,4 @@
-//! The line that closes what is shown of a stream.
+//! The last line that is shown of a stream that is at fault or truncated.
 
 ghost use Rattle.std.specs.Prelude.{◌≡◌, IsTrue, OnOk, OnErr};
 ghost use Rattle.fast_text.specs.meaning.Streams.{Appends, AppendsFront};
@@ -26,7 +26,7 @@ pub fn write_fault<T: Target>(fault: Fault, target: &mut T) -> Result<(), Failed
     line.finish()
 }
 
-/// Writes the line of a stream that ends inside a message, behind so many bytes.
+/// Writes the line of a stream that ends inside a message, after this many bytes.
 pub fn write_truncated<T: Target>(consumed: u64, target: &mut T) -> Result<(), Failed>
     ensures written { OnOk result (Appends (T.written target.old) (T.written target.new) (truncated_line consumed)) }
     ensures part { OnErr result (AppendsFront (T.written target.old) (T.written target.new) (truncated_line consumed)) }

@@ -1,4 +1,4 @@
-//! How a run ends.
+//! The end of a run.
 
 ghost use Rattle.std.specs.Prelude.{◌≡◌};
 ghost use Rattle.fast_command.specs.meaning.Report.{status_of};
@@ -12,18 +12,18 @@ use std::fmt;
 use std::fmt::{Display, Formatter, Write};
 use thiserror::Error;
 
-/// How `show` ends where it has shown the stream.
+/// The end of a run that has shown the stream.
 #[derive(Clone, Copy, Debug, PartialEq, Eq)]
 pub enum ShowEnd {
     /// The stream ends between two messages.
     Good,
-    /// The stream is at fault.
+    /// The stream has a fault.
     Faulted(Fault),
-    /// The stream ends inside a message, behind so many bytes.
+    /// The stream ends inside a message, after this many bytes.
     Truncated(u64),
 }
 
-/// What is wrong with a template text, and at which template, if at one.
+/// The fault of a template file, and the number of its template, if it has one.
 #[derive(Drop)]
 struct Wrong<'a>(&'a StaticFault);
 
@@ -37,42 +37,42 @@ impl Display for Wrong<'_> {
     }
 }
 
-/// Why a run does not do its work.
+/// The error of a run.
 #[derive(Clone, Copy, Debug, PartialEq, Eq, Error)]
 pub enum RunFault {
-    /// The reader failed, or gave bytes more often than the run may read.
+    /// The reader failed, or returned bytes more often than the run may read.
     #[error("reading failed")]
     Read,
     /// The writer failed.
     #[error("writing failed")]
     Write,
-    /// The hexadecimal text has a character that is no digit and no blank, or ends behind the first digit of a pair. This is
-    /// its place, or the length of the text.
+    /// The hexadecimal input has a character that is neither a digit nor a blank, or ends after the first digit of a pair. The number is
+    /// the offset of the character, or the length of the input.
     #[error("hex at {0}")]
     BadHex(u64),
-    /// The template text is refused, for another cause than memory.
+    /// The template file is refused, for a reason other than memory.
     #[error("templates {wrong}", wrong = Wrong(.0))]
     Templates(StaticFault),
-    /// There is no decoder, or no encoder, with these limits, for another cause than memory.
+    /// No decoder or encoder can be made with these limits, for a reason other than memory.
     #[error("limits {number}", number = .0.number())]
     Make(MakeError),
-    /// The text is not the lines of messages.
+    /// The input is not the lines of messages.
     #[error("line {line} kind {number}", number = .kind.number())]
     Text {
-        /// The number of the first line at fault, from 1.
+        /// The number of the first invalid line, from 1.
         line: u64,
-        /// What is wrong with it.
+        /// The fault of that line.
         kind: LineFault,
     },
-    /// A message is not encoded, for another cause than memory.
+    /// A message is not encoded, for a reason other than memory.
     #[error("message {message} {name}", name = .fault.name())]
     Encode {
         /// The number of the message, from 0.
         message: u64,
-        /// Why the encoder refuses it.
+        /// The fault of that message.
         fault: EncodeFault,
     },
-    /// There is no memory.
+    /// An allocation failed.
     #[error("no memory")]
     Memory,
 }
@@ -91,7 +91,7 @@ impl From<StaticFault> for RunFault {
     }
 }
 
-/// Says on standard error how a run has ended, where there is anything to say. The answer is the program's status, whether that could be written or not.
+/// Writes the error or the end of a run, if there is anything to say. Returns the exit status of the program, even if that write fails.
 pub fn report<T: Target>(ending: &Result<ShowEnd, RunFault>, target: &mut T) -> u8
     ensures { result ≡ status_of ending.now }
 {

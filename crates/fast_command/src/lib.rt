@@ -1,5 +1,4 @@
-//! What the command fastcat does, over readers and writers: it shows streams in the FAST encoding as lines, and says how large template
-//! sets are.
+//! The commands of fastcat, over readers and writers: showing FAST streams as lines, and checking template sets.
 #![tactic(auto)]
 
 pub mod check;

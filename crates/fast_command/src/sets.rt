@@ -9,14 +9,16 @@ use fast_template::{StaticCode, StaticFault, Templates};
 use fast_text::Source;
 use std::alloc::Global;
 
-/// The most bytes of a text.
+/// The greatest size of a template file in bytes.
 pub const TEXT_LIMIT: usize = 16_777_216;
 
-/// Reads a template set from its text, of any length: one of more than 16,777,216 bytes cannot be read.
+/// Reads a template set from a TOML file of at most 16,777,216 bytes.
 ///
 /// # Errors
 ///
-/// That the text cannot be read; then that it is no template set, which is S1 where it is not UTF-8; or that there is no memory.
+/// - `Read` if the file cannot be read, or is larger.
+/// - Then `Templates` if it is not a template set; S1 if it is not UTF-8.
+/// - `Memory` if an allocation failed.
 pub fn read_templates<S: Source>(alloc: Global, reader: &mut S) -> Result<Templates, RunFault>
     ensures set { IfOk result (λ t. IsSetRead (S.left reader.old) (S.left reader.new) t) }
     ensures refused { IfErr result

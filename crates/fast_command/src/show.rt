@@ -1,4 +1,4 @@
-//! Shows a stream as lines.
+//! The command `show`: prints a stream as lines.
 
 ghost use Rattle.std.specs.Prelude.{◌≡◌, ◌⊎◌, ℕ, ◌+◌, ◌<◌, ◌≤◌, ◌^◌, List, [], ◌++◌, Bool, true, false, IsTrue, Err, OnOk, IfErr, length, is_some, IfOk, IfSome, IfNone, All, MatchOption};
 ghost use Rattle.fast_tree.specs.meaning.Tree.{Tree};
@@ -22,7 +22,7 @@ use fast_text::{Fronts, LineSink, Source, Target};
 use fast_value::Limits;
 use std::alloc::{AllocError, Global};
 
-/// How many bytes are read at a time, at most.
+/// The greatest number of bytes of one read.
 const READ_SIZE: usize = 4096;
 
 /// A run that shows a stream.
@@ -33,7 +33,7 @@ struct Show<'a> {
     unhexer: Option<Unhexer>,
 }
 
-/// What turns the input into bytes, where it is hexadecimal.
+/// Returns the converter of a hexadecimal input, or `None` for a binary one.
 fn unhexer_of(hex: bool) -> Option<Unhexer>
     ensures there { is_some result ≡ hex }
     ensures taken { IsTaken result [] [] }
@@ -41,7 +41,7 @@ fn unhexer_of(hex: bool) -> Option<Unhexer>
     if hex { Some(Unhexer::new()) } else { None }
 }
 
-/// The bytes of a piece of the input: those that it stands for, or itself where the input is not hexadecimal.
+/// Returns the bytes of a piece of the input: those of its digits, or the piece itself if the input is not hexadecimal.
 fn bytes_of<'b>(unhexer: &mut Option<Unhexer>, piece: &'b [u8], room: &'b mut [u8]) -> &'b [u8]
     requires counted { HasRoom unhexer.old (length piece.now) }
     requires room { length piece.now ≤ length room.old }
@@ -59,7 +59,7 @@ fn bytes_of<'b>(unhexer: &mut Option<Unhexer>, piece: &'b [u8], room: &'b mut [u
     }
 }
 
-/// The place of the first bad character of a hexadecimal input, if it had one.
+/// Returns the offset of the first invalid character of a hexadecimal input, if there was one.
 fn bad_character(unhexer: &Option<Unhexer>) -> Option<u64>
     ensures found { IfSome result (IsBadPlace unhexer.now) }
     ensures none { IfNone result
@@ -71,7 +71,7 @@ fn bad_character(unhexer: &Option<Unhexer>) -> Option<u64>
     }
 }
 
-/// The first bad place of a hexadecimal input that ends here, if it has one.
+/// Returns the first invalid offset of a hexadecimal input that ends here, if there is one.
 fn bad_end(unhexer: &Option<Unhexer>) -> Option<u64>
     ensures { (text b : List ℕ) → IsTaken unhexer.now text b → StandsFor (is_some unhexer.now) text b result }
 {
@@ -81,7 +81,7 @@ fn bad_end(unhexer: &Option<Unhexer>) -> Option<u64>
     }
 }
 
-/// Feeds bytes to the decoder, and writes the lines of what they give.
+/// Feeds bytes to the decoder, and writes the lines of their events.
 fn feed<T: Target>(
     decoder: &mut Decoder<'_>,
     fronts: &Fronts<'_>,
@@ -100,7 +100,7 @@ fn feed<T: Target>(
     decoder.feed(bytes, &mut sink)
 }
 
-/// Writes the line of a fault at which a feed has stopped.
+/// Writes the line of the fault at which a feed has stopped.
 fn close<T: Target>(fault: Fault, writer: &mut T) -> Result<ShowEnd, RunFault>
     ensures { IsClosedAt fault fault.code
         (changed T.written T.has_failed writer.old writer.new) result }
@@ -114,7 +114,7 @@ fn close<T: Target>(fault: Fault, writer: &mut T) -> Result<ShowEnd, RunFault>
     }
 }
 
-/// What a run answers where no decoder, or no encoder, is made.
+/// Returns the error of a run for which no decoder or encoder is made.
 pub fn refusal(error: MakeError) -> RunFault
     ensures { result ≡ refusal_of error }
 {
@@ -125,7 +125,7 @@ pub fn refusal(error: MakeError) -> RunFault
 }
 
 impl<'a> Show<'a> {
-    /// A run that has read nothing.
+    /// Makes a run that has read nothing.
     fn new(
         alloc: Global,
         templates: &'a Templates,
@@ -144,7 +144,7 @@ impl<'a> Show<'a> {
         }
     }
 
-    /// A run that has read nothing, of a new decoder and of what was made to name its events, if anything was.
+    /// Makes a run that has read nothing, with a new decoder and the prefixes of its lines, if these were made.
     fn of(
         decoder: Decoder<'a>,
         fronts: Result<Fronts<'a>, AllocError>,
@@ -166,7 +166,7 @@ impl<'a> Show<'a> {
         }
     }
 
-    /// Takes a piece of the input and writes the lines of what it gives, and answers how the run ends if it ends here.
+    /// Reads a piece of the input, and writes the lines of its events. Returns how the run ends, if it ends here.
     fn take<T: Target>(&mut self, piece: &[u8], writer: &mut T) -> Option<Result<ShowEnd, RunFault>>
         requires few { length piece.now ≤ READ_SIZE }
         requires counted { (account self.old.decoder).consumed + length piece.now < 2 ^ 64 }
@@ -183,7 +183,7 @@ impl<'a> Show<'a> {
         self.behind(fed, writer)
     }
 
-    /// How the run ends behind a feed, if it ends here.
+    /// Returns how the run ends after a feed, if it ends here.
     fn behind<T: Target>(
         &self,
         fed: Result<(), Fault>,
@@ -204,7 +204,7 @@ impl<'a> Show<'a> {
         }
     }
 
-    /// How the run ends where the input has ended.
+    /// Returns how the run ends at the end of the input.
     fn end<T: Target>(&self, writer: &mut T) -> Result<ShowEnd, RunFault>
         ensures { (t : Tree) (l : Limits) (hex : Bool) (text b : List ℕ) (es : List EventData)
             → Progress t l hex self.now text b es →
@@ -222,7 +222,7 @@ impl<'a> Show<'a> {
         }
     }
 
-    /// Behind how many bytes the stream ends inside a message, if it does.
+    /// Returns the number of bytes after which the stream ends inside a message, if it does.
     fn cut_at(&self) -> Option<u64>
         ensures whole { IfNone result ((account self.now.decoder).is_between ≡ true) }
         ensures cut { IfSome result
@@ -237,9 +237,9 @@ impl<'a> Show<'a> {
 
 /// Shows a stream: writes a line for each event, and a line for a fault or for an end inside a message.
 ///
-/// With `hex` the input is hexadecimal digits in pairs, with blanks between them. After `max_reads` reads that gave bytes the
-/// run ends with `RunFault::Read`; at most 4,096 bytes are read at a time. The writer is flushed before each read, which may
-/// take its time, so that all lines can be seen by then. What it keeps at the end is the caller's to flush.
+/// With `hex`, the input is pairs of hexadecimal digits, with blanks between them. After `max_reads` reads that returned bytes, the run
+/// ends with `RunFault::Read`; one read returns at most 4,096 bytes. The writer is flushed before each read, which may block, so that all
+/// lines are visible by then. The caller flushes the writer at the end.
 pub fn run_show<S: Source, T: Target>(
     alloc: Global,
     templates: &Templates,
@@ -255,7 +255,7 @@ pub fn run_show<S: Source, T: Target>(
         × IsShown (tree_of templates.now) limits hex (IsRefusal templates.now limits) (IsAtEnd (S.left reader.new))
         (IsTrue (S.has_failed reader.new) ⊎ (max_reads ≤ length text)) (IsTrue (T.has_failed writer.new)) text out
         result }
-    // A writer or a reader that fails is told.
+    // A writer or a reader that fails is reported.
     ensures writer_told { (result ≡ Err RunFault.Write) ⊎ (T.has_failed writer.new ≡ T.has_failed writer.old) }
     ensures reader_told { (result ≡ Err RunFault.Read) ⊎ (S.has_failed reader.new ≡ S.has_failed reader.old) }
     ensures bad_limits { AreBadLimits limits → result ≡ Err (RunFault.Make MakeError.BadLimits) }
@@ -268,7 +268,7 @@ pub fn run_show<S: Source, T: Target>(
     }
 }
 
-/// Reads and shows, up to the end of the input or of the run. Set, limits and `hex` are there for what the clauses say.
+/// Reads and shows, up to the end of the input or of the run. Set, limits and `hex` are parameters only for the contract.
 fn show_reads<S: Source, T: Target>(
     show: &mut Show<'_>,
     templates: &Templates,
@@ -310,15 +310,15 @@ fn show_reads<S: Source, T: Target>(
     Err(RunFault::Read)
 }
 
-/// Whether a run that ended so had a decoder.
+/// Returns whether a run that ended in this way had a decoder.
 fn has_begun(ending: &Result<ShowEnd, RunFault>) -> bool
     ensures { result ≡ has_begun ending.now }
 {
     !matches!(ending, Err(RunFault::Make(_) | RunFault::Memory))
 }
 
-/// Shows a stream, as `run_show` does, and hands on at the end what the writer still keeps to itself: at a good answer all of it is
-/// written. Where the writer fails in that, so does the run, unless nothing was shown since there is no decoder.
+/// Shows a stream, as [`run_show`] does, and flushes the writer at the end: after a good result, all lines are written. If the flush fails,
+/// so does the run, unless nothing was shown since there is no decoder.
 pub fn show_all<S: Source, T: Target>(
     alloc: Global,
     templates: &Templates,

@@ -1,4 +1,4 @@
-//! Texts that are read whole.
+//! Inputs that are read whole.
 
 ghost use Rattle.std.specs.Prelude.{◌≡◌, ◌⊎◌, ◌≤◌, length, Err, IfOk, IfErr, IsTrue};
 ghost use Rattle.std.specs.Io.KnownBytes.{IsAtEnd};
@@ -9,10 +9,10 @@ use crate::faults::RunFault;
 use fast_text::Source;
 use std::alloc::Global;
 
-/// How many bytes are read at a time, at most.
+/// The greatest number of bytes of one read.
 const READ_SIZE: usize = 4096;
 
-/// Reads a whole text, of at most `limit` bytes. A longer one cannot be read.
+/// Reads a whole input, of at most `limit` bytes. A longer one cannot be read.
 pub fn read_whole<S: Source>(
     alloc: Global,
     limit: usize,

@@ -1,4 +1,4 @@
-//! Hexadecimal digits that come in pieces.
+//! Hexadecimal digits that come in pieces, converted to bytes.
 
 ghost use Rattle.std.specs.Prelude.{◌≡◌, ℕ, ◌+◌, ◌*◌, ◌<◌, ◌≤◌, ◌^◌, List, [], ◌∷◌, ◌++◌, length, take, All, Some, IfSome, IfNone};
 ghost use Rattle.std.specs.Option.{option_to_list};
@@ -6,10 +6,10 @@ ghost use Rattle.fast_value.specs.meaning.Initial.{IsHexDigit};
 ghost use Rattle.fast_lines.specs.meaning.Hex.{IsHexOrBlank, Unhexed};
 ghost use Rattle.fast_command.specs.meaning.Unhexing.{IsOfClass, StandsAt, Unhexes, pending};
 
-/// What a character of a hexadecimal text is.
+/// The class of a character of a hexadecimal input.
 #[derive(Clone, Copy, Debug, PartialEq, Eq)]
 enum Class {
-    /// A space, a tab, CR or LF, which is passed over.
+    /// A space, a tab, CR or LF, which is skipped.
     Blank,
     /// A digit, in either case.
     Digit,
@@ -17,26 +17,26 @@ enum Class {
     Other,
 }
 
-/// Where a text stands.
+/// The position in a hexadecimal input.
 #[derive(Clone, Copy, Debug, PartialEq, Eq)]
 pub enum Place {
-    /// Behind whole pairs of digits.
+    /// After complete pairs of digits.
     Between,
-    /// Behind a digit that waits for the second of its pair.
+    /// After the first digit of a pair.
     InPair(u8),
-    /// Behind a character that is neither a digit nor blank, with its place in the text.
+    /// After a character that is neither a digit nor a blank, with its offset.
     Bad(u64),
 }
 
-/// Turns a text of hexadecimal digits, which comes in pieces cut anywhere, into bytes. Blanks may stand between any two
-/// digits. From a bad character on nothing is turned into bytes.
+/// Converts a hexadecimal input, which comes in pieces split anywhere, to bytes. Blanks may come between any two digits. From an invalid
+/// character on, nothing is converted.
 #[derive(Debug, Drop)]
 pub struct Unhexer {
     len: u64,
     place: Place,
 }
 
-/// What the character is.
+/// Returns the class of the character.
 fn class_of(character: u8) -> Class
     ensures { IsOfClass character result }
 {
@@ -47,7 +47,7 @@ fn class_of(character: u8) -> Class
     }
 }
 
-/// The byte of a pair of digits.
+/// Returns the byte of a pair of digits.
 fn byte_of(high: u8, low: u8) -> u8
     ensures { (m n : ℕ) → IsHexDigit high m → IsHexDigit low n → result ≡ 16 * m + n }
 {
@@ -57,7 +57,7 @@ fn byte_of(high: u8, low: u8) -> u8
 }
 
 impl Unhexer {
-    /// At the start of a text.
+    /// Makes a converter at the start of an input.
     pub fn new() -> Unhexer
         ensures { Unhexes result [] [] }
     {
@@ -67,7 +67,7 @@ impl Unhexer {
         }
     }
 
-    /// Takes a digit, and gives the byte that it completes.
+    /// Reads a digit, and returns the byte that it completes.
     fn push_digit(&mut self, digit: u8) -> Option<u8>
         requires { (n : ℕ) × IsHexDigit digit n }
         ensures at { (t v : List ℕ) → StandsAt self.old.place t v
@@ -88,7 +88,7 @@ impl Unhexer {
         }
     }
 
-    /// Takes a bad character.
+    /// Reads an invalid character.
     fn push_other(&mut self, other: u8)
         requires { ¬ (IsHexOrBlank other) }
         ensures at { (t v : List ℕ) → self.old.len ≡ length t → StandsAt self.old.place t v
@@ -104,7 +104,7 @@ impl Unhexer {
         }
     }
 
-    /// Takes a character, and gives the byte that it completes.
+    /// Reads a character, and returns the byte that it completes.
     fn push(&mut self, character: u8) -> Option<u8>
         requires { self.old.len + 1 < 2 ^ 64 }
         ensures unhexes { (t v : List ℕ) → Unhexes self.old t v
@@ -124,8 +124,8 @@ impl Unhexer {
         byte
     }
 
-    /// Takes a piece of the text, writes its bytes to the front of a buffer, and answers how many they are. The buffer has
-    /// room for half as many bytes as the piece has characters.
+    /// Reads a piece of the input, writes its bytes to the start of a buffer, and returns their number. The buffer needs half as many bytes
+    /// as the piece has characters.
     pub fn take(&mut self, piece: &[u8], bytes: &mut [u8]) -> usize
         requires room { length piece.now ≤ 2 * length bytes.old }
         requires few { self.old.len + length piece.now < 2 ^ 64 }
@@ -145,7 +145,7 @@ impl Unhexer {
         count
     }
 
-    /// The place of the first bad character, if one was taken.
+    /// Returns the offset of the first invalid character, if one was read.
     pub fn bad_character(&self) -> Option<u64>
         ensures found { IfSome result
             (λ place. (t v : List ℕ) → Unhexes self.now t v → Unhexed t v (Some place) × (place < length t)) }
@@ -158,8 +158,7 @@ impl Unhexer {
         }
     }
 
-    /// The first bad place of the text as far as it was taken, if it ends here: a bad character, or the end where a digit is
-    /// left alone.
+    /// Returns the first invalid offset of the input if it ends here: an invalid character, or the end, if a digit has no second one.
     pub fn bad_end(&self) -> Option<u64>
         ensures { (t v : List ℕ) → Unhexes self.now t v → Unhexed t v result }
     {

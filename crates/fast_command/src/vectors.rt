@@ -10,11 +10,11 @@ pub use fast_template::VECTORS;
 use fast_template::{StaticFault, Templates};
 use std::alloc::Global;
 
-/// Reads the built-in set from its text.
+/// Reads the built-in set from its TOML text.
 ///
 /// # Errors
 ///
-/// That there is no memory left.
+/// An allocation failed.
 pub fn built_in(alloc: Global) -> Result<Templates, StaticFault>
     ensures { IfOk result (λ t. (document : Members) × (parse_document VECTORS.now ≡ Some document)
         × IsTree document (tree_of t)) }
