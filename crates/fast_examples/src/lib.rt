@@ -1,9 +1,9 @@
-//! Worked examples as theorems over the definitions: what given bytes say, what is written for given messages, and what given
-//! texts mean.
+//! Examples as theorems over the definitions: the events of given bytes, the bytes of given messages, and the meaning of given template
+//! files.
 //!
-//! Each function's contract is the theorem, and the function does nothing. Bytes are read and messages encoded under the built-in
-//! template set, `vectors`, whose templates are T1 to T19 with identifiers 1 to 19; texts have at most 1024 bytes and sequences at
-//! most 1000 elements, and the mode is lenient, unless a statement says otherwise. Templates and nodes are named by their numbers.
+//! Each function's contract is the theorem, and the function does nothing. Unless a statement says otherwise, the template set is the
+//! built-in one, `vectors`, whose templates are T1 to T19 with identifiers 1 to 19; strings have at most 1024 bytes and sequences at most
+//! 1000 elements; and the mode is lenient. Templates and nodes are given by their numbers.
 #![tactic(auto)]
 
 pub mod conversions;

@@ -1,4 +1,4 @@
-//! Events and messages as lines of text.
+//! Events and messages as lines.
 
 ghost use Rattle.fast_examples.specs.meaning.Lines.{NestedLines, LinesSaid};
 
@@ -7,7 +7,7 @@ pub fn nested_lines()
     ensures { NestedLines }
 {}
 
-/// These lines say the message; and lines say one whether or not the last has a line feed.
+/// These lines are those of the message, with and without the last LF.
 pub fn lines_said()
     ensures { LinesSaid }
 {}

@@ -1,13 +1,12 @@
-//! The built-in template set as a text.
+//! The built-in template set, written as a string.
 
 ghost use Rattle.std.specs.Prelude.{◌≡◌};
 ghost use Rattle.fast_examples.specs.meaning.Spelled.{spelled};
 ghost use Rattle.fast_examples.specs.meaning.Vectors.{vectors};
 
-/// The set under which the examples are read: the number of its entries; a line for each template with its name, its identifier,
-/// whether it resets, and its nodes; and a line for each node with its number and its name, and of a field, a length, an exponent
-/// or a mantissa the kind, whether it may be absent, the operator, the initial value and the entry, of a group whether it may be
-/// absent, and the nodes in it.
+/// The set of the examples: the number of its dictionary entries; a line for each template with its name, its identifier, whether it
+/// resets, and its nodes; and a line for each node with its number and its name. A field, a length, an exponent or a mantissa has its type,
+/// whether it is optional, the operator, the initial value and the entry; a group has whether it is optional, and its nodes.
 pub const SPELLED: &str = "13
 T1 Some(1) false of 0
 T2 Some(2) false of 1
@@ -56,8 +55,8 @@ T19 Some(19) false of 25
 25 r Ascii true None None None
 ";
 
-/// The text says all that the tree of the examples has. That the built-in text is read as such a tree is a test of fast_command,
-/// which spells the set that was read in the same way.
+/// The string has everything in the tree of the examples. A test of fast_command reads the built-in template file, and compares its set,
+/// written in the same way.
 pub fn spelled_set()
     ensures { spelled vectors ≡ SPELLED.now }
 {}

@@ -1,9 +1,9 @@
-//! Template sets that are refused.
+//! Template files that are refused.
 
 ghost use Rattle.fast_examples.specs.meaning.Texts.{FaultyFields, CircularTemplates};
 
-/// An increment of an ASCII string is S2; 4294967296 as the initial value of a uInt32 is S3; a constant without initial value is S4,
-/// and a mandatory default without one S5.
+/// An increment of an ASCII string is S2; 4294967296 as the initial value of a `uInt32` is S3; a constant without initial value is S4, and
+/// a mandatory default without one S5.
 pub fn faulty_fields()
     ensures { FaultyFields }
 {}
