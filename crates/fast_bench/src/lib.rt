@@ -1,5 +1,5 @@
-//! Runs of the decoder and the encoder over streams in memory, and of what shows streams as lines and turns these back, for callers from C
-//! that measure or test them.
+//! Runs of the decoder and the encoder over streams in memory, and of the conversions between streams and lines, for C programs that
+//! measure or test them.
 #![tactic(auto)]
 
 use fast_measure::{
@@ -9,7 +9,7 @@ use fast_measure_lines::{convert, read, show};
 use fast_value::Limits;
 use std::alloc::Global;
 
-/// The limits of a call.
+/// Returns the limits from the arguments of a call.
 fn limits_of(strict: u32, max_text: u32, max_elements: u32, max_total: u32) -> Limits {
     Limits {
         strict: strict != 0,
@@ -19,11 +19,12 @@ fn limits_of(strict: u32, max_text: u32, max_elements: u32, max_total: u32) -> L
     }
 }
 
-/// Decodes a stream under a template set, fed in pieces of so many bytes, or in one where `piece` is 0.
+/// Decodes a stream under a template set, in pieces of `piece` bytes, or in one if `piece` is 0.
 ///
-/// Sink 0 counts, sink 2 writes records as a caller from C has them written, with no sum, and each other takes the checksum. Four numbers are written to `out`, each as eight bytes, the least first:
-/// the status (0 between two messages, 1 inside of one, 2 to 19 at a fault; 256 where no decoder was made, 518 where there was no memory for
-/// one), the number of bytes consumed, the number of events, and the sum.
+/// Sink 0 counts events; sink 2 writes records, as for callers from C, without a checksum; every other sink computes the checksum. Writes
+/// four numbers to `out`, each as eight bytes, the least significant first: the status (0 between two messages, 1 inside a message, 2 to 19
+/// at a fault; 256 if no decoder was made, 518 if an allocation for it failed), the number of bytes consumed, the number of events, and the
+/// checksum.
 #[unsafe(no_mangle)]
 pub extern "C" fn fast_bench_run(
     alloc: Global,
@@ -45,8 +46,8 @@ pub extern "C" fn fast_bench_run(
     }
 }
 
-/// Decodes a stream twice, fed in pieces of so many bytes, or in one where `piece` is 0: first with a sink that takes `most` events and
-/// stops at the next, and then, behind a reset, with one that does not stop. The answers, with checksums, are those of `fast_bench_run`.
+/// Decodes a stream twice, in pieces of `piece` bytes, or in one if `piece` is 0: first with a sink that receives `most` events and stops
+/// at the next, and then, after a reset, with one that does not stop. Writes both results, with checksums, in the form of `fast_bench_run`.
 #[unsafe(no_mangle)]
 pub extern "C" fn fast_bench_stop(
     alloc: Global,
@@ -67,10 +68,10 @@ pub extern "C" fn fast_bench_stop(
     runs.again.write_to(again);
 }
 
-/// Decodes a stream and each of its fronts, whole and in pieces of one, two and three bytes.
+/// Decodes a stream and each of its prefixes, whole and in pieces of one, two and three bytes.
 ///
-/// What is written to `whole` is the answer of `fast_bench_run` for the whole stream, with its checksum, and to `counts` the number of
-/// fronts and how many of them did not come to the same in pieces, or to what the whole stream does not come to, each as eight bytes.
+/// Writes the result for the whole stream to `whole`, in the form of `fast_bench_run`, with its checksum; and to `counts`, each as eight
+/// bytes, the number of prefixes, and the number of prefixes whose result differs in pieces, or contradicts that of the whole stream.
 #[unsafe(no_mangle)]
 pub extern "C" fn fast_bench_cut(
     alloc: Global,
@@ -90,11 +91,11 @@ pub extern "C" fn fast_bench_cut(
     counts[8..].copy_from_slice(&cuts.wrong.to_le_bytes());
 }
 
-/// Decodes a stream whole; in pieces of so many bytes, or in one where `piece` is 0; and, whatever `strict` says, leniently into
-/// messages, which are encoded, and what was encoded is decoded in strict mode.
+/// Decodes a stream in three ways: whole; in pieces of `piece` bytes, or in one if `piece` is 0; and leniently to messages (whatever
+/// `strict`), which are encoded, and the result is decoded in strict mode.
 ///
-/// The three answers, with checksums, are those of `fast_bench_run`; the third one is that of the last decoding. Where the stream does not
-/// end between two messages, or a message was refused, it is that status alone (as `fast_bench_encode` tells it).
+/// Writes the three results, with checksums, in the form of `fast_bench_run`; the third is that of the last decoding. If the stream does
+/// not end between two messages, or a message is refused, the third has only that status (as `fast_bench_encode` returns it).
 #[unsafe(no_mangle)]
 pub extern "C" fn fast_bench_three_ways(
     alloc: Global,
@@ -116,11 +117,11 @@ pub extern "C" fn fast_bench_three_ways(
     ways.again.write_to(again);
 }
 
-/// Decodes a stream under a template set into messages, once, and encodes these so many times, each time from a reset encoder.
+/// Decodes a stream under a template set to messages, once, and encodes these `rounds` times, each time from a reset encoder.
 ///
-/// Four numbers are written to `out`, each as eight bytes, the least first: the status (as `fast_bench_run` tells how the stream
-/// ended, 0 to 19; 256 where a set, a decoder or an encoder was not made; from 513 where a message was refused: E1, E2, E3, E4, R9; 518 where
-/// there was no memory), the number of messages, the number of bytes of all rounds, and the checksum of the last round's bytes.
+/// Writes four numbers to `out`, each as eight bytes, the least significant first: the status (0 to 19 for the end of the stream, as that
+/// of `fast_bench_run`; 256 if a set, a decoder or an encoder was not made; from 513 if a message was refused: E1, E2, E3, E4, R9; 518 if
+/// an allocation failed), the number of messages, the number of bytes over all rounds, and the checksum of the last round's bytes.
 #[unsafe(no_mangle)]
 pub extern "C" fn fast_bench_encode(
     alloc: Global,
@@ -136,7 +137,7 @@ pub extern "C" fn fast_bench_encode(
     encode(alloc, templates, limits, stream, Some(rounds)).write_to(out);
 }
 
-/// Decodes a stream under a template set into messages, and encodes each, once more where memory was refused. The answer is that of
+/// Decodes a stream under a template set to messages, and encodes each, a second time if an allocation failed. Writes the result of
 /// `fast_bench_encode` with one round.
 #[unsafe(no_mangle)]
 pub extern "C" fn fast_bench_encode_patiently(
@@ -152,12 +153,12 @@ pub extern "C" fn fast_bench_encode_patiently(
     encode(alloc, templates, limits, stream, None).write_to(out);
 }
 
-/// Calls each caller of fast_callers over a stream, with the limits that there are by default: it is cut in two for the first one, and the
-/// second one looks for the price of a symbol.
+/// Calls each caller of fast_callers over a stream, with the default limits: the first gets it in two pieces, and the second searches for
+/// the price of a symbol.
 ///
-/// Eight numbers are written to `out`, each as eight bytes, the least first: the number of messages; whether there is a price, its exponent
-/// and its mantissa; and the number of messages up to a fault, that of bytes, the status as `fast_bench_run` tells it, and the fault's
-/// place. What a caller refuses has 2^64 - 1 as its first number.
+/// Writes eight numbers to `out`, each as eight bytes, the least significant first: the number of messages; whether there is a price, its
+/// exponent and its mantissa; and the number of messages up to a fault, that of bytes, the status as that of `fast_bench_run`, and the
+/// offset of the fault. If a caller refuses the stream, its first number is 2^64 - 1.
 #[unsafe(no_mangle)]
 pub extern "C" fn fast_bench_call(
     alloc: Global,
@@ -170,11 +171,11 @@ pub extern "C" fn fast_bench_call(
     call_all(alloc, templates, stream, cut, symbol).write_to(out);
 }
 
-/// Shows a stream, and writes the lines to `out`, as far as there is room.
+/// Shows a stream, and writes the lines to `out`, as many bytes as have room.
 ///
-/// Three numbers are written to `answer`, each as eight bytes, the least first: the status, its place, and the number of bytes written. The
-/// status is 0 between two messages, 1 inside of one, 2 at a fault; 256 where no set was read; 300 where reading failed, 301 where
-/// writing did, 304 where the limits are refused; 518 where there was no memory.
+/// Writes three numbers to `answer`, each as eight bytes, the least significant first: the status, its offset, and the number of bytes
+/// written. The status is 0 between two messages, 1 inside a message, 2 at a fault; 256 if no set was read; 300 if reading failed, 301 if
+/// writing did, 304 if the limits are refused; 518 if an allocation failed.
 #[unsafe(no_mangle)]
 pub extern "C" fn fast_bench_show(
     alloc: Global,
@@ -191,10 +192,10 @@ pub extern "C" fn fast_bench_show(
     show(alloc, templates, limits, stream, out).write_to(answer);
 }
 
-/// Turns lines into their stream, and writes it to `out`, as far as there is room.
+/// Converts lines to their stream, and writes it to `out`, as many bytes as have room.
 ///
-/// The answer is that of `fast_bench_show`; from 401 a line is at fault, by the number of its kind, and from 513 a message is refused: E1,
-/// E2, E3, E4, R9.
+/// Writes the numbers of `fast_bench_show` to `answer`; the status is from 401 for an invalid line, by the number of its fault, and from
+/// 513 for a message that is refused: E1, E2, E3, E4, R9.
 #[unsafe(no_mangle)]
 pub extern "C" fn fast_bench_convert(
     alloc: Global,
@@ -210,7 +211,7 @@ pub extern "C" fn fast_bench_convert(
     convert(alloc, templates, limits, lines, out).write_to(answer);
 }
 
-/// Reads lines. The answer is that of `fast_bench_convert`, with the number of messages in place of that of bytes.
+/// Reads lines. Writes the numbers of `fast_bench_convert` to `answer`, with the number of messages in place of that of bytes.
 #[unsafe(no_mangle)]
 pub extern "C" fn fast_bench_read_lines(
     alloc: Global,
