@@ -1,5 +1,5 @@
-//! Runs in memory of what shows streams as lines and turns these back, for tests over a heap that refuses and over damaged lines. What
-//! they come to is numbers; they promise nothing but that they return.
+//! Runs in memory of the conversions between streams and lines, for tests with a heap that refuses allocations and with damaged lines.
+//! Their results are numbers; their contracts promise only that they return.
 #![tactic(auto)]
 
 use fast_command::{RunFault, ShowEnd, run_show};
@@ -10,31 +10,31 @@ use fast_text::{FromBytes, ToBytes};
 use fast_value::Limits;
 use std::alloc::Global;
 
-/// How often a stream is read at most.
+/// The greatest number of reads of a stream.
 const MAX_READS: u64 = 1 << 40;
 
-/// What a run came to.
+/// The result of a run.
 #[derive(Clone, Copy)]
 pub struct Answer {
-    /// 0 where all went well; 1 inside of a message, 2 at a fault of the stream; 256 where no set was read; 300 where reading failed,
-    /// 301 where writing did, 302 at a bad digit, 304 where the limits are refused; from 401 a line at fault, by the number of its kind;
-    /// from 513 a message that is refused (E1, E2, E3, E4, R9); 518 where there was no memory.
+    /// 0 at a good end; 1 inside a message, 2 at a fault of the stream; 256 if no set was read; 300 if reading failed, 301 if writing did,
+    /// 302 at an invalid digit, 304 if the limits are refused; from 401 an invalid line, by the number of its fault; from 513 a message
+    /// that is refused (E1, E2, E3, E4, R9); 518 if an allocation failed.
     pub status: u64,
-    /// The place, the line or the message of a fault.
+    /// The offset, the line or the message of a fault.
     pub place: u64,
     /// The number of bytes written, or of messages read.
     pub len: u64,
 }
 
 impl Answer {
-    /// The answer where no template set was read.
+    /// The result if no template set was read.
     pub const NOT_MADE: Answer = Answer {
         status: 256,
         place: 0,
         len: 0,
     };
 
-    /// A run that ended so, and had written so many bytes.
+    /// Returns the result of a run that ended with this status and offset, and had written `len` bytes.
     fn new((status, place): (u64, u64), len: usize) -> Answer {
         Answer {
             status,
@@ -43,7 +43,7 @@ impl Answer {
         }
     }
 
-    /// Writes the three numbers, each as eight bytes, the least first.
+    /// Writes the three numbers, each as eight bytes, the least significant first.
     pub fn write_to(&self, out: &mut [u8; 24]) {
         out[..8].copy_from_slice(&self.status.to_le_bytes());
         out[8..16].copy_from_slice(&self.place.to_le_bytes());
@@ -51,7 +51,7 @@ impl Answer {
     }
 }
 
-/// The status and the place of a text that is not read.
+/// Returns the status and the line of lines that are refused.
 fn status_of_text(fault: TextFault) -> (u64, u64) {
     match fault {
         TextFault::BadLine { line, kind } => (400 + kind.number() as u64, line),
@@ -59,7 +59,7 @@ fn status_of_text(fault: TextFault) -> (u64, u64) {
     }
 }
 
-/// The status and the place of a run that did not do its work.
+/// Returns the status and the offset of a run that failed.
 fn status_of_run(fault: RunFault) -> (u64, u64) {
     match fault {
         RunFault::Read => (300, 0),
@@ -73,7 +73,7 @@ fn status_of_run(fault: RunFault) -> (u64, u64) {
     }
 }
 
-/// The status and the place of a stream that was shown.
+/// Returns the status and the offset of a stream that was shown.
 fn status_of_show(end: ShowEnd) -> (u64, u64) {
     match end {
         ShowEnd::Good => (0, 0),
@@ -82,7 +82,7 @@ fn status_of_show(end: ShowEnd) -> (u64, u64) {
     }
 }
 
-/// The template set of a text.
+/// Reads a template set. The error is the result of a run without one.
 fn read_set(alloc: Global, text: &[u8]) -> Result<Templates, Answer> {
     let Ok(text) = std::str::from_utf8(text) else {
         return Err(Answer::NOT_MADE);
@@ -94,7 +94,7 @@ fn read_set(alloc: Global, text: &[u8]) -> Result<Templates, Answer> {
     }
 }
 
-/// Shows a stream, and writes the lines to `out`, as far as there is room.
+/// Shows a stream, and writes the lines to `out`, as many bytes as have room.
 pub fn show(
     alloc: Global,
     templates: &[u8],
@@ -124,7 +124,7 @@ pub fn show(
     Answer::new(status, target.bytes().len())
 }
 
-/// Turns lines into their stream, and writes it to `out`, as far as there is room.
+/// Converts lines to their stream, and writes it to `out`, as many bytes as have room.
 pub fn convert(
     alloc: Global,
     templates: &[u8],
