@@ -1,7 +1,7 @@
-//! The tests of fast_text, fast_reading, fast_explain, fast_command and fast_convert, a crate of their own so that each of these is proved
-//! once: the lines of events, readers and writers; texts of lines, with the line at fault; what is said of a fault; streams and what is
-//! shown of them, the lines of a set, words and their plans, and how runs end; lines and the streams that are written of them. They stand
-//! in one crate, since what a crate of tests links is dear to prove, and they link much the same.
+//! The tests of fast_text, fast_reading, fast_explain, fast_command and fast_convert. They cover the lines of events, readers and writers;
+//! files of lines, with the invalid line; explanations of faults; streams and their lines, the lines of a set, arguments and their plans,
+//! and the ends of runs; lines and the streams written from them. They are in a separate crate so that each of the tested crates is proved
+//! once, and in one crate since the linked code of a test crate is expensive to prove, and these tests link much of the same code.
 #![tactic(auto)]
 
 #[cfg(test)]

@@ -1,7 +1,7 @@
-//! Tests: what no clause says, and each public call once.
+//! Tests of whatever no contract covers, with each public call at least once.
 //!
-//! A call of a function with a large contract is dear to prove, so that each stands once, in a function without a
-//! contract that the tests call: here where several modules call it.
+//! A call of a function with a large contract is expensive to prove. So each occurs once, in a function without a contract that the tests
+//! call; those that several modules need are here.
 
 mod command;
 mod convert;
@@ -18,7 +18,7 @@ use sinks::Taker;
 use std::alloc::Global;
 use std::process::Abort;
 
-/// Lenient, with the limits that the program has by default.
+/// Lenient mode with the default limits of the program.
 const LENIENT: Limits = Limits {
     strict: false,
     max_text: 1024,
@@ -26,17 +26,17 @@ const LENIENT: Limits = Limits {
     max_total: 1000,
 };
 
-/// The set of a text, without which the test ends here. It has no `?` of its own then, whose way out its proof would pay for.
+/// Reads a template set; ends the test if that fails. So its callers need no `?`, whose exit their proofs would have to cover.
 fn set_of(rt: &impl Abort, alloc: Global, text: &str) -> Templates {
     Templates::read(alloc, text).expect(rt, "the set of a text")
 }
 
-/// The built-in set.
+/// Reads the built-in set.
 fn built_in_set(rt: &impl Abort, alloc: Global) -> Templates {
     built_in(alloc).expect(rt, "the built-in set")
 }
 
-/// Shows a stream, in at most so many reads.
+/// Shows a stream, in at most `max_reads` reads.
 fn show<S: Source>(
     alloc: Global,
     set: &Templates,
@@ -57,7 +57,7 @@ fn show<S: Source>(
     )
 }
 
-/// One comparison, of what a test names so.
+/// Fails the test unless `is_right`; the message names the test and the row.
 fn expect(rt: &impl Abort, is_right: bool, of: &str, at: usize) {
     assert!(rt; is_right, "{of} ({at})");
 }

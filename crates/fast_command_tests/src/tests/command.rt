@@ -1,4 +1,4 @@
-//! What the command does, over readers and writers.
+//! Tests of the commands over readers and writers.
 
 mod check;
 mod devices;
@@ -16,7 +16,7 @@ use fast_template::Templates;
 use fast_text::{Source, Watched};
 use std::alloc::Global;
 
-/// Shows a stream, which is bytes, in at most so many reads, and flushes at the end.
+/// Shows a binary stream, in at most `max_reads` reads, and flushes at the end.
 fn show_whole<S: Source>(
     alloc: Global,
     set: &Templates,

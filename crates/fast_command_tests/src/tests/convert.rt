@@ -1,4 +1,4 @@
-//! Lines, and the streams that are written of them.
+//! Tests of lines and of the streams that are written from them.
 
 mod ends;
 mod failures;
@@ -11,7 +11,7 @@ use fast_text::{Source, Watched};
 use fast_value::Limits;
 use std::alloc::Global;
 
-/// Turns lines into a stream.
+/// Converts lines to a stream.
 fn convert<S: Source>(
     alloc: Global,
     set: &Templates,

@@ -1,4 +1,4 @@
-//! Texts and streams with the words that are said of them.
+//! Tests of the explanations of template files and streams.
 
 mod streams;
 mod templates;

@@ -1,4 +1,4 @@
-//! Texts of lines, with the line at fault and what is wrong with it.
+//! Tests of files of lines, with the invalid line and its fault.
 
 mod cuts;
 mod wrong_lines;
@@ -8,7 +8,7 @@ use fast_template::Templates;
 use std::alloc::Global;
 use std::process::Abort;
 
-/// A template with an instruction of every kind, of which most are optional, and one without any.
+/// A template with an instruction of every type, most of them optional, and one without instructions.
 const SET: &str = r#"
 [[template]]
 name = "Order"
@@ -24,7 +24,7 @@ fields = [
 name = "Beat"
 "#;
 
-/// A message with all of its instructions, one with the mandatory ones alone, and one of the template without any.
+/// A message with all of its instructions, one with only the mandatory ones, and one of the template without instructions.
 const ALL: &str = "message Order
 field 0 size u 5
 field 1 shift i -3
@@ -52,13 +52,13 @@ message Beat
 end message
 ";
 
-/// How many messages a text says. Without a contract, so that a call is cheap to prove.
+/// Returns the number of messages of a file of lines. It has no contract, so that a call is cheap to prove.
 fn count_of(alloc: Global, set: &Templates, text: &[u8]) -> Result<usize, TextFault> {
     let messages = read_lines(alloc, set, text)?;
     Ok(messages.len())
 }
 
-/// The set.
+/// Reads the set.
 fn set_of(rt: &impl Abort, alloc: Global) -> Templates {
     super::set_of(rt, alloc, SET)
 }

@@ -1,21 +1,21 @@
-//! The reader and the writer of std that the tests have.
+//! The reader and the writer of std that the tests use.
 //!
-//! One of each, which can do what all tests ask for: the compiler makes the decoder's loop once more for each writer.
+//! There is one of each, with all that the tests need: the compiler makes a copy of the decoder's loop for each writer.
 
 ghost use Rattle.std.specs.Prelude.{◌≤◌, length, IfOk};
 
 use std::io::{self, ErrorKind, Read, Write};
 
-/// What a call comes to that is not answered as all others are.
+/// The result of the call that differs from all others.
 #[derive(Clone, Copy, PartialEq, Eq)]
 pub enum Answer {
     /// It fails.
     Failure,
-    /// No byte is given or taken.
+    /// No byte is read or written.
     Nothing,
 }
 
-/// Gives a byte a call, but at one. Or each call gives all that there is room for, without an end.
+/// A reader of one byte a call, except at one call; or one without an end, each call of which fills the buffer.
 #[derive(Drop)]
 pub struct Giver<'a> {
     bytes: &'a [u8],
@@ -26,7 +26,7 @@ pub struct Giver<'a> {
 }
 
 impl<'a> Giver<'a> {
-    /// One that gives these bytes.
+    /// Makes a reader of these bytes.
     pub fn new(bytes: &'a [u8], differs_at: usize, answer: Answer) -> Giver<'a> {
         Giver {
             bytes,
@@ -37,7 +37,7 @@ impl<'a> Giver<'a> {
         }
     }
 
-    /// One that has no end.
+    /// Makes a reader without an end.
     pub fn endless() -> Giver<'a> {
         Giver {
             bytes: &[],
@@ -72,7 +72,8 @@ impl Read for Giver<'_> {
     }
 }
 
-/// Takes a byte a call, but at one, and keeps the first of them; or takes whole pieces, up to the end of its cells. It can fail at a flush.
+/// A writer of one byte a call, except at one call, which keeps the first of them; or one of whole pieces, up to the end of its cells. It
+/// can fail at a flush.
 #[derive(Drop)]
 pub struct Taker<'a> {
     cells: &'a mut [u8],
@@ -87,7 +88,7 @@ pub struct Taker<'a> {
 }
 
 impl<'a> Taker<'a> {
-    /// One that takes a byte a call, and keeps the first of them.
+    /// Makes a writer of one byte a call, which keeps the first of them.
     pub fn new(
         cells: &'a mut [u8],
         differs_at: usize,
@@ -107,29 +108,29 @@ impl<'a> Taker<'a> {
         }
     }
 
-    /// One that takes whole pieces, up to the end of its cells.
+    /// Makes a writer of whole pieces, up to the end of its cells.
     pub fn whole(cells: &'a mut [u8]) -> Taker<'a> {
         let mut taker = Taker::new(cells, 0, Answer::Failure, 0);
         taker.is_whole = true;
         taker
     }
 
-    /// One that takes all, but fails at a flush, if it comes to it.
+    /// Makes a writer of everything, which fails at a flush if it comes to it.
     pub fn counting(flush_fails_at: usize) -> Taker<'a> {
         Taker::new(&mut [], 0, Answer::Failure, flush_fails_at)
     }
 
-    /// What it was given, where that has room in its cells.
+    /// Returns the bytes that were written, as far as they have room in its cells.
     pub fn bytes(&self) -> &[u8] {
         self.cells.get(..self.kept).unwrap_or(&[])
     }
 
-    /// Whether it was given this front of the lines.
+    /// Returns whether this part of the lines was written.
     pub fn has_kept(&self, lines: &[u8], count: usize) -> bool {
         self.cells.get(..self.kept) == lines.get(..count)
     }
 
-    /// Takes what it has cells for of a piece, and fails where it has none.
+    /// Writes the part of a piece that has room in the cells, and fails if they are full.
     fn take_piece(&mut self, piece: &[u8]) -> io::Result<usize>
         ensures { IfOk result (λ n. n ≤ length piece.now) }
     {

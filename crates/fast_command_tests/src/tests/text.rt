@@ -1,4 +1,4 @@
-//! The lines of events, and readers and writers.
+//! Tests of the lines of events, and of readers and writers.
 
 mod lines;
 mod slices;

@@ -1,4 +1,4 @@
-//! The five lines of a set.
+//! Tests of `check`: the five lines of a set.
 
 use super::super::{LENIENT, built_in_set, expect, set_of};
 use fast_command::{RunFault, run_check};
@@ -18,7 +18,7 @@ name = "B"
 fields = [{kind="uInt32", name="x"}]
 "#;
 
-/// The lines of a set, or the front of them for which there is room.
+/// Checks the lines of a set, or the part of them that has room.
 fn expect_lines(rt: &impl Abort, set: &Templates, limits: Limits, room: usize, lines: &str) {
     let mut cells = [0; 64];
     let (cells, _) = cells.split_at_mut(room.min(64));
@@ -35,7 +35,7 @@ fn expect_lines(rt: &impl Abort, set: &Templates, limits: Limits, room: usize, l
     expect(rt, is_right, lines, room);
 }
 
-/// How many elements a message has at most, and the lines of the built-in set.
+/// The greatest number of elements of a message, and the lines of the built-in set.
 #[rattlefmt::skip]
 const BUILT_IN_LINES: &[(u32, &str)] = &[
     (1000, "templates 19\nnodes 26\nentries 13\ndepth 1\ncap 4008\n"),
@@ -54,7 +54,7 @@ fn the_built_in_set_in_five_lines(rt: HostRuntime) {
     }
 }
 
-/// A writer that fails leaves a front of the lines.
+/// A writer that fails has received the start of the lines.
 #[test]
 fn a_set_in_five_lines(rt: HostRuntime) {
     let set = set_of(&rt, rt.alloc(), SET);

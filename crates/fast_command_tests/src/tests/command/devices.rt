@@ -1,4 +1,4 @@
-//! Readers and writers of std that fail at a call, end too early, or give and take one byte a call.
+//! Tests with readers and writers of std that fail at a call, end too early, or read and write one byte a call.
 
 use super::super::sinks::{Answer, Giver, Taker};
 use super::super::{built_in_set, expect};
@@ -12,7 +12,7 @@ const STREAM: [u8; 5] = [0xc0, 0x81, 0x39, 0x45, 0xa3];
 
 const LINES: &str = "message T1\nfield 0 x u 942755\nend message\n";
 
-/// For none of the bytes, one, two and so on: how much of the lines they decide, and the last line where nothing comes behind them.
+/// For each number of bytes from 0: how much of the lines they decide, and the last line if the stream ends there.
 const FRONTS: &[(usize, &str)] = &[
     (0, ""),
     (0, "truncated at 1\n"),
@@ -22,7 +22,7 @@ const FRONTS: &[(usize, &str)] = &[
     (42, ""),
 ];
 
-/// The end of a stream that ends so early.
+/// Returns the end of a stream that ends after `count` bytes.
 fn end_behind(count: usize) -> ShowEnd {
     if count == 0 || count == STREAM.len() {
         ShowEnd::Good
@@ -42,7 +42,8 @@ fn a_reader_that_fails_or_ends_at_any_call(rt: HostRuntime) {
     }
 }
 
-/// Whether, where a reader gives so many pieces and then answers so, the lines are shown that these decide, and behind an end its own.
+/// Returns whether, if a reader returns a number of pieces and then this answer, the lines of these pieces are shown, and after an end the
+/// last line too.
 fn is_shown_in_front(
     alloc: Global,
     set: &Templates,
@@ -76,7 +77,8 @@ fn a_writer_that_fails_or_takes_nothing_at_any_call(rt: HostRuntime) {
     }
 }
 
-/// Whether, where a writer takes so many bytes and then answers so, it has these of the lines, and the run has failed where there are more.
+/// Returns whether, if a writer writes `taken` bytes and then returns this answer, it has these bytes of the lines, and the run fails if
+/// there are more.
 fn is_taken_in_front(alloc: Global, set: &Templates, taken: usize, answer: Answer) -> bool {
     let mut source = FromBytes::new(&STREAM);
     let mut cells = [0; 64];
@@ -91,7 +93,7 @@ fn is_taken_in_front(alloc: Global, set: &Templates, taken: usize, answer: Answe
     end == due && target.into_inner().has_kept(LINES.as_bytes(), taken)
 }
 
-/// There is a flush before each read, of which the second tells the end, and a last one, also where the run has failed.
+/// There is a flush before each read, of which the second finds the end, and a last one, even if the run has failed.
 #[test]
 fn a_writer_that_fails_at_any_flush(rt: HostRuntime) {
     let set = built_in_set(&rt, rt.alloc());
@@ -101,7 +103,7 @@ fn a_writer_that_fails_at_any_flush(rt: HostRuntime) {
     }
 }
 
-/// Whether, where a writer fails at this flush, if it comes to it, there are so many, and it has so much of the lines.
+/// Returns whether, if a writer fails at this flush, the number of flushes and the part of the lines that it has are right.
 fn is_flushed(
     alloc: Global,
     set: &Templates,

@@ -1,4 +1,4 @@
-//! How a run ends: the status, and the line for standard error.
+//! Tests of the ends of runs: the status, and the line on standard error.
 
 use super::super::expect;
 use fast_command::{RunFault, ShowEnd, report};
@@ -10,7 +10,7 @@ use fast_text::ToBytes;
 use fast_value::Code;
 use std::process::Abort;
 
-/// An end has this status and this line.
+/// Checks the status and the line of an end.
 fn expect_report(rt: &impl Abort, ending: &Result<ShowEnd, RunFault>, status: u8, line: &str) {
     let mut cells = [0; 64];
     let mut target = ToBytes::new(&mut cells);
@@ -18,7 +18,7 @@ fn expect_report(rt: &impl Abort, ending: &Result<ShowEnd, RunFault>, status: u8
     expect(rt, is_right, line, usize::from(status));
 }
 
-/// How a run ends, the status, and the line.
+/// The end of a run, its status, and its line.
 #[rattlefmt::skip]
 const ENDS: &[(Result<ShowEnd, RunFault>, u8, &str)] = &[
     (Ok(ShowEnd::Good), 0, ""),

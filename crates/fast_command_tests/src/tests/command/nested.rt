@@ -1,4 +1,4 @@
-//! A nested message, cut behind each of its bytes.
+//! Tests with a nested message, truncated after each of its bytes.
 
 use super::super::sinks::Taker;
 use super::super::{LENIENT, built_in_set, expect, show};
@@ -32,7 +32,7 @@ end sequence
 end message
 ";
 
-/// For none of its bytes, one, two and so on: how much of these lines they decide, and the last line where nothing comes behind them.
+/// For each number of its bytes from 0: how much of the lines they decide, and the last line if the stream ends there.
 #[rattlefmt::skip]
 const NESTED_FRONTS: &[(usize, &str)] = &[
     (0, ""),
@@ -52,7 +52,7 @@ const NESTED_FRONTS: &[(usize, &str)] = &[
     (225, ""),
 ];
 
-/// Whether the front of `NESTED` with so many bytes gives so much of its lines, and then this one.
+/// Returns whether a prefix of `NESTED` yields this part of its lines, and then this line.
 fn is_nested_front(
     alloc: Global,
     set: &Templates,

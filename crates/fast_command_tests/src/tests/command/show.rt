@@ -1,4 +1,4 @@
-//! Streams as lines.
+//! Tests of `show`: streams as lines.
 
 use super::super::sinks::{Answer, Giver, Taker};
 use super::super::{LENIENT, built_in_set, expect, set_of, show};
@@ -31,12 +31,12 @@ struct Stream<'b> {
     is_hex: bool,
 }
 
-/// What a run answered, with no clause that says how `Debug` writes it.
+/// Returns the result of a run in the form of `Debug`. It has no contract.
 fn told(alloc: Global, found: &Result<ShowEnd, RunFault>) -> Result<String, AllocError> {
     format!(in alloc; "{found:?}")
 }
 
-/// A stream has this end, as `Debug` writes it, and these lines. What `show` gives behind them is an end of line.
+/// Checks the end of a stream, in the form of `Debug`, and its lines. `show` adds an end of line after them.
 fn expect_shown(
     rt: &impl Abort,
     alloc: Global,
@@ -68,14 +68,14 @@ fn expect_shown(
     expect(rt, has_lines && found.as_str() == end, lines, shown.len());
 }
 
-/// Takes the next column of a row.
+/// Returns the next column of a row.
 fn column<'t>(rest: &mut &'t str) -> &'t str {
     let (column, behind) = rest.split_once('|').unwrap_or((*rest, ""));
     *rest = behind;
     column.trim()
 }
 
-/// Each row comes of the set: hexadecimal digits, the end and the lines, with an empty line before the next row.
+/// Checks each row: hexadecimal digits, the end and the lines, with an empty line before the next row.
 fn expect_rows(rt: &impl Abort, alloc: Global, set: &Templates, limits: Limits, rows: &str) {
     for row in rows.split("\n\n") {
         let mut rest = row;
@@ -229,7 +229,7 @@ fn limits_without_a_decoder(rt: HostRuntime) {
     }
 }
 
-/// The message of `ROW_1`, and more than is read of it, a byte a read, with a read that fails, if there is one.
+/// Returns a reader of the message of `ROW_1` and further bytes, one byte a read, which fails at a read.
 fn drip(fails_at: usize) -> Watched<Giver<'static>> {
     let bytes = &[0xc0, 0x81, 0x39, 0x45, 0xa3, 0, 0, 0];
     Watched::new(Giver::new(bytes, fails_at, Answer::Failure))
@@ -264,7 +264,7 @@ fn reads_come_to_an_end(rt: HostRuntime) {
     }
 }
 
-/// What `C0 81 39 45 A3 C0` gives.
+/// The lines of `C0 81 39 45 A3 C0`.
 const CUT_LINES: &str = "message T1\nfield 0 x u 942755\nend message\ntruncated at 6\n";
 
 #[test]
@@ -275,7 +275,7 @@ fn a_writer_that_fails_leaves_a_front(rt: HostRuntime) {
     }
 }
 
-/// Whether a writer that has room for so much of the lines keeps it, and fails.
+/// Returns whether a writer with room for this part of the lines keeps it, and fails.
 fn leaves_a_front(alloc: Global, set: &Templates, room: usize) -> bool {
     let mut cells = [0; 64];
     let (cells, _) = cells.split_at_mut(room.min(64));

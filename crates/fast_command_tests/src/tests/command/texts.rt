@@ -1,4 +1,4 @@
-//! Texts that are read whole, and the sets that they are.
+//! Tests of inputs that are read whole, and of their template sets.
 
 use super::super::expect;
 use fast_command::{RunFault, read_templates, read_whole};
@@ -17,7 +17,7 @@ fn a_text_is_read_to_its_end(rt: HostRuntime) {
     expect(&rt, is_whole, "whole", text.len());
 }
 
-/// How many templates the set has that is read of these bytes, or why they are refused.
+/// Returns the number of templates of the set that is read from these bytes, or why they are refused.
 fn count_in(alloc: Global, text: &[u8]) -> Result<u32, RunFault> {
     match read_templates(alloc, &mut FromBytes::new(text)) {
         Ok(set) => Ok(set.count()),

@@ -1,4 +1,4 @@
-//! The built-in set, as it is read of its text, is the one of the worked streams: each number of each node, template and entry.
+//! Tests that the built-in set, as it is read, is that of the examples: each number of each node, template and entry.
 
 use super::super::built_in_set;
 use fast_examples::sets::SPELLED;
@@ -6,17 +6,17 @@ use fast_template::{FieldInstruction, Shape, Templates};
 use std::alloc::{AllocError, Global};
 use std::process::Abort;
 
-/// A text, for which there is memory.
+/// Returns the string; ends the test if an allocation failed.
 fn made(rt: &impl Abort, text: Result<String, AllocError>) -> String {
     text.expect(rt, "memory")
 }
 
-/// Puts a text behind another.
+/// Appends a string to another.
 fn put(rt: &impl Abort, text: &mut String, more: &str) {
     text.push_str(more).expect(rt, "memory");
 }
 
-/// Kind, presence, operator, initial value and entry.
+/// Returns the type, the presence, the operator, the initial value and the entry.
 fn field_text(rt: &impl Abort, alloc: Global, field: &FieldInstruction) -> String {
     let FieldInstruction {
         kind,
@@ -31,7 +31,7 @@ fn field_text(rt: &impl Abort, alloc: Global, field: &FieldInstruction) -> Strin
     )
 }
 
-/// The numbers of the nodes of a body.
+/// Returns the numbers of the nodes of a body.
 fn numbers_text(rt: &impl Abort, alloc: Global, body: &[u32]) -> String {
     let mut text = made(rt, String::from_str(alloc, " of"));
     for n in body {
@@ -40,7 +40,7 @@ fn numbers_text(rt: &impl Abort, alloc: Global, body: &[u32]) -> String {
     text
 }
 
-/// What a node stands for.
+/// Returns the shape of a node.
 fn shape_text(rt: &impl Abort, alloc: Global, shape: &Shape) -> String {
     let (front, back) = match shape {
         Shape::Field(field) => return field_text(rt, alloc, field),
@@ -60,7 +60,7 @@ fn shape_text(rt: &impl Abort, alloc: Global, shape: &Shape) -> String {
     made(rt, format!(in alloc; "{front}{back}"))
 }
 
-/// A node with its number and its name.
+/// Returns a node with its number and its name.
 fn node_text(rt: &impl Abort, alloc: Global, set: &Templates, n: u32) -> String {
     if n >= set.nodes() {
         return String::new(alloc);
@@ -71,7 +71,7 @@ fn node_text(rt: &impl Abort, alloc: Global, set: &Templates, n: u32) -> String 
     made(rt, format!(in alloc; "{n} {name}{shape}\n"))
 }
 
-/// The name of a template, its identifier, whether it resets, and its nodes.
+/// Returns the name of a template, its identifier, whether it resets, and its nodes.
 fn head_text(rt: &impl Abort, alloc: Global, set: &Templates, i: u32) -> String {
     if i >= set.count() {
         return String::new(alloc);
@@ -82,7 +82,7 @@ fn head_text(rt: &impl Abort, alloc: Global, set: &Templates, i: u32) -> String 
     made(rt, format!(in alloc; "{name} {id:?} {reset}{numbers}\n"))
 }
 
-/// A set as a text: its entries, its templates and its nodes.
+/// Returns a set as a string: its entries, its templates and its nodes.
 fn spelled(rt: &impl Abort, alloc: Global, set: &Templates) -> String {
     let entries = set.entries();
     let mut text = made(rt, format!(in alloc; "{entries}\n"));

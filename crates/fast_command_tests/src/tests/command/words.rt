@@ -1,4 +1,4 @@
-//! Words, and what they ask for.
+//! Tests of the arguments of fastcat and their plans.
 
 use super::super::expect;
 use clap::Error;
@@ -23,7 +23,7 @@ const CHECK: Plan<'static> = Plan {
     ..DEFAULTS
 };
 
-/// Words, and what they ask for.
+/// Arguments, and their plans.
 const PLANS: &[(&str, Plan<'static>)] = &[
     ("fastcat show t.toml", DEFAULTS),
     ("fastcat check t.toml", CHECK),
@@ -80,7 +80,7 @@ const PLANS: &[(&str, Plan<'static>)] = &[
     ),
 ];
 
-/// The words of a line, of which there are at most eight.
+/// Splits a line into its arguments, of which there are at most eight.
 fn words_of<'r, 't>(line: &'t str, room: &'r mut [&'t str; 8]) -> &'r [&'t str] {
     let mut count = 0_usize;
     for word in line.split(' ') {
@@ -92,12 +92,12 @@ fn words_of<'r, 't>(line: &'t str, room: &'r mut [&'t str; 8]) -> &'r [&'t str] 
     room.get(..count).unwrap_or(&[])
 }
 
-/// What words ask for, or why they are refused.
+/// Returns the plan of the arguments, or why they are refused.
 fn asked<'w>(alloc: Global, words: &'w [&'w str]) -> Result<Plan<'w>, Error> {
     plan(alloc, words)
 }
 
-/// Whether the words of a line ask for this.
+/// Returns whether the arguments of a line have this plan.
 fn is_plan(alloc: Global, line: &str, wanted: &Plan<'_>) -> bool {
     let mut room = [""; 8];
     match asked(alloc, words_of(line, &mut room)) {
@@ -113,7 +113,7 @@ fn words_and_their_plans(rt: HostRuntime) {
     }
 }
 
-/// Words that are refused, for what cause, and with what status.
+/// Arguments that are refused, with the error and the status.
 #[rattlefmt::skip]
 const REFUSALS: &[(&str, ErrorKind, i32)] = &[
     ("fastcat", ErrorKind::MissingSubcommand, 2),
@@ -128,7 +128,7 @@ const REFUSALS: &[(&str, ErrorKind, i32)] = &[
     ("fastcat show --version", ErrorKind::UnknownArgument, 2),
 ];
 
-/// Whether the words of a line are refused, for this cause and with this status.
+/// Returns whether the arguments of a line are refused with this error and this status.
 fn is_refused(alloc: Global, line: &str, kind: ErrorKind, status: i32) -> bool {
     let mut room = [""; 8];
     match asked(alloc, words_of(line, &mut room)) {

@@ -1,4 +1,4 @@
-//! How a run ends, and what is written by then.
+//! Tests of the ends of runs, and of the bytes written by then.
 
 use super::super::sinks::Taker;
 use super::super::{LENIENT, built_in_set, expect, set_of, show};
@@ -13,7 +13,7 @@ use fast_value::Limits;
 use std::alloc::Global;
 use std::process::Abort;
 
-/// A run over this text ends so, and has written this.
+/// Checks the end of a run over these lines, and its output.
 fn expect_end(
     rt: &impl Abort,
     alloc: Global,
@@ -34,10 +34,10 @@ fn expect_end(
 
 const X: &str = "message T1\nfield 0 x u 942755\nend message\n";
 
-/// The most bytes of a text, lines, how a run over them ends, and what is written by then.
+/// The greatest size of a file, lines, the end of a run over them, and its output.
 #[rattlefmt::skip]
 const ENDS: &[(usize, &str, Result<(), RunFault>, &str)] = &[
-    // lines are written as a stream
+    // Lines are written as a stream.
     (1024, "", Ok(()), ""),
     (1024, X, Ok(()), "c0813945a3\n"),
     (
@@ -52,7 +52,7 @@ const ENDS: &[(usize, &str, Result<(), RunFault>, &str)] = &[
         Ok(()),
         "e08681\nc089\n80\nc086\n",
     ),
-    // a line at fault is told, and nothing is written of the lines before it
+    // An invalid line is reported, and nothing is written for the lines before it.
     (
         1024,
         "message T1\nfield 0 x u 5\nend message\nmessage TX\n",
@@ -74,14 +74,14 @@ const ENDS: &[(usize, &str, Result<(), RunFault>, &str)] = &[
     ),
     (1024, "message T1\nend message\n", Err(RunFault::Text { line: 2, kind: LineFault::PassedOver }), ""),
     (1024, "message T1\nfield 0 x u 5\n", Err(RunFault::Text { line: 3, kind: LineFault::Missing }), ""),
-    // the messages before one that is refused are written
+    // The messages before one that is refused are written.
     (
         1024,
         "message T3\nfield 3 t a \"ABCDE\"\nend message\nmessage T3\nfield 3 t a \"AB\"\nend message\n",
         Err(RunFault::Encode { message: 1, fault: EncodeFault::E3 }),
         "e08341424344c5\n",
     ),
-    // limits are refused before the text is read
+    // Limits are refused before the input is read.
     (15, "message TX", Err(RunFault::Make(MakeError::BadLimits)), ""),
 ];
 
@@ -110,7 +110,7 @@ fn a_long_initial_value_is_refused_before_the_text_is_read(rt: HostRuntime) {
     expect_end(&rt, rt.alloc(), &set, short, "message TX", end, "");
 }
 
-/// Lines of whole messages, each of which is shown again as it was.
+/// Lines of whole messages, which are shown again unchanged.
 const THERE_AND_BACK: &[&str] = &[
     "message T3\nfield 3 t a \"ABCDE\"\nend message\nmessage T3\nfield 3 t a \"ABCXY\"\nend message\nmessage T3\nfield 3 t a \"ABCXY\"\nend message\n",
     "message T4\nfield 4 d a \"GEH6\"\nend message\nmessage T4\nfield 4 d a \"GEM6\"\nend message\nmessage T4\nfield 4 d a \"ZZGEM6\"\nend message\n",
@@ -130,7 +130,7 @@ fn what_is_written_is_shown_as_it_was(rt: HostRuntime) {
     }
 }
 
-/// Whether the lines that a stream is written of are shown of it.
+/// Returns whether the stream that is written from the lines is shown as these lines.
 fn comes_back(alloc: Global, set: &Templates, text: &str) -> bool {
     let mut cells = [0; 512];
     let mut target = Watched::new(Taker::whole(&mut cells));
@@ -140,7 +140,7 @@ fn comes_back(alloc: Global, set: &Templates, text: &str) -> bool {
     end == Ok(()) && is_shown_as(alloc, set, stream.bytes(), text)
 }
 
-/// Whether this is shown of a stream.
+/// Returns whether a stream is shown as these lines.
 fn is_shown_as(alloc: Global, set: &Templates, stream: &[u8], text: &str) -> bool {
     let mut cells = [0; 512];
     let mut target = Watched::new(Taker::whole(&mut cells));

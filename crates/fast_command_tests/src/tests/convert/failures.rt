@@ -1,4 +1,4 @@
-//! Readers and writers that fail, and those that give and take a byte a call.
+//! Tests with readers and writers that fail, and with those that read and write one byte a call.
 
 use super::super::sinks::{Answer, Giver, Taker};
 use super::super::{LENIENT, built_in_set, expect};
@@ -11,7 +11,7 @@ use std::alloc::Global;
 const LINES: &str =
     "message T1\nfield 0 x u 942755\nend message\nmessage T1\nfield 0 x u 0\nend message\n";
 
-/// How many bytes the lines are as a stream.
+/// The size of the lines' stream in bytes.
 const WRITTEN: usize = 7;
 
 #[test]
@@ -23,14 +23,14 @@ fn a_reader_that_fails_at_any_call_is_told(rt: HostRuntime) {
     }
 }
 
-/// Whether nothing is written where a reader fails at this call, if it comes to it, and all where it does not.
+/// Returns whether nothing is written if a reader fails at this call, and everything if the call does not occur.
 fn is_read_failure_told(alloc: Global, set: &Templates, call: usize) -> bool {
     let mut cells = [0; 64];
     let mut target = Watched::new(Taker::whole(&mut cells));
     let mut source = Watched::new(Giver::new(LINES.as_bytes(), call, Answer::Failure));
     let end = convert(alloc, set, LENIENT, false, &mut source, &mut target);
     let written = target.into_inner().kept;
-    // One call more than there are bytes is made, which tells the end.
+    // There is one call more than there are bytes, which finds the end.
     if call <= LINES.len() + 1 {
         end == Err(RunFault::Read) && written == 0
     } else {
@@ -61,7 +61,7 @@ fn a_writer_that_fails_at_any_call_is_told(rt: HostRuntime) {
     }
 }
 
-/// Whether, where a writer answers so at this call, if it comes to it, all before it is written, and the run has failed.
+/// Returns whether, if a writer returns this answer at this call, all bytes before it are written, and the run fails.
 fn is_write_failure_told(alloc: Global, set: &Templates, call: usize, answer: Answer) -> bool {
     let mut source = FromBytes::new(LINES.as_bytes());
     let mut target = Watched::new(Taker::new(&mut [], call, answer, 0));

@@ -1,4 +1,4 @@
-//! What is said of a stream, by what was read of it.
+//! Tests of the explanations of streams.
 
 use super::super::{expect, set_of};
 use fast_explain::{Kept, Note, explain_stream};
@@ -8,7 +8,7 @@ use fast_value::{Code, Limits};
 use std::alloc::Global;
 use std::process::Abort;
 
-/// Templates with a field in each sort of place. The nodes of T are 0 to 9, those of U 10 to 20.
+/// Templates with a field in each type of position. The nodes of T are 0 to 9, those of U 10 to 20.
 const SET: &str = r#"
 [[template]]
 name = "T"
@@ -47,7 +47,7 @@ id = 2
 fields = [{kind="ref", name="T"}, {kind="bytes", name="v"}]
 "#;
 
-/// Limits that short streams can pass.
+/// Returns limits that short streams can exceed.
 fn limits(strict: bool) -> Limits {
     Limits {
         strict,
@@ -57,7 +57,7 @@ fn limits(strict: bool) -> Limits {
     }
 }
 
-/// What is said at a place of an input that was read in pieces of five bytes.
+/// Returns the explanation after a number of bytes of an input that was read in pieces of five bytes.
 fn told(
     rt: &impl Abort,
     alloc: Global,
@@ -80,12 +80,13 @@ fn told(
     explain_stream(code, place, &reader)
 }
 
-/// The second line of what is said.
+/// Returns the second line of an explanation.
 fn line_of(note: &Note) -> &str {
     note.as_str().lines().nth(1).unwrap_or("")
 }
 
-/// The digits of a stream, the code of its fault if it is not cut, how many bytes decide it, and the field that is told.
+/// The digits of a stream, the code of its fault unless it is truncated, the number of bytes that decide it, and the field in the
+/// explanation.
 type Row = (&'static str, Option<Code>, u64, &'static str);
 
 #[rattlefmt::skip]

@@ -1,11 +1,11 @@
-//! Template texts that are refused, and where. `tools/runs/explained` has a row for each way.
+//! Tests of template files that are refused, and of the position. `tools/runs/explained` has a row for each case.
 
 use super::super::expect;
 use fast_explain::{Note, explain_templates};
 use fast_notation::{CheckedSet, StaticCode, StaticFault};
 use std::alloc::Global;
 
-/// Texts, and the words that are said of each.
+/// Template files, and the explanation of each.
 #[rattlefmt::skip]
 const ROWS: &[(&str, &str)] = &[
     ("[[template]]\nname = \"T\"\nname = 1\n", "  the text is not TOML, or not of the form of a template set
@@ -42,12 +42,12 @@ const ROWS: &[(&str, &str)] = &[
 "),
 ];
 
-/// What is said of bytes that are refused so. Without a contract, so that a call is cheap to prove.
+/// Returns the explanation of bytes that are refused with this fault. It has no contract, so that a call is cheap to prove.
 fn explained(alloc: Global, text: &[u8], fault: StaticFault) -> Note {
     explain_templates(alloc, text, fault)
 }
 
-/// What is said of a text that is refused.
+/// Returns the explanation of a template file that is refused.
 fn told(alloc: Global, text: &str) -> Option<Note> {
     match CheckedSet::read(alloc, text) {
         Ok(_) => None,

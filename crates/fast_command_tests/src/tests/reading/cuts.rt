@@ -1,13 +1,13 @@
-//! Whole texts, and texts that end too early.
+//! Tests of whole files of lines, and of truncated ones.
 
 use super::super::expect;
 use super::{ALL, count_of, set_of};
 use fast_reading::TextFault;
 
-/// Where each message ends, behind its last LF.
+/// The offset after the last LF of each message.
 const ENDS: [usize; 4] = [0, 300, 374, 399];
 
-/// How many messages end in so many bytes. The LF behind the last may be missing.
+/// Returns the number of messages that end within `length` bytes. The LF after the last may be missing.
 fn whole_ones(length: usize) -> Option<usize> {
     for (count, end) in ENDS.into_iter().enumerate() {
         if end == length || length.checked_add(1) == Some(end) {
@@ -17,7 +17,7 @@ fn whole_ones(length: usize) -> Option<usize> {
     None
 }
 
-/// Whether the answer is the one for so many messages, or a fault where there is none.
+/// Returns whether the result is this number of messages, or a fault if there is none.
 fn is_right(want: Option<usize>, answer: Result<usize, TextFault>) -> bool {
     match answer {
         Ok(count) => Some(count) == want,

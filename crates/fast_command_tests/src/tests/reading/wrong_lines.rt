@@ -1,4 +1,4 @@
-//! Texts that are at fault, with the line and what is wrong with it.
+//! Tests of invalid lines, with the number of the line and its fault.
 
 use super::super::{built_in_set, expect};
 use super::{count_of, set_of};
@@ -8,7 +8,7 @@ use fast_template::Templates;
 use std::alloc::Global;
 use std::process::Abort;
 
-/// What is wrong, and texts with the number of the line.
+/// A fault, and files of lines with the number of the invalid line.
 type Rows = &'static [(LineFault, &'static [(u64, &'static str)])];
 
 #[rattlefmt::skip]
@@ -39,7 +39,7 @@ const FAULTS: Rows = &[
             (5, "message Order\nfield 0 size u 5\ngroup 3 party\nfield 4 key b \nfield 5 desk a \"\\x41\""),
             (3, "message Order\nfield 0 size u 5\nsequence 6 legs 4294967296"),
             (3, "message Order\nfield 0 size u 5\nsequence 6 legs 00"),
-            // where the line is out of place too
+            // The line is also out of place.
             (2, "message Beat\nfield 0 size u 05"),
             (2, "message Beat\nfield 0 size! u 5"),
         ],
@@ -82,10 +82,10 @@ const FAULTS: Rows = &[
             (3, "message Order\nfield 0 size u 5\nfield 2 price d 1e-99999999999"),
             (5, "message Order\nfield 0 size u 5\ngroup 3 party\nfield 4 key b 00\nfield 5 desk a \"é\""),
             (4, "message Order\nfield 0 size u 5\ngroup 3 party\nfield 4 key s \"\""),
-            // where a mandatory field is left out too
+            // A mandatory field is also missing.
             (2, "message Order\nfield 1 shift u 3"),
             (4, "message Order\nfield 0 size u 5\ngroup 3 party\nfield 5 desk s \"\""),
-            // before the next line, which is of no form
+            // The next line is also invalid.
             (2, "message Order\nfield 0 size i 5\n?"),
         ],
     ),
@@ -123,7 +123,7 @@ const FAULTS: Rows = &[
     ),
 ];
 
-/// Each text has this fault, in the line that stands with it.
+/// Checks that each file has this fault in the line of this number.
 fn expect_fault(
     rt: &impl Abort,
     alloc: Global,
@@ -179,7 +179,7 @@ fn a_line_that_is_not_utf8_is_of_no_form(rt: HostRuntime) {
             Form,
             b"message Beat\nend message\nmessage \xff\n".as_slice(),
         ),
-        // a fault before it is told first
+        // An earlier fault is reported first.
         (
             1,
             UnknownTemplate,

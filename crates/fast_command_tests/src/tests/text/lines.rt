@@ -1,4 +1,4 @@
-//! The line of each event.
+//! Tests of the line of each event.
 
 use super::super::{expect, set_of};
 use Event::{
@@ -13,7 +13,7 @@ use fast_value::Scalar;
 use std::alloc::Global;
 use std::process::Abort;
 
-/// A template with a field of each sort.
+/// Reads a template with a field of each type.
 fn set(rt: &impl Abort, alloc: Global) -> Templates {
     let text = r#"
 [[template]]
@@ -55,16 +55,16 @@ const VALUES: &[Event<'static>] = &[
     Field { node: 0, value: Unicode(b"\"\\\x00\x1f\x7f\xc3\xa9 a") },
 ];
 
-/// A vector that is written in more than one piece.
+/// A byte vector that is written in more than one piece.
 const LONG: &[Event<'static>] = &[Field {
     node: 2,
     value: Bytes(&[0xa5; 65]),
 }];
 
-/// Numbers that the set does not have, and that have no name.
+/// Numbers that the set does not have, and which have no name.
 const UNKNOWN: &[Event<'static>] = &[MessageStart { template: 1 }, GroupStart { node: 6 }];
 
-/// What they show, events, and their lines.
+/// A description, events, and their lines.
 const ROWS: &[(&str, &[Event<'static>], &str)] = &[
     (
         "events",
@@ -84,7 +84,7 @@ const ROWS: &[(&str, &[Event<'static>], &str)] = &[
     ("unknown numbers", UNKNOWN, "message \ngroup 6 \n"),
 ];
 
-/// Whether a sink over the cells writes these bytes of the events, and stops or not.
+/// Returns whether a sink over the cells writes these bytes for the events, and whether it stops as expected.
 fn is_written(
     set: &Templates,
     cells: &mut [u8],
@@ -118,7 +118,7 @@ fn each_event_is_its_line(rt: HostRuntime) {
     }
 }
 
-/// The ASCII text that a line has.
+/// Returns the ASCII string in a line.
 fn text_in(line: &[u8]) -> &[u8] {
     match line {
         [
@@ -145,7 +145,7 @@ fn text_in(line: &[u8]) -> &[u8] {
     }
 }
 
-/// A text that a sink has no room for goes on to the target, and the line goes on behind it.
+/// A string that does not fit in the buffer is written to the target directly, and the line goes on after it.
 #[test]
 fn a_long_text_stands_in_its_line(rt: HostRuntime) {
     let set = set(&rt, rt.alloc());

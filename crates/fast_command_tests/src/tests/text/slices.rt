@@ -1,4 +1,4 @@
-//! Readers and writers over slices, and those of std.
+//! Tests of readers and writers over slices, and of those of std.
 
 use super::super::expect;
 use fast_text::{BlockWriter, Failed, FromBytes, Source, Target, ToBytes, Watched};
@@ -6,7 +6,7 @@ use std::io;
 use std::io::{ErrorKind, Read, Write};
 use std::process::Abort;
 
-/// Reads and writes one byte a call, and fails at a call.
+/// A reader and writer of one byte a call, which fails at a call.
 #[derive(Drop)]
 struct OneByOne<'a> {
     cells: &'a mut [u8],
@@ -57,7 +57,7 @@ impl Write for OneByOne<'_> {
     }
 }
 
-/// Each read answers so, leaves these bytes in front of the buffer, and leaves the reader failed or not.
+/// Checks that each read returns this result, leaves these bytes at the start of the buffer, and leaves the reader failed or not.
 fn expect_reads<S: Source>(
     rt: &impl Abort,
     source: &mut S,
@@ -71,7 +71,7 @@ fn expect_reads<S: Source>(
     }
 }
 
-/// The piece is written whole, or fails.
+/// Checks that the piece is written whole, or that the write fails.
 fn expect_write<T: Target>(
     rt: &impl Abort,
     target: &mut T,
@@ -141,7 +141,7 @@ fn a_writer_of_std_fails_where_a_call_does_or_writes_nothing(rt: HostRuntime) {
     }
 }
 
-/// What is written waits for a flush; what a target has no room for is still kept where it fails.
+/// A block is written at a flush; if that fails, the bytes that the target has no room for stay in the buffer.
 #[test]
 fn a_block_is_handed_on_at_a_flush(rt: HostRuntime) {
     let mut cells = [0; 4];
@@ -153,7 +153,7 @@ fn a_block_is_handed_on_at_a_flush(rt: HostRuntime) {
     assert!(rt; writes && waits && fails && cells == *b"abcd");
 }
 
-/// A piece that is longer than a block comes behind what was kept.
+/// A piece that is longer than a block is written after the buffered bytes.
 #[test]
 fn a_long_piece_goes_past_a_block(rt: HostRuntime) {
     let mut cells = [0; 9001];
@@ -167,7 +167,7 @@ fn a_long_piece_goes_past_a_block(rt: HostRuntime) {
     );
 }
 
-/// Takes all that is written, counts flushes, and fails at one.
+/// A writer that accepts everything, counts flushes, and fails at one.
 #[derive(Drop)]
 struct Flushes {
     count: u32,
