@@ -28,7 +28,7 @@ pub struct FastDecoder {
     unseen: u8,
 }
 
-/// A pointer to a decoder, passed by value. The handle of the allocator takes no bytes.
+/// A pointer to a decoder, passed by value. The handle of the allocator is zero-sized.
 #[repr(C)]
 pub struct DecoderHandle {
     at: *mut FastDecoder,

@@ -29,7 +29,7 @@ pub struct FastEncoder {
     unseen: u8,
 }
 
-/// A pointer to an encoder, passed by value. The handle of the allocator takes no bytes.
+/// A pointer to an encoder, passed by value. The handle of the allocator is zero-sized.
 #[repr(C)]
 pub struct EncoderHandle {
     at: *mut FastEncoder,

@@ -22,7 +22,7 @@ pub struct FastSet {
     unseen: u8,
 }
 
-/// A pointer to a set, passed by value. The handle of the allocator takes no bytes.
+/// A pointer to a set, passed by value. The handle of the allocator is zero-sized.
 #[repr(C)]
 pub struct SetHandle {
     at: *mut FastSet,

@@ -35,8 +35,7 @@ pub fn encoded_or_refused()
         → ¬ (IsRefused (tree e) e.limits e.dictionary m c) }
 {}
 
-/// A new encoder of a set that was read can encode or refuse every message, and stays so. The premises are what the functions of `Encoder`
-/// ensure.
+/// A new encoder of a set that was read can encode or refuse every message, and stays so. The functions of `Encoder` ensure the premises.
 pub fn stays_able()
     // `Templates::read` gives the tree, and `Encoder::new` the rest.
     ensures new { (document : Members) (t : Templates) (e : EncoderData) → IsTree document (tree_of t) → tree e ≡ tree_of t

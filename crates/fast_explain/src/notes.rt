@@ -13,7 +13,7 @@ pub type Note = ArrayString<NOTE_ROOM>;
 /// The greatest number of characters that are quoted of a string.
 const QUOTED: usize = 64;
 
-/// What a template file has at a position.
+/// The content of a template file at a position.
 #[derive(Clone, Copy)]
 pub(crate) enum Found<'a> {
     /// Nothing.
@@ -26,7 +26,7 @@ pub(crate) enum Found<'a> {
     Of(&'a Value),
 }
 
-/// What would be valid at a position.
+/// The valid content at a position.
 #[derive(Clone, Copy)]
 pub(crate) enum Right {
     /// One of these words.
@@ -57,16 +57,16 @@ impl Part {
     }
 }
 
-/// An error of form in a table: its part, its key, what is there and what would be valid.
+/// An error of form in a table: its part, its key, the content there and the valid content.
 #[derive(Clone, Copy)]
 pub(crate) struct Misfit<'a> {
     /// The part of the field that is at fault.
     pub(crate) part: Part,
     /// The key; `None` for the value itself.
     pub(crate) key: Option<&'a str>,
-    /// What the file has there.
+    /// The content there.
     pub(crate) found: Found<'a>,
-    /// What would be valid.
+    /// The valid content.
     pub(crate) right: Right,
 }
 
@@ -117,7 +117,7 @@ fn put_value(note: &mut Note, value: &Value) -> bool {
     }
 }
 
-/// Appends what the file has at a position. Returns whether it had room.
+/// Appends the content at a position. Returns whether it had room.
 pub(crate) fn put_found(note: &mut Note, found: Found<'_>) -> bool {
     match found {
         Found::Nothing => put(note, &["missing"]),
@@ -142,7 +142,7 @@ fn put_words(note: &mut Note, words: &[&str]) -> bool {
     true
 }
 
-/// Appends what would be valid. Returns whether it had room.
+/// Appends the valid content. Returns whether it had room.
 fn put_right(note: &mut Note, right: Right) -> bool {
     match right {
         Right::Said(words) => put(note, &[words]),
@@ -150,7 +150,7 @@ fn put_right(note: &mut Note, right: Right) -> bool {
     }
 }
 
-/// Writes a line with what the file has at a position and what would be valid there.
+/// Writes a line with the content at a position and the valid content.
 pub(crate) fn tell_right(note: &mut Note, found: Found<'_>, right: Right) {
     let _ = put(note, &["  "])
         && put_found(note, found)

@@ -145,7 +145,7 @@ fn text_in(line: &[u8]) -> &[u8] {
     }
 }
 
-/// A string that does not fit in the buffer is written to the target directly, and the line goes on after it.
+/// A string that does not fit in the buffer is written to the target directly, and the rest of the line follows.
 #[test]
 fn a_long_text_stands_in_its_line(rt: HostRuntime) {
     let set = set(&rt, rt.alloc());
