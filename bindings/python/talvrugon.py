@@ -1,14 +1,14 @@
 """A decoder and an encoder of FAST 1.1 streams, proved in Rattle, over ctypes.
 
-The shared library is made of the static one:
+Make the shared library from the static one:
 
     cc -shared -o libfast_c.so -Wl,--whole-archive libfast_c.a -Wl,--no-whole-archive include/heap.c
 
     with talvrugon.Library("./libfast_c.so").set(text).decoder() as decoder:
         for kind, node, value in decoder.feed(piece): ..
-        for records, texts in decoder.feed_records(piece): ..     # NumPy structured arrays where NumPy is there
+        for records, texts in decoder.feed_records(piece): ..     # NumPy structured arrays if NumPy is installed
 
-A call has decoded its piece when it returns. What is proved is the library; this face of it is tested.
+A call has decoded its whole piece when it returns. The library is proved; this module is tested.
 """
 
 from __future__ import annotations
@@ -28,7 +28,7 @@ except ImportError:
 
 INTERFACE = 2
 
-# The library that a wheel has beside this module.
+# The library in a wheel, next to this module.
 BESIDE = os.path.join(os.path.dirname(os.path.abspath(__file__)), "libfast.so.0")
 
 MESSAGE_START, UNSIGNED, SIGNED, DECIMAL, ASCII, UNICODE, BYTES = range(1, 8)
@@ -36,12 +36,12 @@ GROUP_START, GROUP_END, SEQUENCE_START, ELEMENT_START, ELEMENT_END, SEQUENCE_END
 
 DONE, MORE, CLOSED = 0, 1, 4
 
-# (kind, node, value): of a decimal the mantissa and the exponent, of texts bytes
+# (kind, node, value); the value of a decimal is (mantissa, exponent), that of a string is bytes
 Event = tuple[int, int, Any]
 
 
 class Record(c.Structure):
-    """An event of fixed size: fast_record of fast.h. ROW has the same of its bytes."""
+    """An event of fixed size: fast_record of fast.h. ROW is its layout."""
 
     _fields_ = [("kind", c.c_uint32), ("node", c.c_uint32), ("value", c.c_uint64), ("length", c.c_uint32), ("exponent", c.c_int32)]
 
@@ -50,19 +50,19 @@ ROW = struct.Struct("<IIQIi")
 
 
 class Fed(c.Structure):
-    """What came of a feed: fast_fed."""
+    """The result of a feed: fast_fed."""
 
     _fields_ = [(name, c.c_uint64) for name in ("taken", "records", "texts", "consumed")] + [("between", c.c_uint32), ("status", c.c_uint32)]
 
 
 class Put(c.Structure):
-    """What came of a message: fast_put."""
+    """The result of encoding a message: fast_put."""
 
     _fields_ = [("waiting", c.c_uint64), ("record", c.c_uint64), ("status", c.c_uint32), ("unused", c.c_uint32)]
 
 
 class Handle(c.Structure):
-    """A pointer of the library, by value."""
+    """A pointer of the library, passed by value."""
 
     _fields_ = [("at", c.c_void_p)]
 
@@ -93,10 +93,11 @@ FUNCTIONS = {
 
 
 class Error(Exception):
-    """Why a call did not do its work.
+    """The error of a call.
 
-    place: at a fault how many bytes of the stream were consumed, of records that are no message which one is not due. template: the number of
-    the template whose message is at fault, None between messages. events: what the piece gave before the fault.
+    place: for a fault, the number of bytes of the stream that were consumed; for records that are not those of one message, the number of
+    the record that may not come next. template: the number of the template whose message has the fault, None between messages. events: the
+    events of the piece before the fault.
     """
 
     def __init__(self, status: int, place: int, words: str, template: int | None = None, events: Events | None = None):
@@ -106,13 +107,13 @@ class Error(Exception):
 
     @property
     def code(self) -> str | None:
-        """The name of the code, such as D9, if it has one."""
+        """The name of the code, such as D9, if there is one."""
         name, colon, _ = self.words.partition(":")
         return name if colon else None
 
 
 def integer(name: str, value: Any, bits: int, signed: bool = False) -> int:
-    """Returns an integer that has so many bits, and raises a TypeError or a ValueError by its name where it is none."""
+    """Returns an integer of this many bits; raises a TypeError or a ValueError, with its name, if it is none."""
     low, high = (-(1 << bits - 1), (1 << bits - 1) - 1) if signed else (0, (1 << bits) - 1)
     try:
         number = operator.index(value)
@@ -128,7 +129,7 @@ def numbers_of(**named: Any) -> list[int]:
 
 
 class Library:
-    """The shared library of a path, or the one that came with the module."""
+    """The shared library at a path, or the one in the wheel of this module."""
 
     def __init__(self, path: str = BESIDE):
         self.calls = c.CDLL(path)
@@ -139,23 +140,23 @@ class Library:
             function.restype, function.argtypes = result, parameters
 
     def words(self, status: int) -> str:
-        """The sentence of a status; empty where no status has the number."""
+        """Returns the sentence of a status; empty if no status has the number."""
         room = c.create_string_buffer(256)
         length = self.calls.fast_status_words(integer("the status", status, 32), room, len(room))
         return room.raw[:length].decode()
 
     def expect(self, status: int, place: int = 0, *more: Any) -> None:
-        """Raises an Error where a status is not 0."""
+        """Raises an Error unless the status is 0."""
         if status != DONE:
             raise Error(status, place, self.words(status), *more)
 
     def set(self, text: str) -> Set:
-        """The template set of a TOML text."""
+        """Reads a template set from a TOML string."""
         return Set(self, text)
 
 
 class Owned:
-    """A pointer of the library, which is closed with the last reference to it, and what it borrows after it."""
+    """A pointer of the library, which is closed with the last reference to it, before the objects that it borrows."""
 
     def __init__(self, close: Any, *borrows: Any):
         self.at, self.close, self.borrows = P(), close, borrows
@@ -166,9 +167,10 @@ class Owned:
 
 
 class Held:
-    """What the library made. It is closed with close(), at the end of a with statement, or with the last reference; twice does nothing.
+    """An object of the library. It is closed by close(), at the end of a with statement, or with the last reference; closing it twice does
+    nothing.
 
-    What is used when it is closed raises an Error of status 4.
+    Any use after that raises an Error of status 4.
     """
 
     def __init__(self, library: Library, close: Any, *borrows: Any):
@@ -196,7 +198,7 @@ class Held:
 
 
 class Set(Held):
-    """A template set. Its decoders and encoders go on when it is closed: its memory is given back after the last of them."""
+    """A template set. Its decoders and encoders stay usable when it is closed: its memory is freed after the last of them."""
 
     def __init__(self, library: Library, text: str):
         super().__init__(library, library.calls.fast_set_close)
@@ -216,12 +218,12 @@ class Set(Held):
 
     @property
     def templates(self) -> int:
-        """How many templates it has: their numbers begin at 0."""
+        """The number of templates. They are numbered from 0."""
         return self.library.calls.fast_set_templates(self.handle)
 
     @property
     def nodes(self) -> int:
-        """How many fields, groups and sequences it has: their numbers begin at 0."""
+        """The number of fields, groups and sequences. They are numbered from 0."""
         return self.library.calls.fast_set_nodes(self.handle)
 
     def template_name(self, number: int) -> str:
@@ -238,19 +240,19 @@ class Set(Held):
 
 
 class Room:
-    """Buffers for the records of one call (24 bytes each) and their texts. One serves any number of decoders of one thread."""
+    """Buffers for the records of one call (24 bytes each) and their strings. One room can serve any number of decoders of one thread."""
 
     def __init__(self, records: int = 4096, texts: int = 65536):
         self.records, self.texts = (Record * max(records, 1))(), c.create_string_buffer(max(texts, 1))
 
     def hold(self, max_text: int) -> None:
-        """Makes room for a text of so many bytes."""
+        """Makes room for a string of this many bytes."""
         if len(self.texts) < max_text:
             self.texts = c.create_string_buffer(max_text)
 
 
 class Events:
-    """The events of a piece that has been decoded: pairs of records and their texts, as bytes."""
+    """The events of a decoded piece: pairs of records and their strings, as bytes."""
 
     def __init__(self, parts: list[tuple[bytes, bytes]]):
         self.parts = parts  # of each call of the library
@@ -270,13 +272,13 @@ class Events:
                 yield kind, node, value
 
     def arrays(self) -> list[tuple[Any, bytes]]:
-        """Pairs of an array of Record (a NumPy structured array where NumPy is there) and the bytes of their texts."""
+        """Returns pairs of an array of Record (a NumPy structured array if NumPy is installed) and the bytes of their strings."""
         if numpy:
             return [(numpy.frombuffer(records, dtype=numpy.dtype(Record)), texts) for records, texts in self.parts]
         return [((Record * (len(records) // ROW.size)).from_buffer_copy(records), texts) for records, texts in self.parts]
 
     def template(self) -> tuple[bool, int | None]:
-        """Whether a message begins or ends here, and the template of the one that has begun last and not ended."""
+        """Returns whether a message starts or ends in these events, and the template of the last message that starts and does not end."""
         for records, _ in reversed(self.parts):
             for at in range(len(records) - ROW.size, -1, -ROW.size):
                 kind, node = struct.unpack_from("<II", records, at)
@@ -286,10 +288,12 @@ class Events:
 
 
 class Decoder(Held):
-    """Decodes a stream that comes in pieces, cut anywhere. A piece is bytes or what has their interface (bytearray, memoryview).
+    """A decoder of a stream that comes in pieces, split anywhere. A piece is bytes or an object with the buffer protocol (bytearray,
+    memoryview).
 
-    strict: an encoding that is longer than it needs to be is a fault. max_text: the bytes of one text, 16 to 1,048,576. max_elements,
-    max_total: the elements of one sequence, and of all sequences of one message. room: buffers that it shares with other decoders.
+    strict: an encoding that is longer than it needs to be is a fault. max_text: the greatest length of a string in bytes, 16 to 1,048,576.
+    max_elements, max_total: the greatest number of elements of one sequence, and of all sequences of one message. room: buffers that it
+    shares with other decoders.
     """
 
     def __init__(
@@ -307,7 +311,7 @@ class Decoder(Held):
         self._template: int | None = None
 
     def _decode(self, piece: Any, call: Any, *how: int) -> Events:
-        """Feeds a piece by a call of the library until all of it is taken."""
+        """Feeds a piece by calls of the library until all of it is consumed."""
         raw = piece if isinstance(piece, bytes) else bytes(memoryview(piece))
         start, at, fed, room = c.cast(c.c_char_p(raw), P).value or 0, 0, self._fed, self.room
         parts: list[tuple[bytes, bytes]] = []
@@ -329,40 +333,41 @@ class Decoder(Held):
     def feed(self, piece: Any) -> Events:
         """Decodes a piece of the stream, and returns its events: an iterable of (kind, node, value).
 
-        At a fault of the stream it raises an Error, whose `events` are those before it, and so again until a reset.
+        At a fault of the stream it raises an Error, whose `events` are those before it; so does each further call, until a reset.
         """
         return self._decode(piece, self.library.calls.fast_decoder_feed)
 
     def packet(self, packet: Any, afresh: bool = True) -> Events:
-        """Decodes one packet, which has to end between two messages, and returns its events: from a new dictionary, or, where `afresh` is false, from
-        that which the packet before it has left.
+        """Decodes one packet, which must end between two messages, and returns its events. It starts from a new dictionary, or, if `afresh`
+        is false, from that of the previous packet.
 
-        Where it ends within a message, it raises an Error of status 6, and so again until a reset or a packet that begins afresh.
+        If the packet ends inside a message, it raises an Error of status 6; so does each further call, until a reset or a packet that
+        starts afresh.
         """
         return self._decode(packet, self.library.calls.fast_decoder_packet, 1 if afresh else 0)
 
     def feed_records(self, piece: Any) -> list[tuple[Any, bytes]]:
-        """Decodes a piece as `feed` does, and returns what `Events.arrays` has of it."""
+        """Decodes a piece as `feed` does, and returns its events in the form of `Events.arrays`."""
         return self.feed(piece).arrays()
 
     @property
     def between(self) -> bool:
-        """Whether there is no fault, and no message that is begun and not whole."""
+        """True if the stream is between two messages and has no fault."""
         return bool(self._fed.between)
 
     @property
     def consumed(self) -> int:
-        """How many bytes were consumed since it was made or reset."""
+        """The number of bytes consumed since the decoder was made or reset."""
         return self._fed.consumed
 
     def reset(self) -> None:
-        """Makes it as it was made: before the first byte, with an empty dictionary."""
+        """Resets the decoder: before the first byte, with an empty dictionary."""
         self.library.calls.fast_decoder_reset(self.handle, byref(P()))
         self._fed, self._template = Fed(between=1), None
 
 
 class Encoder(Held):
-    """Encodes messages, one after the other. It copies events and texts for the call."""
+    """An encoder of messages. It copies events and strings for the call."""
 
     def __init__(self, of: Set, max_text: int = 1024, max_elements: int = 1000, max_total: int = 1000):
         super().__init__(of.library, of.library.calls.fast_encoder_close, of.owned)
@@ -371,10 +376,11 @@ class Encoder(Held):
         self.library.expect(self.library.calls.fast_encoder_open(of.handle, *limits, byref(self.owned.at)))
 
     def encode(self, events: Iterable[Event]) -> bytes:
-        """The bytes of one message, whose events are as Decoder.feed returns them.
+        """Returns the bytes of one message, from its events in the form that Decoder.feed returns.
 
-        Where it is refused, it raises an Error, and nothing has changed: of status 5 where the events are no message; from 401 with the codes E1
-        to E4 and R9; 406 where memory was refused. A number that has no room is a ValueError, one that is no integer a TypeError.
+        If the message is refused, it raises an Error, and nothing changes: status 5 if the events are not those of one message; from 401
+        the codes E1 to E4 and R9; 406 if an allocation failed. A number out of range is a ValueError, one that is not an integer a
+        TypeError.
         """
         texts = bytearray()
         records = [packed(f"event {number}", event, texts) for number, event in enumerate(events)]
@@ -385,12 +391,12 @@ class Encoder(Held):
         return c.string_at(room, calls.fast_encoder_take(self.handle, byref(P()), room, len(room)))
 
     def reset(self) -> None:
-        """Makes it as it was made: to be used where the reader's decoder is reset too."""
+        """Resets the encoder. The reader's decoder must be reset at the same point of the stream."""
         self.library.calls.fast_encoder_reset(self.handle, byref(P()))
 
 
 def packed(name: str, event: Event, texts: bytearray) -> bytes:
-    """Returns the record of an event, whose text goes to the end of texts."""
+    """Returns the record of an event, and appends its string to texts."""
     kind, node, value = event
     length = exponent = 0
     if kind == DECIMAL:

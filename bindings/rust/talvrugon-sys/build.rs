@@ -1,4 +1,4 @@
-// libfast_c.a lies in the folder FAST_C_DIR, or, in a release, in lib/ of this crate. In the repository `tools/library fast_c` makes it, in
+// libfast_c.a is in the folder FAST_C_DIR, or, in a release, in lib/ of this crate. In the repository `tools/library fast_c` makes it, in
 // crates/fast_c/out.
 use std::{env, path::Path};
 

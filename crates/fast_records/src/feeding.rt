@@ -91,7 +91,7 @@ pub fn feed_records(
         → Delivers (tree decoder.old) decoder.old.limits w es piece.now (pending waiting.old) decoder.new
         (take result.records records.new)
         (take result.texts texts.new) (pending waiting.new) }
-    // The same clause for a decoder that had already stopped, at any fault.
+    // For a decoder that had already stopped, at any fault.
     ensures waited { (f : Fault) → decoder.old.fault ≡ Some f
         → HandsOver (pending waiting.old) f records.new texts.new result (pending waiting.new) }
     ensures room { (w : List ℕ) (es : List EventData) → HasRead decoder.old w es

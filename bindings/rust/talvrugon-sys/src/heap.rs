@@ -1,4 +1,4 @@
-//! What the library asks for memory: Rust's heap, which wants a block's size again. Sixteen bytes before each block keep it.
+//! The library's heap: Rust's global allocator, which needs the size of a block to free it. Sixteen bytes before each block store it.
 
 use alloc::alloc::{alloc, dealloc, realloc};
 use core::alloc::Layout;
@@ -17,7 +17,7 @@ fn layout_of(size: usize) -> Option<Layout> {
     Layout::from_size_align(size.checked_add(HEAD)?, HEAD).ok()
 }
 
-/// Hands out a block behind its head, into which its size goes.
+/// Stores the size at the head of a block, and returns the block after it.
 unsafe fn given(head: *mut u8, size: usize) -> Tried {
     if head.is_null() {
         return REFUSED;
@@ -26,11 +26,11 @@ unsafe fn given(head: *mut u8, size: usize) -> Tried {
     Tried { is_given: true, block: head.add(HEAD) }
 }
 
-/// The head of a block, and the layout that it was taken with.
+/// Returns the head of a block, and the layout with which it was allocated.
 unsafe fn head_of(block: *mut u8) -> (*mut u8, Layout) {
     let head = block.sub(HEAD);
     let size = head.cast::<usize>().read();
-    // it was made of this size once
+    // SAFETY: a layout of this size was made when the block was allocated.
     (head, Layout::from_size_align_unchecked(size + HEAD, HEAD))
 }
 

@@ -1,6 +1,6 @@
-//! The functions of `libfast_c.a`, as `include/fast.h` has them, and the heap that the library asks for, which is Rust's.
+//! The functions of `libfast_c.a`, as declared in `include/fast.h`, and the heap that the library needs, on Rust's global allocator.
 //!
-//! The crate `talvrugon` is the safe face. Nothing here is proved: what each call asks for stands in the header.
+//! The crate `talvrugon` is the safe interface. Nothing here is proved; the header says what each call requires.
 #![no_std]
 extern crate alloc;
 
@@ -8,7 +8,7 @@ use core::mem::{offset_of, size_of};
 
 mod heap;
 
-/// What [`fast_interface`] has to answer.
+/// The value that [`fast_interface`] has to return.
 pub const INTERFACE: u32 = 2;
 
 /// An event of fixed size (`fast_record`).
@@ -22,7 +22,7 @@ pub struct Record {
     pub exponent: i32,
 }
 
-/// What came of a feed (`fast_fed`).
+/// The result of a feed (`fast_fed`).
 #[repr(C)]
 #[derive(Clone, Copy, Debug, Default, PartialEq, Eq)]
 pub struct Fed {
@@ -34,7 +34,7 @@ pub struct Fed {
     pub status: u32,
 }
 
-/// What came of a message (`fast_put`).
+/// The result of encoding a message (`fast_put`).
 #[repr(C)]
 #[derive(Clone, Copy, Debug, Default, PartialEq, Eq)]
 pub struct Put {
@@ -53,18 +53,18 @@ const _: () = {
 
 macro_rules! opaque {
     ($($name:ident)*) => {$(
-        /// What stands behind a pointer of the library.
+        /// The type behind a pointer of the library.
         #[repr(C)]
         pub struct $name {
             unseen: [u8; 0],
-            // neither Send nor Sync
+            // Makes the type neither `Send` nor `Sync`.
             here: core::marker::PhantomData<*mut ()>,
         }
     )*};
 }
 opaque!(Set Decoder Encoder);
 
-/// A pointer of the library, by value: what it owns goes in with it.
+/// A pointer of the library, passed by value together with the ownership of its target.
 #[repr(transparent)]
 #[derive(Debug)]
 pub struct Handle<T>(pub *mut T);

@@ -1,9 +1,9 @@
-//! rows: what comes of each stream of the rows on standard input, as `tools/calls/faces/rows.cpp` has it.
+//! rows: prints the results of each stream of the rows on standard input, as `tools/calls/faces/rows.cpp` does.
 use std::error::Error;
 use std::io::{self, BufRead};
 use talvrugon::{Decoder, Event, Limits, Room, Set, Value};
 
-/// The checksum of docs/PERFORMANCE.md.
+/// The checksum that docs/PERFORMANCE.md defines.
 struct Sums {
     events: u64,
     sum: u64,
@@ -52,7 +52,7 @@ impl Sums {
     }
 }
 
-/// Feeds a stream, with a room that is lent, and then the rest of what a fault says.
+/// Feeds a stream, with a borrowed room, and once more after a fault, which must return the same error.
 fn run(decoder: &mut Decoder, room: &mut Room, stream: &[u8], piece: usize) {
     let mut to = Sums { events: 0, sum: 0xcbf29ce484222325 };
     let mut end = Ok(());

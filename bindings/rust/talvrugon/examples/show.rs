@@ -1,5 +1,5 @@
-//! show TEMPLATES STREAM [PIECE]: the lines of a stream, as `fastcat show` writes them. With `--again` before it the bytes of its messages,
-//! encoded again.
+//! show TEMPLATES STREAM [PIECE]: prints the lines of a stream, as `fastcat show` does. With `--again` as the first argument, it prints the
+//! bytes of its messages, encoded again.
 use std::error::Error;
 use std::fmt::Write as _;
 use std::io::{self, Write};

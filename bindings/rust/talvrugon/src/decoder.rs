@@ -4,12 +4,12 @@ use crate::set::{Limits, Set};
 use std::ptr::{null_mut, NonNull};
 use talvrugon_sys::{Fed, Handle, Record};
 
-/// How many records a room has: 96 KiB.
+/// The number of records in a room (96 KiB).
 const RECORDS: usize = 4096;
-/// How many bytes of texts it has, at least.
+/// The least size of a room's buffer of strings, in bytes.
 const TEXTS: usize = 65536;
 
-/// Buffers for the records of one call and their texts, which are taken at the first use. One room serves any number of decoders
+/// Buffers for the records of one call and their strings, allocated on first use. One room can serve any number of decoders
 /// ([`Decoder::feed_in`]).
 #[derive(Debug, Default)]
 pub struct Room {
@@ -18,7 +18,7 @@ pub struct Room {
 }
 
 impl Room {
-    /// Makes room for a text of so many bytes.
+    /// Makes room for a string of `max_text` bytes.
     fn hold(&mut self, max_text: usize) {
         if self.records.len() < RECORDS {
             self.records.resize(RECORDS, Record::default());
@@ -29,36 +29,36 @@ impl Room {
     }
 }
 
-/// How a packet begins (`fast_start`).
+/// How a packet starts (`fast_start`).
 #[derive(Clone, Copy, Debug, PartialEq, Eq)]
 pub enum Start {
-    /// With the dictionary that the packet before it has left.
+    /// With the dictionary that the previous packet left.
     Continue = 0,
     /// With a new dictionary.
     Reset = 1,
 }
 
-/// Decodes a stream that comes in pieces, cut anywhere. It keeps its set open, and is closed where it is dropped.
+/// A decoder of a stream that comes in pieces, split anywhere. It keeps its set open, and is closed when it is dropped.
 #[derive(Debug)]
 pub struct Decoder {
     at: NonNull<talvrugon_sys::Decoder>,
     room: Room,
     max_text: usize,
     last: Fed,
-    // what `at` borrows: dropped after it
+    // Borrowed by `at`, so dropped after it.
     _set: Set,
 }
 
 impl Decoder {
-    /// A decoder of streams under a set, before the first byte.
+    /// Makes a decoder of streams under a set, before the first byte.
     ///
     /// # Errors
     ///
-    /// `max_text` is out of range, an initial value of the set is longer than it, or memory was refused: statuses 201, 202 and 204.
+    /// `max_text` is out of range, an initial value of the set is longer than it, or an allocation failed: statuses 201, 202 and 204.
     pub fn new(set: &Set, limits: Limits) -> Result<Decoder, Error> {
         let Limits { strict, max_text, max_elements, max_total } = limits;
         let mut at = null_mut();
-        // the set is open, and stays so as long as the decoder; a place for a pointer
+        // SAFETY: the set is open, and outlives the decoder; `at` is valid for a write.
         expect(unsafe {
             talvrugon_sys::fast_decoder_open(set.handle(), u32::from(strict), max_text, max_elements, max_total, &mut at)
         })?;
@@ -71,14 +71,15 @@ impl Decoder {
         })
     }
 
-    /// Feeds a piece, which is read in the call alone, and hands its events over, whose texts are lent for that call of `take`.
+    /// Feeds a piece, which is read only during the call, and passes its events to `take`. Their strings are borrowed for that call of
+    /// `take`.
     ///
     /// # Errors
     ///
-    /// The stream is at a fault: statuses from 101, and as the place how many bytes were consumed. The events before it were handed over; each
-    /// further feed answers the same one, until a reset.
+    /// The stream has a fault: statuses from 101; `place` is the number of bytes consumed. The events before it were emitted. Each further
+    /// feed returns the same error, until a reset.
     ///
-    /// It is generic, so that the loop over the records is compiled with `take`.
+    /// This function is generic, so that the loop over the records is compiled with `take`.
     pub fn feed(&mut self, piece: &[u8], take: impl FnMut(Event<'_>)) -> Result<(), Error> {
         let mut room = std::mem::take(&mut self.room);
         let end = self.feed_in(&mut room, piece, take);
@@ -86,7 +87,7 @@ impl Decoder {
         end
     }
 
-    /// Feeds a piece as [`Decoder::feed`] does, with buffers that are lent: a program with thousands of decoders has one pair for all.
+    /// Feeds a piece as [`Decoder::feed`] does, with borrowed buffers: a program with thousands of decoders can use one room for all.
     ///
     /// # Errors
     ///
@@ -95,12 +96,12 @@ impl Decoder {
         self.run(room, piece, None, take)
     }
 
-    /// Decodes one packet, which has to end between two messages, and hands its events over.
+    /// Decodes one packet, which must end between two messages, and passes its events to `take`.
     ///
     /// # Errors
     ///
-    /// Those of [`Decoder::feed`]; and status 6 where the packet ends within a message, with the number of bytes consumed as the place, and so
-    /// again until a reset or a packet that begins with one.
+    /// Those of [`Decoder::feed`]; and status 6 if the packet ends inside a message. Then `place` is the number of bytes consumed, and each
+    /// further call returns this error, until a reset or a packet that starts with one.
     pub fn packet(&mut self, packet: &[u8], start: Start, take: impl FnMut(Event<'_>)) -> Result<(), Error> {
         let mut room = std::mem::take(&mut self.room);
         let end = self.run(&mut room, packet, Some(start), take);
@@ -137,7 +138,7 @@ impl Decoder {
         let (records, texts) = (room.records.as_mut_ptr(), room.texts.as_mut_ptr());
         let (records_len, texts_len) = (room.records.len(), room.texts.len());
         let (bytes, len, last) = (piece.as_ptr(), piece.len(), &mut self.last);
-        // the decoder is open, and no other call has it; slices of different memory
+        // SAFETY: the decoder is open, and no other call uses it; the slices do not overlap.
         unsafe {
             let decoder = Handle(back);
             match start {
@@ -150,20 +151,20 @@ impl Decoder {
         self.last
     }
 
-    /// Whether there is no fault, and no message that is begun and not whole.
+    /// Returns whether the stream is between two messages and has no fault.
     pub fn between(&self) -> bool {
         self.last.between != 0
     }
 
-    /// How many bytes were consumed since it was made or reset.
+    /// Returns the number of bytes consumed since the decoder was made or reset.
     pub fn consumed(&self) -> u64 {
         self.last.consumed
     }
 
-    /// Makes it as it was made.
+    /// Resets the decoder to the state in which it was made.
     pub fn reset(&mut self) {
         let mut back = self.at.as_ptr();
-        // the decoder is open, and no other call has it
+        // SAFETY: the decoder is open, and no other call uses it.
         unsafe { talvrugon_sys::fast_decoder_reset(Handle(back), &mut back) };
         self.last = Fed { between: 1, ..Fed::default() };
     }
@@ -171,7 +172,7 @@ impl Decoder {
 
 impl Drop for Decoder {
     fn drop(&mut self) {
-        // made by fast_decoder_open, and closed here alone
+        // SAFETY: `fast_decoder_open` made the decoder, and only this closes it.
         unsafe { talvrugon_sys::fast_decoder_close(Handle(self.at.as_ptr())) }
     }
 }

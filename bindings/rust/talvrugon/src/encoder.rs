@@ -4,7 +4,7 @@ use crate::set::{Limits, Set};
 use std::ptr::{null_mut, NonNull};
 use talvrugon_sys::{Handle, Put, Record};
 
-/// The events of one message, kept for an encoder: it owns copies of their texts.
+/// The events of one message, for an encoder. It owns copies of their strings.
 #[derive(Clone, Debug, Default, PartialEq, Eq)]
 pub struct Records {
     records: Vec<Record>,
@@ -20,40 +20,41 @@ impl Records {
     }
 }
 
-/// Encodes messages, one after the other. It keeps its set open, and is closed where it is dropped.
+/// An encoder of messages. It keeps its set open, and is closed when it is dropped.
 #[derive(Debug)]
 pub struct Encoder {
     at: NonNull<talvrugon_sys::Encoder>,
-    // what `at` borrows: dropped after it
+    // Borrowed by `at`, so dropped after it.
     _set: Set,
 }
 
 impl Encoder {
-    /// An encoder of messages of a set, with an empty dictionary. It looks at all limits but `strict`.
+    /// Makes an encoder for the messages of a set, with an empty dictionary. All limits but `strict` apply.
     ///
     /// # Errors
     ///
-    /// `max_text` is out of range, an initial value of the set is longer than it, or memory was refused: statuses 201, 202 and 204.
+    /// `max_text` is out of range, an initial value of the set is longer than it, or an allocation failed: statuses 201, 202 and 204.
     pub fn new(set: &Set, limits: Limits) -> Result<Encoder, Error> {
         let mut at = null_mut();
-        // the set is open, and stays so as long as the encoder; a place for a pointer
+        // SAFETY: the set is open, and outlives the encoder; `at` is valid for a write.
         expect(unsafe {
             talvrugon_sys::fast_encoder_open(set.handle(), limits.max_text, limits.max_elements, limits.max_total, &mut at)
         })?;
         Ok(Encoder { at: NonNull::new(at).expect("an encoder was made"), _set: set.clone() })
     }
 
-    /// Appends the bytes of one message, from its start to its end. The message is read in the call alone, and the bytes are the caller's.
+    /// Encodes one message, from its start to its end, and appends its bytes to `out`. The message is read only during the call. On an
+    /// error, the encoder and `out` are unchanged.
     ///
     /// # Errors
     ///
-    /// Status 5 where the events are no message, with the number of the one that is not due as the place; from 401 the codes E1 to E4 and R9, and
-    /// 406 where memory was refused. Neither the encoder nor `out` has changed.
+    /// Status 5 if the events are not those of one message; `place` is the number of the event that may not come next. From 401 the codes
+    /// E1 to E4 and R9; 406 if an allocation failed.
     pub fn encode(&mut self, message: &Records, out: &mut Vec<u8>) -> Result<(), Error> {
         let Records { records, texts } = message;
         let mut put = Put::default();
         let mut back = self.at.as_ptr();
-        // the encoder is open, and no other call has it; slices of different memory
+        // SAFETY: the encoder is open, and no other call uses it; the slices do not overlap.
         unsafe {
             talvrugon_sys::fast_encoder_put(
                 Handle(back),
@@ -71,22 +72,22 @@ impl Encoder {
         let before = out.len();
         out.resize(before + put.waiting as usize, 0);
         let room = &mut out[before..];
-        // the encoder is open, and no other call has it
+        // SAFETY: the encoder is open, and no other call uses it.
         unsafe { talvrugon_sys::fast_encoder_take(Handle(back), &mut back, room.as_mut_ptr(), room.len()) };
         Ok(())
     }
 
-    /// Makes it as it was made: to be used where the reader's decoder is reset too.
+    /// Resets the encoder to the state in which it was made. The reader's decoder must be reset at the same point of the stream.
     pub fn reset(&mut self) {
         let mut back = self.at.as_ptr();
-        // the encoder is open, and no other call has it
+        // SAFETY: the encoder is open, and no other call uses it.
         unsafe { talvrugon_sys::fast_encoder_reset(Handle(back), &mut back) };
     }
 }
 
 impl Drop for Encoder {
     fn drop(&mut self) {
-        // made by fast_encoder_open, and closed here alone
+        // SAFETY: `fast_encoder_open` made the encoder, and only this closes it.
         unsafe { talvrugon_sys::fast_encoder_close(Handle(self.at.as_ptr())) }
     }
 }

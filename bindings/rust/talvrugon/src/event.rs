@@ -1,20 +1,20 @@
 use talvrugon_sys::Record;
 
-/// A value of a field. Texts are lent for the call alone.
+/// A value of a field. Strings are borrowed for the call only.
 #[derive(Clone, Copy, Debug, PartialEq, Eq)]
 pub enum Value<'a> {
     Unsigned(u64),
     Signed(i64),
     /// The mantissa times ten to the exponent.
     Decimal { mantissa: i64, exponent: i32 },
-    /// Characters below U+0080.
+    /// An ASCII string: characters below U+0080.
     Ascii(&'a [u8]),
-    /// A string in UTF-8.
+    /// A Unicode string, in UTF-8.
     Unicode(&'a [u8]),
     Bytes(&'a [u8]),
 }
 
-/// What a stream says, in order. Templates and nodes are numbers of their [`Set`](crate::Set).
+/// An event of a stream. Templates and nodes are numbers of their [`Set`](crate::Set).
 #[derive(Clone, Copy, Debug, PartialEq, Eq)]
 pub enum Event<'a> {
     MessageStart { template: u32 },
@@ -28,7 +28,7 @@ pub enum Event<'a> {
     MessageEnd,
 }
 
-/// The event of a record.
+/// Returns the event of a record.
 #[inline]
 pub(crate) fn event_of<'a>(record: &Record, texts: &'a [u8]) -> Event<'a> {
     let node = record.node;
@@ -52,10 +52,10 @@ pub(crate) fn event_of<'a>(record: &Record, texts: &'a [u8]) -> Event<'a> {
     }
 }
 
-/// The record of an event, and its text.
+/// Returns the record of an event, and its string.
 pub(crate) fn record_of<'a>(event: Event<'a>, place: u64) -> (Record, &'a [u8]) {
     let mark = |kind, node, value| Record { kind, node, value, ..Record::default() };
-    // one that is longer than its record can say is longer than any limit
+    // A string that is too long for its record is longer than any limit.
     let length = |text: &[u8]| u32::try_from(text.len()).unwrap_or(u32::MAX);
     let text = |kind, node, text: &'a [u8]| (Record { length: length(text), ..mark(kind, node, place) }, text);
     match event {

@@ -10,8 +10,8 @@
 //! # Ok::<(), talvrugon::Error>(())
 //! ```
 //!
-//! What is proved is the library. This face of it is not; its `unsafe` stands in `sys`-calls alone, each with what makes it right. No type
-//! is `Send`, since that is not proved of the library's.
+//! The library is proved; this crate is not. Its `unsafe` blocks contain only calls of `talvrugon-sys`, each with the reason why it is sound. No
+//! type is `Send`, since nothing is proved about the use of the library from several threads.
 
 mod decoder;
 mod encoder;

@@ -3,16 +3,16 @@ use std::ptr::{null_mut, NonNull};
 use std::rc::Rc;
 use talvrugon_sys::Handle;
 
-/// What a decoder or an encoder is asked to keep to.
+/// The limits of a decoder or an encoder.
 #[derive(Clone, Copy, Debug, PartialEq, Eq)]
 pub struct Limits {
-    /// Whether an encoding that is longer than it needs to be is a fault.
+    /// Strict mode: an encoding that is longer than it needs to be is a fault.
     pub strict: bool,
-    /// The bytes of one text, 16 to 1,048,576.
+    /// The greatest length of a string in bytes, 16 to 1,048,576.
     pub max_text: u32,
-    /// The elements of one sequence.
+    /// The greatest number of elements of one sequence.
     pub max_elements: u32,
-    /// The elements of all sequences of one message.
+    /// The greatest number of elements of all sequences of one message.
     pub max_total: u32,
 }
 
@@ -22,7 +22,7 @@ impl Default for Limits {
     }
 }
 
-/// A template set. Clones are the same set, which is closed with the last of them and of the decoders and encoders made of it.
+/// A template set. Clones share one set, which is closed with the last of them and of the decoders and encoders made from it.
 #[derive(Clone, Debug)]
 pub struct Set(Rc<Owned>);
 
@@ -31,7 +31,7 @@ struct Owned(NonNull<talvrugon_sys::Set>);
 
 impl Drop for Owned {
     fn drop(&mut self) {
-        // made by fast_set_read, closed here alone, and nothing borrows it any more
+        // SAFETY: `fast_set_read` made the set, only this closes it, and nothing borrows it any more.
         unsafe { talvrugon_sys::fast_set_close(Handle(self.0.as_ptr())) }
     }
 }
@@ -39,11 +39,11 @@ impl Drop for Owned {
 impl Set {
     /// Reads a template set from its TOML text.
     pub fn read(text: &str) -> Result<Set, Error> {
-        // no buffers
+        // SAFETY: the call has no buffers.
         let is_built_with = unsafe { talvrugon_sys::fast_interface() };
         assert_eq!(is_built_with, talvrugon_sys::INTERFACE, "libfast_c.a is of another build");
         let mut set = null_mut();
-        // a slice, and a place for a pointer
+        // SAFETY: a slice, and a pointer that is valid for a write.
         expect(unsafe { talvrugon_sys::fast_set_read(text.as_ptr(), text.len(), &mut set) })?;
         Ok(Set(Rc::new(Owned(NonNull::new(set).expect("a set was made")))))
     }
@@ -52,32 +52,32 @@ impl Set {
         Handle(self.0 .0.as_ptr())
     }
 
-    /// How many templates it has.
+    /// Returns the number of templates.
     pub fn templates(&self) -> u32 {
-        // the set is open
+        // SAFETY: the set is open.
         unsafe { talvrugon_sys::fast_set_templates(self.handle()) }
     }
 
-    /// How many nodes it has.
+    /// Returns the number of nodes: fields, groups and sequences.
     pub fn nodes(&self) -> u32 {
-        // the set is open
+        // SAFETY: the set is open.
         unsafe { talvrugon_sys::fast_set_nodes(self.handle()) }
     }
 
-    /// The name of a template; `None` where there is none of the number.
+    /// Returns the name of a template; `None` if the set has no template of this number.
     pub fn template_name(&self, template: u32) -> Option<String> {
-        // the set is open, and the buffer has the length
+        // SAFETY: the set is open, and the buffer has this length.
         named(|to, len| unsafe { talvrugon_sys::fast_template_name(self.handle(), template, to, len) })
     }
 
-    /// The name of a node; `None` where there is none of the number.
+    /// Returns the name of a node; `None` if the set has no node of this number.
     pub fn node_name(&self, node: u32) -> Option<String> {
-        // the set is open, and the buffer has the length
+        // SAFETY: the set is open, and the buffer has this length.
         named(|to, len| unsafe { talvrugon_sys::fast_node_name(self.handle(), node, to, len) })
     }
 }
 
-/// A name, by a call that writes its front and answers its length.
+/// Returns a name, by a call that writes as much of it as has room, and returns its whole length.
 fn named(write: impl Fn(*mut u8, usize) -> usize) -> Option<String> {
     let mut name = vec![0; 64];
     let length = write(name.as_mut_ptr(), name.len());

@@ -1,4 +1,4 @@
-//! What `talvrugon` does with packets, faults, limits and messages that are refused.
+//! Tests of `talvrugon` with packets, faults, limits and messages that are refused.
 use talvrugon::{Decoder, Encoder, Error, Event, Limits, Records, Room, Set, Start, Value};
 
 const SET: &str = r#"
@@ -14,7 +14,7 @@ name = "S"
 id = 2
 fields = [{ kind = "sequence", name = "s", fields = [{ kind = "uInt32", name = "e" }] }]
 "#;
-/// T with 5 and the bytes "abc"; then, by increment, with 6 and none.
+/// A message of T with 5 and the bytes "abc"; then one with 6, by increment, and no bytes.
 const FIRST: &[u8] = b"\xe0\x81\x85\x83abc";
 const SECOND: &[u8] = b"\x80\x80";
 
@@ -22,7 +22,7 @@ fn decoder(limits: Limits) -> Decoder {
     Decoder::new(&Set::read(SET).unwrap(), limits).unwrap()
 }
 
-/// The unsigned integers and the bytes that come of a call.
+/// Returns the unsigned integers and the bytes that a call emits.
 fn values(call: impl FnOnce(&mut dyn FnMut(Event<'_>)) -> Result<(), Error>) -> (Result<(), Error>, Vec<u64>, usize) {
     let (mut numbers, mut bytes) = (Vec::new(), 0);
     let end = call(&mut |event| match event {
@@ -39,7 +39,7 @@ fn packets() {
     assert_eq!(values(|take| decoder.packet(FIRST, Start::Reset, take)), (Ok(()), vec![5], 3));
     assert_eq!(values(|take| decoder.packet(SECOND, Start::Continue, take)), (Ok(()), vec![6], 0));
     assert_eq!((decoder.consumed(), decoder.between()), (9, true));
-    // more records than a room has
+    // More records than a room has.
     let (end, numbers, _) = values(|take| decoder.packet(&[FIRST, &SECOND.repeat(1100)].concat(), Start::Reset, take));
     assert_eq!((end, numbers.len(), numbers.last()), (Ok(()), 1101, Some(&1105)));
     let undefined = Error { status: 103, place: 1 };
