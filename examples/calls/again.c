@@ -1,4 +1,4 @@
-// again TEMPLATES STREAM: decodes a stream, encodes its messages one after the other, and writes their bytes.
+// again TEMPLATES STREAM: decodes a stream, encodes its messages in order, and writes their bytes.
 #include <fast.h>
 
 #include <stdio.h>
@@ -7,7 +7,7 @@
 
 enum { RECORDS = 4096, TEXTS = 65536, BYTES = 4096 };
 
-// The records of the message that is open, with their texts.
+// The records of the open message, with their strings.
 struct message {
     fast_record *records;
     uint8_t *texts;
@@ -19,7 +19,7 @@ static void *no_memory(void) {
     exit(3);
 }
 
-// A block that has room for so many items.
+// Returns a block with room for `wanted` items.
 static void *with_room(void *block, size_t *room, size_t wanted, size_t size) {
     if (wanted <= *room) return block;
     *room = 2 * wanted;
@@ -45,7 +45,7 @@ static uint8_t *read_whole(const char *path, size_t *len) {
     return bytes;
 }
 
-// Keeps a record. What it says of its text's place holds in the decoder's buffer alone, so the text is copied.
+// Keeps a record. The offset of its string is valid only in the decoder's buffer, so the string is copied.
 static void keep(struct message *open, const fast_record *it, const uint8_t *texts) {
     open->records = with_room(open->records, &open->room, open->len + 1, sizeof *it);
     fast_record *kept = &open->records[open->len++];
@@ -64,7 +64,7 @@ static int refuse(const char *what, uint32_t status) {
     return 2;
 }
 
-// Encodes the message that is whole now, and writes its bytes.
+// Encodes the complete message, and writes its bytes.
 static uint32_t put(fast_encoder *encoder, struct message *whole) {
     fast_put put = fast_put_message(encoder, whole->records, whole->len, whole->texts, whole->texts_len);
     uint8_t bytes[BYTES];

@@ -1,4 +1,4 @@
-// again TEMPLATES STREAM [TIMES]: decodes a stream into messages, encodes them, so many times one after the other, and writes their bytes.
+// again TEMPLATES STREAM [TIMES]: decodes a stream to messages, encodes them TIMES times, and writes their bytes.
 #include <fast.hpp>
 
 #include <cstdlib>
@@ -7,7 +7,7 @@
 #include <iostream>
 #include <iterator>
 
-// The records of one message after the other, with their texts.
+// The records of all messages, with their strings.
 struct messages : fast::visitor {
     struct message {
         std::vector<fast_record> records;

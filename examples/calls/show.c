@@ -1,5 +1,5 @@
-// show TEMPLATES STREAM [PIECE [RECORDS]]: the lines of a stream, as `fastcat show` writes them. The stream is fed in pieces of so many bytes (0:
-// whole), with room for so many records at a time.
+// show TEMPLATES STREAM [PIECE [RECORDS]]: prints the lines of a stream, as `fastcat show` does. The stream is fed in pieces of PIECE bytes
+// (0: whole), with room for RECORDS records at a time.
 #include <fast.h>
 
 #include <inttypes.h>

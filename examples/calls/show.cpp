@@ -1,4 +1,4 @@
-// show TEMPLATES STREAM [PIECE]: the lines of a stream, as `fastcat show` writes them, by a visitor.
+// show TEMPLATES STREAM [PIECE]: prints the lines of a stream, as `fastcat show` does, by a visitor.
 #include <fast.hpp>
 
 #include <cstdlib>

@@ -1,5 +1,5 @@
-"""show.py LIBRARY TEMPLATES STREAM [PIECE]: the lines of a stream, as `fastcat show` writes them. With --again before it the bytes of its
-messages, encoded again."""
+"""show.py LIBRARY TEMPLATES STREAM [PIECE]: prints the lines of a stream, as `fastcat show` does. With --again as the first argument, it
+prints the bytes of its messages, encoded again."""
 
 import os
 import sys
@@ -17,7 +17,7 @@ PLAIN = {
 
 
 def quoted(text):
-    """Returns a text between quotes."""
+    """Returns a string in quotes."""
     marked = bytearray()
     for byte in text:
         if byte < 0x20 or byte == 0x7F:

@@ -1,4 +1,5 @@
-"""arrays.py LIBRARY TEMPLATES STREAM: how many messages, fields and elements a stream has, counted by NumPy over arrays of records."""
+"""arrays.py LIBRARY TEMPLATES STREAM: prints the number of messages, fields and elements of a stream, counted by NumPy over arrays of
+records."""
 
 import os
 import sys

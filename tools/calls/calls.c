@@ -1,6 +1,6 @@
-// Calls the library of crates/fast_c by include/fast.h on the rows of tools/growths/rows.txt: each stream whole and in pieces of one byte, with room
-// for one record and for many; each request for memory refused in turn; messages back to bytes; messages that are refused; and what is answered
-// for what is not there.
+// Calls the library of crates/fast_c by include/fast.h on the rows of tools/growths/rows.txt: each stream whole and in pieces of one byte,
+// with room for one record and for many; with each allocation refused in turn; messages back to bytes; messages that are refused; and calls
+// with null pointers.
 #include "../../include/fast.h"
 #include "../growths/rows.h"
 
@@ -34,7 +34,8 @@ static void add_record(uint64_t *sum, const fast_record *it, const uint8_t *text
     }
 }
 
-// The status of a row: 0 between two messages, 1 inside of one, from 2 a fault, in the order of its codes, then L4 and a sink that stopped.
+// The status of a row: 0 between two messages, 1 inside a message, from 2 a fault, in the order of its codes, then L4 and a sink that
+// stopped.
 static uint64_t status_of(const fast_fed *fed) {
     if (fed->status == FAST_DONE) return !fed->between;
     if (fed->status == FAST_L5) return 17;
@@ -67,7 +68,7 @@ static struct answer decode(fast_decoder *decoder, const struct row *r, size_t p
     return is;
 }
 
-// Decodes a row's stream from one byte to another as a packet, with this much room. What came before is `is`.
+// Decodes a row's stream from one offset to another as a packet, with this much room. `is` holds the result so far.
 static struct answer decode_packet(fast_decoder *decoder, const struct row *r, uint32_t start, size_t at, size_t end, size_t room,
                                    struct answer is) {
     fast_fed fed;
@@ -98,7 +99,7 @@ static void run_row(const struct row *r) {
         struct answer is = decode(decoder, r, pieces[i / 3], rooms[i % 3]);
         expect(is_same(&is, &r->due), r, "not what is due");
         fast_reset_decoder(decoder);
-        // records may wait behind this one
+        // Records may wait after this one.
         fast_feed(decoder, r->stream, r->stream_len, records, 1, texts, r->max_text);
         fast_reset_decoder(decoder);
     }
@@ -109,12 +110,13 @@ static void run_row(const struct row *r) {
     expect(!blocks, r, "memory is left behind");
 }
 
-// Whether nothing is taken or given behind a packet that was cut.
+// Returns whether nothing is consumed or written after a packet that was truncated.
 static bool stays_cut(const fast_fed *fed, uint64_t consumed) {
     return fed->status == FAST_TRUNCATED && !fed->taken && !fed->records && !fed->texts && !fed->between && fed->consumed == consumed;
 }
 
-// A row's stream as a packet comes to what it comes to as a stream, but that one which ends inside a message is cut, and stays so until a reset.
+// Checks that a row's stream has the same result as a packet, except that one which ends inside a message is truncated, and stays so until
+// a reset.
 static void run_packet(const struct row *r) {
     static const struct answer nothing = {.sum = basis};
     static const size_t rooms[] = {RECORDS, 1, 5};
@@ -131,10 +133,10 @@ static void run_packet(const struct row *r) {
             fast_fed fed = fast_feed(decoder, r->stream, r->stream_len, records, RECORDS, texts, TEXTS);
             expect(stays_cut(&packet, is.consumed) && stays_cut(&fed, is.consumed), r, "bytes behind a packet that was cut are taken");
         }
-        // records may wait behind this one
+        // Records may wait after this one.
         fast_decode_packet(decoder, FAST_RESET, r->stream, r->stream_len, records, 1, texts, r->max_text);
     }
-    // in two packets, cut anywhere, of which the second goes on with the dictionary
+    // In two packets, split anywhere; the second continues with the dictionary.
     for (size_t cut = 0; cut <= r->stream_len && r->stream_len <= 64; cut++) {
         struct answer first = decode_packet(decoder, r, FAST_RESET, 0, cut, RECORDS, nothing);
         struct answer both = decode_packet(decoder, r, FAST_CONTINUE, cut, r->stream_len, RECORDS, first);
@@ -145,7 +147,7 @@ static void run_packet(const struct row *r) {
     expect(!blocks, r, "memory is left behind packets");
 }
 
-// Each request is refused in turn, while a stream is fed with room for one record.
+// Refuses each allocation in turn, while a stream is fed with room for one record.
 static void refuse_each(const struct row *r) {
     for (uint64_t number = 0;; number++) {
         fast_set *set = NULL;
@@ -169,7 +171,7 @@ static void refuse_each(const struct row *r) {
     }
 }
 
-// The messages of a stream, encoded, are decoded to the same events again.
+// Checks that the messages of a stream, encoded, are decoded to the same events again.
 static void put_back(const struct row *r) {
     fast_set *set = NULL;
     fast_decoder *decoder = NULL;
@@ -188,7 +190,7 @@ static void put_back(const struct row *r) {
         is_refused = is_refused || put.status == FAST_MESSAGE_R9;
         if (is_refused) break;
         expect(put.status == FAST_DONE, r, "a message is refused");
-        // one byte at a time
+        // One byte at a time.
         while (fast_take_bytes(encoder, back.stream + back.stream_len, 1) && back.stream_len < sizeof back.stream - 1) back.stream_len++;
         fast_put wanting = fast_put_message(encoder, records + from, to - from - 1, texts, TEXTS);
         expect(wanting.status == FAST_MISPLACED && wanting.record == to - from - 1, r, "half a message is taken");
@@ -205,8 +207,8 @@ static void put_back(const struct row *r) {
     expect(!blocks, r, "memory is left behind an encoder");
 }
 
-// The bytes of the first message, from an encoder that is new. Request number `ahead` of the call is refused: either the encoder does without, or
-// it tells so and the message is put again.
+// Writes the bytes of the first message, from a new encoder. Allocation number `ahead` of the call is refused: the encoder does without it,
+// or returns a status, and the message is put again.
 static size_t put_anew(const struct row *r, fast_set *set, size_t len, uint64_t ahead, uint8_t *bytes, bool *was_refused) {
     fast_encoder *encoder = NULL;
     expect(fast_open_encoder(set, limits_of(r), &encoder) == FAST_DONE, r, "no encoder");
@@ -223,7 +225,7 @@ static size_t put_anew(const struct row *r, fast_set *set, size_t len, uint64_t 
     return taken;
 }
 
-// Each request is refused in turn, while the first message of a stream is put, which changes nothing.
+// Refuses each allocation in turn, while the first message of a stream is put; a refused one must change nothing.
 static void refuse_each_put(const struct row *r) {
     static uint8_t due[sizeof r->stream], again[sizeof r->stream];
     fast_set *set = NULL;
@@ -246,12 +248,12 @@ static void refuse_each_put(const struct row *r) {
     expect(!blocks, r, "memory is left behind a refused request of an encoder");
 }
 
-// A text from the beginning of those of put_refused.
+// A string at the start of the strings of put_refused.
 #define TEXT(kind, node, length) {kind, node, 0, length, 0}
 #define START(number) {FAST_MESSAGE_START, number, 0, 0, 0}
 #define END {FAST_MESSAGE_END, 0, 0, 0, 0}
 
-// Records, as many as have a kind, of which the encoder answers this.
+// Records, up to the first without a type, and the status that the encoder returns for them.
 static const struct {
     uint32_t status, record;
     fast_record records[6];
@@ -275,7 +277,7 @@ static const struct {
     {FAST_MESSAGE_R9, 0, {START(0), {FAST_ASCII, 0, 17, 2, 0}, {FAST_UNSIGNED, 1, 7, 0, 0}, END}},
 };
 
-// Each of these is refused as it should be, and changes nothing: the bytes that wait stay, and the next message is encoded.
+// Checks that each of these is refused with its status, and changes nothing: the bytes that wait stay, and the next message is encoded.
 static void put_refused(const struct row *r) {
     static const char set_text[] = "[[template]]\nname = 'A'\nid = 1\n"
                                    "fields = [{ kind = 'ascii', name = 'a' }, { kind = 'uInt32', name = 'n', op = 'constant', value = '7' }]\n"
@@ -310,7 +312,7 @@ static void put_refused(const struct row *r) {
     expect(!blocks, r, "memory is left behind messages that are refused");
 }
 
-// What is answered for what is not there.
+// Checks the results of calls with null pointers.
 static void run_nothing(const struct row *r) {
     fast_set *set = NULL;
     fast_decoder *decoder = NULL;

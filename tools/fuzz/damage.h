@@ -1,4 +1,4 @@
-// What fuzz.c and lines.c share: a row as an input that is damaged at random, and a loop that ends in time.
+// Shared by fuzz.c and lines.c: a row as an input that is damaged at random, and a loop with a time limit.
 #include <ctype.h>
 #include <signal.h>
 #include <time.h>
@@ -20,7 +20,7 @@ static size_t below(size_t limit) { return limit ? next_random() % limit : 0; }
 
 static const struct row *any_row(void) { return &rows[below(row_count)]; }
 
-// A text or a stream in the making.
+// A file or a stream that is being made.
 struct bytes {
     uint8_t *cells;
     size_t *len, room;
@@ -33,7 +33,7 @@ static void replace(struct bytes b, size_t at, size_t gone, const uint8_t *piece
     *b.len += len - gone;
 }
 
-// Puts a run of another row's bytes in the place of a run, either of which may be empty.
+// Replaces a run of bytes by a run of another row's bytes; either may be empty.
 static void splice(struct bytes b, const uint8_t *other, size_t other_len, size_t most) {
     uint8_t run[64];
     size_t at = below(*b.len + 1), gone = below(most + 1), from = below(other_len + 1), len = below(most + 1);
@@ -60,7 +60,7 @@ static void damage_stream(void) {
     }
 }
 
-// A part of a text: a line, or letters and digits, or anything else alone.
+// A part of a file: a line, a run of letters and digits, or any other single byte.
 struct part {
     size_t at, len;
 };
@@ -83,7 +83,7 @@ static struct part any_word(const uint8_t *text, size_t len) {
     return p;
 }
 
-// Puts a word or a line of another text in the place of one; now and then either is empty.
+// Replaces a word or a line by one of another file; now and then either is empty.
 static void damage_text(struct bytes b, const uint8_t *other, size_t other_len) {
     static uint8_t copy[1 << 15];
     bool is_line = next_random() % 4 == 0;
@@ -107,7 +107,7 @@ static void end(int signal) {
     _exit(1);
 }
 
-// Reads the rows and the words SECONDS SEED, and runs inputs for so long, or until there are many failures.
+// Reads the rows and the arguments SECONDS SEED, and runs inputs for SECONDS seconds, or until there are many failures.
 static bool run_inputs(int count, char **words, void (*run)(void)) {
     FILE *file = fopen("rows.txt", "r");
     int number = 0;

@@ -1,8 +1,8 @@
-// Damages the rows of tools/growths/rows.txt, streams and template sets, for so many seconds, and decodes what comes of it.
+// Damages the rows of tools/growths/rows.txt, streams and template sets, for a number of seconds, and decodes the result.
 //
-// A stream comes to the same whole and in pieces. What is whole and lenient is encoded, unless the encoder refuses it, and decoded
-// again in strict mode, which hands over the same events. Now and then a request for memory is refused: what is not as it was then is the
-// answer for want of memory. All blocks are freed. Nothing crashes, and nothing takes long.
+// A stream has the same result whole and in pieces. If it is whole in lenient mode, it is encoded, unless the encoder refuses it, and
+// decoded again in strict mode, which emits the same events. Now and then an allocation is refused: then a result that differs must be the
+// status of a failed allocation. All blocks are freed. Nothing crashes, and nothing takes long.
 #define _POSIX_C_SOURCE 200809L
 #include "rows.h"
 
@@ -11,7 +11,7 @@
 static size_t piece;
 static uint64_t sets, read_sets, encoded, refusals, growths;
 
-// What the ways to decode a stream come to: whole, in pieces, and behind the encoder.
+// The results of the ways to decode a stream: whole, in pieces, and after re-encoding.
 struct ways {
     struct answer whole, pieces, again;
 };
@@ -58,10 +58,10 @@ static struct ways decode(uint64_t alone) {
     return are;
 }
 
-// Whether it is what it was, or the answer for want of memory; that of a sink that keeps messages is to stop.
+// Returns whether the result is the previous one, or that of a failed allocation; a sink that keeps messages then stops.
 static bool is_refused_or(struct answer is, struct answer was) { return is.status == 518 || is.status == 19 || !memcmp(&is, &was, sizeof is); }
 
-// Refuses one of so many requests.
+// Refuses one of `all` allocations.
 static void refuse_one(struct ways was, uint64_t all) {
     struct ways are = decode(below(all));
     growths++;
@@ -77,7 +77,7 @@ static void run_input(void) {
     uint64_t all = requests;
     read_sets += whole.status != 256;
     if (memcmp(&whole, &are.pieces, sizeof whole)) fail("not the same in pieces");
-    // From 513: E1, E2, E3, E4, R9. A stream has messages that the encoder refuses by E3 and R9 alone.
+    // From 513: E1, E2, E3, E4, R9. The encoder refuses messages of a stream only by E3 and R9.
     if (again.status == 515 || again.status == 517) {
         refusals++;
     } else if (again.status >= 513) {

@@ -1,10 +1,10 @@
-// Damages lines for so many seconds, those of the streams of tools/growths/rows.txt, and streams, and turns them into one another.
+// Damages lines for a number of seconds, those of the streams of tools/growths/rows.txt, and streams, and converts them into one another.
 //
-// Lines are read as messages, or have a line at fault, one of theirs or the one behind them; they are turned into a stream, or a message
-// is refused, by the encoder alone. What was turned into a stream is shown, in strict mode, as it was; an LF may be missing at its end.
-// A damaged stream that is whole is shown, and its lines are turned into a stream that is shown by the same lines, unless the encoder
-// refuses a message. Now and then a request for memory is refused: what is not as it was then is the answer for want of memory. All blocks
-// are freed. Nothing crashes, and nothing takes long.
+// Lines are read as messages, or have an invalid line, one of them or the one after the last; they are converted to a stream, or a message
+// is refused, only by the encoder. A stream that was converted from lines is shown, in strict mode, as these lines, up to a missing LF at
+// the end. A damaged stream that is whole is shown, and its lines are converted to a stream that is shown by the same lines, unless the
+// encoder refuses a message. Now and then an allocation is refused: then a result that differs must be the status of a failed allocation.
+// All blocks are freed. Nothing crashes, and nothing takes long.
 #define _POSIX_C_SOURCE 200809L
 #include "lines.h"
 
@@ -12,7 +12,7 @@
 
 enum { most_lines = 4096 };
 
-// The lines of each row's stream, of long ones none.
+// The lines of each row's stream; none if they are long.
 static struct {
     uint8_t cells[most_lines];
     size_t len;
@@ -33,14 +33,14 @@ static struct lines_answer checked(struct lines_answer is) {
     return is;
 }
 
-// The lines of a row's stream.
+// Makes the lines of a row's stream.
 static void make_good(size_t i) {
     struct lines_answer is = show(&rows[i], rows[i].stream, rows[i].stream_len, 0, &lines, none);
     good[i].len = is.status || is.len > most_lines ? 0 : is.len;
     memcpy(good[i].cells, lines.cells, good[i].len);
 }
 
-// The good lines of a row, which are made when they are first wanted.
+// Makes the valid lines of a row when they are first needed, and returns the row.
 static size_t with_good(size_t i) {
     static bool is_made[most_rows];
     if (!is_made[i]) make_good(i);
@@ -48,14 +48,14 @@ static size_t with_good(size_t i) {
     return i;
 }
 
-// The number of the line behind the last one.
+// Returns the number of the line after the last one.
 static uint64_t line_behind(void) {
     uint64_t count = 1;
     for (size_t i = 0; i < lines.len; i++) count += lines.cells[i] == '\n' || i + 1 == lines.len;
     return count;
 }
 
-// Swaps two lines that follow one another.
+// Swaps two adjacent lines.
 static void swap_lines(struct bytes b) {
     uint8_t copy[most_lines];
     struct part first = any_line(b.cells, *b.len);
@@ -86,7 +86,7 @@ static void damage_lines(void) {
     }
 }
 
-// Turns the lines into a stream once more, with one of so many requests refused.
+// Converts the lines to a stream once more, with one of `all` allocations refused.
 static void refuse_one(struct lines_answer was, uint64_t all) {
     struct lines_answer is = checked(convert(&input, &lines, &shown, none, below(all)));
     bool is_as_it_was = is.status == was.status && is.place == was.place && is_same(&shown, &stream);
@@ -95,7 +95,7 @@ static void refuse_one(struct lines_answer was, uint64_t all) {
     if (!is_as_it_was && (is.status != no_memory || !is_front)) fail("neither as it was nor without memory");
 }
 
-// Turns the lines into a stream, which is shown as they are.
+// Converts the lines to a stream, which must be shown as these lines.
 static void there_and_back(bool may_be_at_fault) {
     struct lines_answer is = checked(convert(&input, &lines, &stream, none, none));
     if (requests && next_random() % 8 == 0) refuse_one(is, requests);
@@ -108,7 +108,7 @@ static void there_and_back(bool may_be_at_fault) {
     }
     if (read.status) fail("read once, and once not");
     read_texts += may_be_at_fault;
-    // From 513: E1, E2, E3, E4, R9. What was read suits its template.
+    // From 513: E1, E2, E3, E4, R9. Messages that were read suit their template.
     if (is.status >= 513 && is.status <= unspelled && is.status != 514 && (may_be_at_fault || is.status == unsent || is.status == unspelled)) {
         refusals++;
         if (is.place >= read.len) fail("a message is refused that is not there");

@@ -1,4 +1,4 @@
-// Calls each caller of crates/fast_callers over two trades, over their front, and over what is at fault behind them.
+// Calls each caller of crates/fast_callers on two trades, on their prefixes, and on a fault after them.
 #include "rows.h"
 
 struct called {
@@ -23,7 +23,7 @@ static const char set[] = "[[template]]\n"
 // A trade of ABC at 265.06, one at 265.01, and then an identifier of no template.
 static const uint8_t stream[] = {0xe0, 0x87, 0x41, 0x42, 0xc3, 0x01, 0x4f, 0x8a, 0x80, 0xfb, 0xc0, 0x88};
 
-// What is due of so many bytes and a symbol. A fault is D9, which has status 7.
+// The expected results for a number of bytes and a symbol. A fault is D9, which has status 7.
 static const struct {
     size_t len;
     const char *symbol;

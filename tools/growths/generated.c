@@ -1,7 +1,8 @@
-// Makes messages of the built-in set at random, as lines, and turns them into streams.
+// Makes random messages of the built-in set, as lines, and converts them to streams.
 //
-// Each stream is shown, in strict mode, by the lines that it was made of. It is cut behind each of its bytes, and each of its fronts
-// decoded whole and in pieces of one, two and three bytes, which come to the same and to nothing that the whole stream does not come to.
+// Each stream is shown, in strict mode, by the lines that it was made from. It is truncated after each of its bytes, and each of its
+// prefixes is decoded whole and in pieces of one, two and three bytes, which have the same result and none that contradicts that of the
+// whole stream.
 #include "lines.h"
 
 #include <stdarg.h>
@@ -13,7 +14,7 @@ static const uint64_t greatest_u32 = UINT32_MAX, greatest_i32 = INT32_MAX, great
 static struct text lines, stream, shown;
 static uint64_t messages, bytes, failures;
 
-// The length of the last text under tail, of which the next one must not be shorter.
+// The length of the last string under tail; the next one must not be shorter.
 static size_t tail_len;
 
 static uint64_t next_random(void) {
@@ -32,7 +33,7 @@ static void put(const char *format, ...) {
     va_end(words);
 }
 
-// A number that is small, near a power of two, near the greatest one, or any.
+// Returns a number that is small, near a power of two, near the greatest, or any.
 static uint64_t any_number(uint64_t greatest) {
     uint64_t number = next_random() >> below(64);
     switch (below(4)) {
@@ -43,13 +44,14 @@ static uint64_t any_number(uint64_t greatest) {
     return number > greatest ? number % (greatest + 1) : number;
 }
 
-// One below zero is as likely, down to the least number of the type.
+// Returns a signed number; one below zero is as likely, down to the least number of the type.
 static int64_t any_signed(uint64_t greatest) {
     int64_t number = (int64_t)any_number(greatest);
     return below(2) ? number : -1 - number;
 }
 
-// Of few letters, so that texts have fronts and ends in common, and of what is written in another way or takes more bytes.
+// Puts a string of few letters, so that strings have prefixes and suffixes in common, and of characters that are escaped or have several
+// bytes.
 static void put_text(size_t len, bool is_ascii) {
     static const char *const characters[] = {"A", "B", "C", "\\\"", "\\\\", "\\x01", "\\x7f", " ", "\u00e9", "\u20ac", "\U0001f600"};
     put("\"");
@@ -64,7 +66,7 @@ static void put_bytes(void) {
 
 static size_t tail(void) { return tail_len += below(4); }
 
-// A field of the built-in set: its node, its name and what it holds. What is optional is left out now and then.
+// A field of the built-in set: its node, its name and its type. Optional fields are omitted now and then.
 struct field {
     uint32_t node;
     const char *name;
@@ -88,7 +90,7 @@ static void put_field(struct field f) {
     }
 }
 
-// The fields of each template, in order; a template whose fields stand in others has none here.
+// The fields of each template, in order; none for a template whose fields are in groups or sequences.
 static const struct {
     uint32_t template;
     struct field field;

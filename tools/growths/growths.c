@@ -1,13 +1,13 @@
-// Decodes the rows of rows.txt over a heap that counts the requests for memory and refuses those past a number.
+// Decodes the rows of rows.txt over a heap that counts allocations and refuses those past a number.
 //
-// An empty stream tells how many requests it takes to read a template set and to make a decoder. With just these allowed a row
-// comes out as it says, and no further request is made. With one less no decoder is made: a refusal does not pass unnoticed.
+// An empty stream gives the number of allocations for reading a template set and making a decoder. With exactly these allowed, a row has
+// its expected result, and no further allocation is made. With one less, no decoder is made: a refusal is never ignored.
 //
-// Then each request is refused in turn, and all others are granted. While a set is read or a decoder or an encoder is made, none is
-// made. While a message is encoded, the same call once more gives the same bytes. Whatever comes of a run, all blocks are freed.
+// Then each allocation is refused in turn, and all others succeed. While a set is read, or a decoder or an encoder is made, the call fails.
+// While a message is encoded, a second call returns the same bytes. In all cases, all blocks are freed.
 //
-// And each row is decoded by a sink that stops at each of its events in turn, and behind a reset once more; it is damaged at random;
-// and as it is and damaged it is cut at each byte. Whatever the stream, pieces come to what the whole comes to.
+// Each row is also decoded with a sink that stops at each of its events in turn, and again after a reset; it is damaged at random; and both
+// the original and the damaged stream are truncated at each byte. Pieces always have the result of the whole.
 #include "rows.h"
 
 static const uint32_t summing_sink = 1;
@@ -38,7 +38,7 @@ static void fail(const struct row *r, size_t piece, struct answer is) {
             r->line, r->name, piece, allowed, is.status, is.consumed, is.events, is.sum, requests, blocks);
 }
 
-// Compares what came of the last run with what is due. All blocks have to be freed.
+// Compares the result of the last run with the expected one. All blocks must be freed.
 static void expect(const struct row *r, size_t piece, struct answer is, struct answer due, uint64_t due_requests) {
     if (memcmp(&is, &due, sizeof is) || requests != due_requests || blocks) fail(r, piece, is);
 }
@@ -73,7 +73,7 @@ static void expect_encoded(const struct row *r, struct encoded is, struct encode
             r->line, r->name, refused, is.status, is.bytes, blocks);
 }
 
-// Reads the row's set and makes a decoder and an encoder, with each request refused in turn.
+// Reads the row's set and makes a decoder and an encoder, with each allocation refused in turn.
 static void refuse_in_making(const struct row *r) {
     encode(r, 0, none);
     for (uint64_t i = 0, all = requests; i < all; i++) {
@@ -82,7 +82,7 @@ static void refuse_in_making(const struct row *r) {
     }
 }
 
-// Encodes the row's messages, with each request refused in turn. At first that is one of the sink that keeps them, which stops.
+// Encodes the row's messages, with each allocation refused in turn. The first ones are of the sink that keeps them, which stops.
 static void refuse_in_encoding(const struct row *r) {
     encode(r, 0, none);
     uint64_t made = requests;
@@ -96,7 +96,7 @@ static void refuse_in_encoding(const struct row *r) {
     }
 }
 
-// Decodes the row with a sink that stops at each event in turn, and then, behind a reset, as it says.
+// Decodes the row with a sink that stops at each event in turn, and then, after a reset, with its expected result.
 static void stop_in_turn(const struct row *r, size_t piece) {
     for (uint64_t most = 0; most < r->due.events; most++) {
         struct answer stopped, again;
@@ -110,7 +110,7 @@ static void stop_in_turn(const struct row *r, size_t piece) {
     }
 }
 
-// Decodes the row's stream, and each of its fronts whole and in pieces. Before the place of a fault there is none.
+// Decodes the row's stream, and each of its prefixes whole and in pieces. Before the offset of a fault there is none.
 static struct answer cut_in_turn(const struct row *r) {
     struct answer is;
     struct cut_counts counts;
@@ -130,7 +130,7 @@ static uint64_t next_random(void) {
     return state ^= state << 17;
 }
 
-// Puts other bytes at some places of the row's stream, many times where the set is the built-in one, and cuts what comes of it.
+// Replaces bytes at some offsets of the row's stream, many times if the set is the built-in one, and truncates the result.
 static void damage(const struct row *r) {
     for (int i = strcmp(r->set, "vectors") ? 8 : 20; i > 0 && r->stream_len; i--) {
         static struct row damaged;

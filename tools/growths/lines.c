@@ -1,12 +1,11 @@
-// Shows the streams of rows.txt as lines, reads these lines and turns them back into a stream, over a heap that counts the requests for
-// memory.
+// Shows the streams of rows.txt as lines, reads these lines and converts them back to a stream, over a heap that counts allocations.
 //
-// Each request in turn is refused, of very many the first and the last ones, and all others are granted: the answer is the one for want of memory, what
-// was written is a front of what is written else, and all blocks are freed. Then the same call once more comes to what it came to at
-// first. The requests of reading the set are those of growths.c.
+// Each allocation is refused in turn (of very many, the first and the last ones), and all others succeed: the result is that of a failed
+// allocation, the output is a prefix of the whole output, and all blocks are freed. A second call then has the original result. The
+// allocations of reading the set are tested by growths.c.
 //
-// What is shown of a stream and turned back is shown as it was. Lines that are cut at a byte are read exactly where the cut is behind a
-// message, and have a line at fault elsewhere.
+// A stream that is shown and converted back is shown as before. Lines that are truncated at a byte are read exactly if the byte is the end
+// of a message, and have an invalid line otherwise.
 #include "lines.h"
 
 enum { most_cuts = 320, last_cuts = 64, most_refusals = 1000, last_refusals = 100 };
@@ -25,33 +24,33 @@ static void fail(const struct row *r, const char *what, struct lines_answer is) 
             r->line, r->name, what, allowed, refused, is.status, is.place, is.len, requests, blocks);
 }
 
-// Compares what came of the last run, and what it has written, with what is due. All blocks have to be freed.
+// Compares the result and the output of the last run with the expected ones. All blocks must be freed.
 static void expect(const struct row *r, const char *what, struct lines_answer is, struct lines_answer due, const struct text *written) {
     runs++;
     bool is_right = is.status == due.status && is.place == due.place && is.len == due.len;
     if (!is_right || blocks || (written && !is_same(&out, written))) fail(r, what, is);
 }
 
-// Expects of the last run that it had no memory, and wrote a front of a text.
+// Expects that an allocation of the last run failed, and that its output is a prefix of the whole output.
 static void expect_none(const struct row *r, const char *what, struct lines_answer is, const struct text *whole) {
     runs++;
     bool is_front = is.len <= whole->len && !memcmp(out.cells, whole->cells, is.len);
     if (is.status != no_memory || is.place || blocks || !is_front) fail(r, what, is);
 }
 
-// The request that is refused next: each, but of very many the first and the last ones.
+// Returns the next allocation to refuse: each in turn, but of very many only the first and the last ones.
 static uint64_t next_refused(uint64_t i, uint64_t made, uint64_t all) {
     bool is_far = i + 1 == made + most_refusals && all > i + 1 + last_refusals;
     return is_far ? all - last_refusals : i + 1;
 }
 
-// How many requests it takes to read the row's set.
+// Returns the number of allocations for reading the row's set.
 static uint64_t requests_of_set(const struct row *r) {
     read_lines(r, lines.cells, 0, none);
     return requests;
 }
 
-// Shows the row's stream. Its requests are those of a decoder and of what stands before the values, which are the set's.
+// Shows the row's stream. Its allocations are those of a decoder and of the prefixes of field lines, which belong to the set.
 static void refuse_in_showing(const struct row *r, uint64_t made, bool is_other_set) {
     struct lines_answer due = show(r, r->stream, r->stream_len, r->strict, &lines, none);
     if (!is_other_set) return;
@@ -74,7 +73,7 @@ static void refuse_in_reading(const struct row *r, uint64_t made) {
     expect(r, "read again", read_lines(r, lines.cells, lines.len, none), due, NULL);
 }
 
-// What is turned back while memory is refused: as much as there was memory for, or all of it where the encoder found a way without.
+// Expects the output of a conversion with a refused allocation: a prefix of the whole, or the whole if the encoder did without it.
 static void expect_none_or_all(const struct row *r, struct lines_answer is, struct lines_answer due) {
     if (is.status == no_memory) {
         expect_none(r, "turned back", is, &stream);
@@ -83,8 +82,8 @@ static void expect_none_or_all(const struct row *r, struct lines_answer is, stru
     }
 }
 
-// A message may be refused that a stream has, by E3 and R9 alone; what is written of those before it is no less to be had again. Where a
-// request of the encoder is refused, it goes another way, which may want none.
+// The encoder may refuse messages of a stream, only by E3 and R9; the output for those before it is the same. If an allocation of the
+// encoder is refused, it takes another path, which may need none.
 static void refuse_in_converting(const struct row *r, uint64_t made) {
     struct lines_answer due = convert(r, &lines, &stream, none, none);
     if (due.status && due.status != unsent && due.status != unspelled) fail(r, "turned back", due);
@@ -98,13 +97,13 @@ static void refuse_in_converting(const struct row *r, uint64_t made) {
     expect(r, "shown as it was", show(r, stream.cells, stream.len, 1, &out, none), (struct lines_answer){0, 0, lines.len}, &lines);
 }
 
-// Whether bytes end so, at the front of a line.
+// Returns whether the bytes end with this line, at the start of a line.
 static bool ends_with_line(const uint8_t *bytes, size_t len, const char *line) {
     size_t is = strlen(line);
     return len >= is && !memcmp(bytes + len - is, line, is) && (len == is || bytes[len - is - 1] == '\n');
 }
 
-// Cuts the row's lines at each byte, and very many at their first and last ones.
+// Truncates the row's lines at each byte; very many only at the first and last ones.
 static void cut_in_turn(const struct row *r) {
     for (size_t cut = 0; cut <= lines.len; cut++) {
         if (cut == most_cuts && lines.len > 2 * most_cuts) cut = lines.len - last_cuts;

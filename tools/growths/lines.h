@@ -1,4 +1,4 @@
-// What lines.c and tools/fuzz/lines.c share: the functions of crates/fast_bench over lines, over a row.
+// Shared by lines.c and tools/fuzz/lines.c: the functions of crates/fast_bench over lines, called for a row.
 #include "rows.h"
 
 struct lines_answer {
@@ -16,7 +16,7 @@ void fast_bench_read_lines(const uint8_t *templates, size_t templates_len, const
 
 static const uint64_t not_read = 256, bad_write = 301, bad_line = 400, unsent = 515, unspelled = 517, no_memory = 518;
 
-// Bytes that a run reads or has written.
+// The bytes that a run reads or has written.
 struct text {
     uint8_t cells[1 << 22];
     size_t len;

@@ -1,4 +1,4 @@
-// What growths.c and tools/fuzz share: the functions of crates/fast_bench, a heap that can refuse, and the rows of rows.txt.
+// Shared by growths.c and tools/fuzz: the functions of crates/fast_bench, a heap that can refuse allocations, and the rows of rows.txt.
 #include <inttypes.h>
 #include <stdbool.h>
 #include <stdio.h>
@@ -17,7 +17,7 @@ struct cut_counts {
     uint64_t fronts, wrong;
 };
 
-// crates/fast_bench/src. A slice is a pointer and a length; numbers have the least byte first, as on x86-64.
+// crates/fast_bench/src. A slice is a pointer and a length; numbers have the least significant byte first, as on x86-64.
 void fast_bench_run(const uint8_t *templates, size_t templates_len, const uint8_t *stream, size_t stream_len, size_t piece,
                     uint32_t sink, uint32_t strict, uint32_t max_text, uint32_t max_elements, uint32_t max_total,
                     struct answer *out);
@@ -32,7 +32,7 @@ void fast_bench_three_ways(const uint8_t *templates, size_t templates_len, const
 void fast_bench_encode_patiently(const uint8_t *templates, size_t templates_len, const uint8_t *stream, size_t stream_len,
                                  uint32_t max_text, uint32_t max_elements, uint32_t max_total, struct encoded *out);
 
-// The heap, which the library leaves to the program that it is linked with. It refuses the requests past so many, and one alone.
+// The heap, which the library leaves to the program. It refuses allocations past a number, and a single one.
 static uint64_t allowed, refused, requests, blocks;
 
 static bool is_refused(void) {
@@ -96,7 +96,7 @@ static bool read_stream(struct row *r, const char *hex) {
     return true;
 }
 
-// Of a source that has one raw text, the text, without the line break at its front.
+// Keeps the raw string of a source that has one, without the line break at its start.
 static bool keep_raw_text(struct row *r) {
     static const char front[] = "r#\"\n";
     char *all = (char *)r->templates, *text = strstr(all, front), *end = text ? strstr(text, "\"#") : NULL;

@@ -1,7 +1,7 @@
-// Measures how the decoder's time grows with the stream, the template set and the nesting, and what memory a decoder takes.
+// Measures how the decoder's time grows with the stream, the template set and the nesting, and the memory of a decoder.
 //
-// Each table prints the least of several runs: nanoseconds a byte, by the time of a run less that of a run without the stream,
-// which reads the template set and makes a decoder too.
+// Each table prints the least of several runs: nanoseconds a byte, by the time of a run less that of a run without the stream, which reads
+// the template set and makes a decoder too.
 #define _POSIX_C_SOURCE 199309L
 #include <inttypes.h>
 #include <stdbool.h>
@@ -14,12 +14,12 @@ struct answer {
     uint64_t status, consumed, events, sum;
 };
 
-// crates/fast_bench/src/lib.rt. A slice is a pointer and a length; numbers have the least byte first, as on x86-64.
+// crates/fast_bench/src/lib.rt. A slice is a pointer and a length; numbers have the least significant byte first, as on x86-64.
 void fast_bench_run(const uint8_t *templates, size_t templates_len, const uint8_t *stream, size_t stream_len, size_t piece,
                     uint32_t sink, uint32_t strict, uint32_t max_text, uint32_t max_elements, uint32_t max_total,
                     struct answer *out);
 
-// The heap, which the library leaves to the program that it is linked with. It counts requests, and the bytes of those past a number.
+// The heap, which the library leaves to the program. It counts allocations, and the bytes of those past a number.
 static size_t requests, passed, bytes_behind;
 
 struct tried {
@@ -69,13 +69,13 @@ static void push_integer(struct bytes *b, uint32_t n) {
     while (groups-- > 0) push(b, ((n >> (7 * groups)) & 0x7f) | (groups ? 0 : 0x80));
 }
 
-// Numbers of all lengths, the same in each run.
+// Returns numbers of all lengths, the same in each run.
 static uint32_t next_number(uint64_t *seed) {
     *seed = *seed * 6364136223846793005u + 1442695040888963407u;
     return (uint32_t)(*seed >> 33) >> (*seed >> 59);
 }
 
-// A set of `count` templates with four fields each, and messages of them in turn.
+// Makes a set of `count` templates with four fields each, and messages of them in turn.
 static void make_templates(struct bytes *set, struct bytes *stream, int count, size_t stream_len) {
     char head[64];
     for (int i = 0; i < count; i++) {
@@ -94,7 +94,7 @@ static void make_templates(struct bytes *set, struct bytes *stream, int count, s
     }
 }
 
-// One template with `depth` groups, one in the other by references, each with an integer in front, and messages of it.
+// Makes one template with `depth` groups, nested by references, each with an integer first, and messages of it.
 static void make_nested(struct bytes *set, struct bytes *stream, int depth, size_t stream_len) {
     char text[192];
     push_text(set, "[[template]]\nname=\"T\"\nid=1\nfields=[{kind=\"ref\",name=\"T0\"}]\n");
@@ -149,7 +149,7 @@ static struct answer decode(const char *text, uint32_t max_text) {
     return is;
 }
 
-// The memory of a decoder: what is asked for behind the requests of a run whose limits are refused before any memory is taken.
+// Prints the memory of a decoder: the allocations after those of a run whose limits are refused before the decoder allocates.
 static void weigh(const char *name, const char *text, uint32_t max_text) {
     passed = SIZE_MAX;
     decode(text, 1);

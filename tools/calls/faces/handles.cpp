@@ -1,4 +1,4 @@
-// handles: what fast.hpp does with packets, faults, limits and handles that were moved from. Compiled with exceptions and without; says what is wrong.
+// handles: tests fast.hpp with packets, faults, limits and moved handles. Compiled with and without exceptions; prints what is wrong.
 #include <fast.hpp>
 
 #include <cstdio>
@@ -24,7 +24,7 @@ static void check(bool is, const char *words) {
     std::exit(1);
 }
 
-// What a call came to: the status of the error that it throws, or the one that it returns.
+// Returns the status of a call: that of the error that it throws, or the one that it returns.
 template <class F> static std::uint32_t status_of(F call, std::uint64_t *place = nullptr) {
 #ifdef __cpp_exceptions
     try {
@@ -49,11 +49,11 @@ struct seen : fast::visitor {
     void abandoned(fast::fault it) { cut++, why = it; }
 };
 
-// T with 5 and the bytes "abc"; then, by increment, with 6 and none.
+// A message of T with 5 and the bytes "abc"; then one with 6, by increment, and no bytes.
 static const std::uint8_t first[] = {0xe0, 0x81, 0x85, 0x83, 'a', 'b', 'c'}, second[] = {0x80, 0x80};
 
 static void check_packets() {
-    // with room for one record, so that a packet takes several calls of the library
+    // With room for one record, so that a packet takes several calls of the library.
     fast::decoder decoder{fast::set{set_text}, fast_default_limits, 1};
     seen it;
     std::uint64_t place = 0;

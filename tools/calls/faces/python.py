@@ -1,4 +1,4 @@
-"""python.py LIBRARY: what bindings/python/talvrugon.py does with numbers out of range, sets that are closed, pieces of all types and calls that nobody looks at."""
+"""python.py LIBRARY: tests bindings/python/talvrugon.py with numbers out of range, closed sets, pieces of all types and unread results."""
 
 import os
 import sys
@@ -23,7 +23,7 @@ MESSAGE = [START, (talvrugon.UNSIGNED, 0, 5), (talvrugon.SIGNED, 1, -5), (talvru
 
 
 def raised(kind, words, call, *arguments, **named):
-    """Checks that a call raises an error of a type, whose sentence has these words, and returns it."""
+    """Checks that a call raises an error of this type, whose sentence contains these words, and returns the error."""
     try:
         call(*arguments, **named)
     except kind as error:
@@ -39,7 +39,7 @@ def with_value(number, value):
 
 
 def check_numbers(of):
-    """Each number has to be an integer that its place has room for; what has not is named, and changes nothing."""
+    """Checks that each number must be an integer in range; the error names the number, and nothing changes."""
     encoder = of.encoder()
     due = encoder.encode(MESSAGE)
     for event, value in ((1, 2**64 + 5), (1, -1), (2, 2**63), (2, -(2**63) - 1), (3, (2**63, 0)), (3, (0, 2**31)), (3, (0, -(2**31) - 1))):
@@ -66,7 +66,7 @@ def check_numbers(of):
 
 
 def check_pieces(of, due):
-    """A piece is bytes or what has their interface, and nothing else; what a call returns has been decoded."""
+    """Checks that a piece is bytes or has the buffer protocol, and nothing else; all of it is decoded when the call returns."""
     for piece in (due, bytearray(due), memoryview(due), memoryview(bytearray(due))):
         with of.decoder() as decoder:
             events = decoder.feed(piece)
@@ -86,7 +86,8 @@ def check_pieces(of, due):
 
 
 def check_faults(of, due):
-    """An error has the code, the place, the template and the events before it, also after pieces; a packet that is cut is one."""
+    """Checks that an error has the code, the offset, the template and the events before it, in pieces too; and that a truncated packet is
+    an error."""
     decoder = of.decoder()
     fault = raised(talvrugon.Error, "D2", decoder.feed, due + due[:2] + b"\x7f" * 10)
     assert (fault.status, fault.code, fault.place, fault.template) == (101, "D2", len(due) + 12, 0)
@@ -111,7 +112,7 @@ def check_faults(of, due):
 
 
 def check_closing(library, due):
-    """What is closed answers so; decoders and encoders of a set that is closed go on."""
+    """Checks that a closed object raises status 4, and that decoders and encoders of a closed set stay usable."""
     of = library.set(SET)
     with of.decoder() as decoder, of.encoder() as encoder:
         of.close()
@@ -126,7 +127,7 @@ def check_closing(library, due):
 
 
 def check_room(of):
-    """A text of max_text bytes comes through, whatever room was given."""
+    """Checks that a string of max_text bytes is decoded, whatever room was given."""
     text = b"x" * 1048576
     message = with_value(4, text)
     encoder, room = of.encoder(max_text=len(text)), talvrugon.Room(2, 2)
@@ -136,7 +137,7 @@ def check_room(of):
 
 
 def check_sentences(library):
-    """The sentences are those of tools/calls/statuses.txt, and no other status has one."""
+    """Checks that the sentences are those of tools/calls/statuses.txt, and that no other status has one."""
     with open(f"{HERE}/../statuses.txt", encoding="utf-8") as file:
         due = {int(number): words for number, words in (line.rstrip("\n").split(" ", 1) for line in file)}
     assert {number: library.words(number) for number in range(1000) if library.words(number)} == due

@@ -1,5 +1,5 @@
-// rows: what comes of each stream of the rows on standard input, by fast.hpp: a line `STATUS CONSUMED EVENTS SUM WORDS` a row, as tools/calls/faces/rows
-// has it. A row is `TEMPLATES STRICT MAX_TEXT MAX_ELEMENTS MAX_TOTAL PIECE STREAM`. Compiled with exceptions and without.
+// rows: prints the results of each stream of the rows on standard input, by fast.hpp: a line `STATUS CONSUMED EVENTS SUM WORDS` a row, for
+// tools/calls/faces/table. A row is `TEMPLATES STRICT MAX_TEXT MAX_ELEMENTS MAX_TOTAL PIECE STREAM`. Compiled with and without exceptions.
 #include <fast.hpp>
 
 #include <algorithm>
@@ -10,7 +10,7 @@
 #include <iostream>
 #include <iterator>
 
-// The checksum of docs/PERFORMANCE.md.
+// The checksum that docs/PERFORMANCE.md defines.
 struct sums : fast::visitor {
     std::uint64_t events = 0, sum = 0xcbf29ce484222325, abandoned_at = UINT64_MAX;
 

@@ -1,4 +1,4 @@
-"""rows.py LIBRARY: what comes of each stream of the rows on standard input, by bindings/python/talvrugon.py, as rows.cpp has it."""
+"""rows.py LIBRARY: prints the results of each stream of the rows on standard input, by bindings/python/talvrugon.py, as rows.cpp does."""
 
 import os
 import sys
@@ -20,7 +20,7 @@ def words_of(kind, node, value):
 
 
 class Sums:
-    """How many events came, and their checksum."""
+    """The number of events, and their checksum."""
 
     def __init__(self):
         self.events, self.sum = 0, BASIS
@@ -33,7 +33,7 @@ class Sums:
 
 
 def status_of(decoder, piece, to):
-    """Feeds a piece, and returns its status: 1 where an error says anything but what the decoder does."""
+    """Feeds a piece, and returns its status: 1 if the error contradicts the decoder."""
     try:
         to.add(decoder.feed(piece))
     except talvrugon.Error as fault:

@@ -1,4 +1,4 @@
-// A visitor has the calls that it wants: one `field`, none, or a template for what the others do not take.
+// A visitor defines only the calls that it needs: one `field`, none, or a template for all others.
 #include <fast.hpp>
 
 #include <cstdio>

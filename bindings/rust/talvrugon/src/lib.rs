@@ -10,8 +10,8 @@
 //! # Ok::<(), talvrugon::Error>(())
 //! ```
 //!
-//! The library is proved; this crate is not. Its `unsafe` blocks contain only calls of `talvrugon-sys`, each with the reason why it is sound. No
-//! type is `Send`, since nothing is proved about the use of the library from several threads.
+//! The library is proved; this crate is not. Its `unsafe` blocks contain only calls of `talvrugon-sys`, each with the reason why it is
+//! sound. No type is `Send`, since nothing is proved about the use of the library from several threads.
 
 mod decoder;
 mod encoder;
