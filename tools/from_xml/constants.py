@@ -1,4 +1,4 @@
-"""The numbers of templates and nodes, and the tags of FIX, as constants of a language."""
+"""The numbers of templates and nodes, and the tags of FIX, as constants of a programming language."""
 
 import re
 
@@ -11,7 +11,7 @@ def word(text):
 
 
 class Names:
-    """Names of constants, each given once: what would be a second one gets a number behind it."""
+    """Unique names of constants: a name that is taken already gets a number appended."""
 
     def __init__(self, prefix):
         self.prefix, self.given = f"{prefix}_" if prefix else "", set()
@@ -28,7 +28,7 @@ class Names:
 
 
 def tag_in(text):
-    """A tag as a number of 31 bits; 0 where it is none."""
+    """Returns a tag as a number of 31 bits; 0 if it is not one."""
     return int(text) if re.fullmatch(r"[0-9]{1,10}", text) and int(text) <= MOST else 0
 
 
@@ -37,13 +37,13 @@ def note_of(node):
 
 
 def tags_of(nodes):
-    """Each name with each of its tags, once, in the order of the nodes; the name of a sequence's length too."""
+    """Returns each name with each of its tags, once, in the order of the nodes; the name of a sequence's length too."""
     pairs = [pair for it in nodes if it.kind != "template" for pair in ((it.name, it.tag), (it.length, it.length_tag))]
     return [(name, tag_in(tag)) for name, tag in dict.fromkeys(pairs) if name and tag_in(tag)]
 
 
 class Constants:
-    """The constants of a set: names with values and remarks, and the tag of each node in a row."""
+    """The constants of a set: names with values and remarks, and the tag of each node in order."""
 
     def __init__(self, nodes, prefix):
         names = Names(prefix)
@@ -55,18 +55,18 @@ class Constants:
         self.tag_of_node = [tag_in(it.tag) for it in fields]
 
     def groups(self):
-        """The constants, with a head above each group that has any."""
+        """Returns the groups of constants that are not empty, each with a heading."""
         groups = [("Templates by number", self.templates), ("Nodes", self.fields), ("Tags of FIX", self.tags)]
         return [(head, rows) for head, rows in groups if rows]
 
     def tag_lines(self):
-        """The tags of all nodes, some a line; at least one, since C has no empty array."""
+        """Returns the tags of all nodes, several on a line; at least one, since C has no empty array."""
         tags = self.tag_of_node or [0]
         return [", ".join(map(str, tags[at : at + WIDTH])) + "," for at in range(0, len(tags), WIDTH)]
 
 
 def block(it, form, mark="//"):
-    """The lines of all constants by a form of one, with heads and remarks behind a mark."""
+    """Returns the lines of all constants in one form, with headings and remarks as comments."""
     lines = []
     for head, rows in it.groups():
         lines += ["", f"{mark.strip()} {head}"] + [form.format(name, value) + (f" {mark} {note}" if note else "") for name, value, note in rows]
@@ -104,6 +104,6 @@ LANGUAGES = {"c": in_c, "cpp": in_cpp, "rust": in_rust, "python": in_python}
 
 
 def constants(nodes, language, prefix, source):
-    """The text of a set's constants in a language."""
+    """Returns the file of a set's constants in a language."""
     source = re.sub(r"[^A-Za-z0-9._-]", "_", source)
     return "\n".join(LANGUAGES[language](Constants(nodes, prefix), f"Numbers of {source}, made by from_xml.")) + "\n"

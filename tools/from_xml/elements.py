@@ -1,4 +1,4 @@
-"""XML as elements of templates, and what is said of it."""
+"""XML as elements of templates, and the report of what is wrong with it."""
 
 import re
 from dataclasses import dataclass, field
@@ -6,22 +6,22 @@ from xml.parsers import expat
 
 from grammar import FIELDS, INCLUDE, SCP, SILENT, TD, TD_OF_ANY
 
-# How deep elements nest, and how many there are.
+# The greatest depth of elements, and their greatest number.
 DEPTH = 200
 MOST = 500_000
-# How texts begin that say by themselves how their characters are written; the longer ones first.
+# The first bytes of files that determine the character encoding; the longer ones first.
 MARKS = (
     *((b"\xff\xfe\0\0", "utf-32"), (b"\0\0\xfe\xff", "utf-32"), (b"\xff\xfe", "utf-16"), (b"\xfe\xff", "utf-16"), (b"\xef\xbb\xbf", "utf-8-sig")),
     *((b"<\0\0\0", "utf-32-le"), (b"\0\0\0<", "utf-32-be"), (b"<\0", "utf-16-le"), (b"\0<", "utf-16-be")),
 )
 DECLARED = re.compile(rb"""\s*<\?xml[^>]*?\sencoding\s*=\s*["']([^"'>]*)["']""")
-# What the parser says of a text that ends too soon.
+# The parser's codes for a file that ends too early.
 CUT = {expat.errors.codes[getattr(expat.errors, f"XML_ERROR_{it}")] for it in ("NO_ELEMENTS", "UNCLOSED_TOKEN", "UNCLOSED_CDATA_SECTION")}
 
 
 @dataclass
 class Element:
-    """An element of XML: its line, its name without prefix, and what stands in it."""
+    """An element of XML: its line, its name without prefix, and its content."""
 
     line: int
     tag: str
@@ -33,11 +33,11 @@ class Element:
 
 
 class Refused(Exception):
-    """The text is no XML, or none that is read."""
+    """The file is not XML, or XML that is not accepted."""
 
 
 class Report:
-    """What is said of a text, by line: why it is refused, and what it is taken in spite of. What is said twice of a line is kept once."""
+    """The messages about a file, by line: errors and warnings. A message is kept once for each line."""
 
     def __init__(self):
         self.refused, self.warned, self.passed = {}, {}, {}
@@ -49,18 +49,18 @@ class Report:
         self.warned.setdefault(line, {})[what] = True
 
     def pass_over(self, line, what):
-        """What is passed over is named once, where it stands first."""
+        """Warns about a name that is skipped, once, at its first line."""
         if self.passed.setdefault(what, line) == line:
             self.warn(line, f"passed over: {what}")
 
     def lines(self, name):
-        """The refusals; where there are none, the warnings."""
+        """Returns the errors; if there are none, the warnings."""
         said = self.refused or self.warned
         return [f"{name}:{line}: {what}" for line in sorted(said) for what in said[line]]
 
 
 def decoded(text, report):
-    """The characters of a text: by its first bytes, or else as its first line says."""
+    """Decodes a file to characters: by its first bytes, or by its first line."""
     found = DECLARED.match(text)
     codec = next((codec for mark, codec in MARKS if text.startswith(mark)), found[1].decode("latin-1") if found else "utf-8")
     try:
@@ -75,7 +75,7 @@ def decoded(text, report):
 
 
 class Reader:
-    """Reads XML into elements, and names what stands outside the namespaces of templates."""
+    """Reads XML into elements, and reports names outside the namespaces of templates."""
 
     def __init__(self, wanted, report):
         self.wanted, self.report = wanted, report
@@ -106,7 +106,7 @@ class Reader:
         return self.root
 
     def why(self, error, text):
-        """What is wrong with what is no XML, and what to do."""
+        """Returns what is wrong with a file that is not XML, and what to do."""
         if not text.strip():
             return "nothing stands in it: give the exchange's template file"
         if error.code in CUT and self.open:
@@ -135,7 +135,7 @@ class Reader:
             raise Refused
 
     def skip(self, space, tag):
-        """Passes over an element with all that stands in it, or names it."""
+        """Skips an element with all its content, or reports it."""
         if self.skipped:
             if space in TD and tag in FIELDS | {"template"} and self.skipped[0]:
                 around = self.skipped[0]
@@ -160,7 +160,7 @@ class Reader:
             self.report.pass_over(self.line, what)
 
     def kept(self, tag, attributes):
-        """The attributes that speak of templates."""
+        """Returns the attributes that belong to templates."""
         found = {}
         for name, value in attributes.items():
             space, _, bare = name.rpartition(" ")

@@ -1,4 +1,4 @@
-"""What stands where in the templates of FAST 1.1, and what later versions have."""
+"""The grammar of FAST 1.1 templates, and what later versions add."""
 
 TD = (
     "",
@@ -6,12 +6,12 @@ TD = (
     "http://www.fixprotocol.org/ns/fast/td/1.0",
     "http://www.fixprotocol.org/ns/template-definition",
 )
-# Other versions of these namespaces begin so.
+# The start of other versions of these namespaces.
 TD_OF_ANY = "http://www.fixprotocol.org/ns/fast/td/"
 SCP = ("", "http://www.fixprotocol.org/ns/fast/scp/1.1", "http://www.fixprotocol.org/ns/fast/scp/1.0")
-# Attributes of these namespaces say nothing of templates.
+# Attributes in these namespaces mean nothing for templates.
 SILENT = ("http://www.w3.org/XML/1998/namespace", "http://www.w3.org/2001/XMLSchema-instance")
-# What elements of this namespace stand for is not there yet.
+# Elements in this namespace stand for content of other files.
 INCLUDE = "http://www.w3.org/2001/XInclude"
 
 RANGES = {"uInt32": (0, 2**32 - 1), "int32": (-(2**31), 2**31 - 1), "uInt64": (0, 2**64 - 1), "int64": (-(2**63), 2**63 - 1)}
@@ -21,7 +21,7 @@ ENTRIES = {"copy", "increment", "delta", "tail"}
 OPERATORS = {"constant", "default"} | ENTRIES
 FIELDS = SCALARS | {"group", "sequence", "templateRef"}
 NAMED = {"name", "ns", "id"}
-# What an element may have, beside operators.
+# The attributes of each element, besides operators.
 ATTRIBUTES = {
     "templates": {"ns", "templateNs", "dictionary"},
     "template": NAMED | {"templateNs", "dictionary", "reset"},
@@ -51,10 +51,10 @@ CHILDREN = {
     **{it: OPERATORS | {"length"} for it in ("string", "byteVector")},
 }
 YES_NO = {"yes": True, "true": True, "y": True, "t": True, "1": True, "no": False, "false": False, "n": False, "f": False, "0": False}
-# All of these words, which nobody can ask to be passed over.
+# All of these names, which cannot be skipped on request.
 OWN = {*ATTRIBUTES, *(name for names in ATTRIBUTES.values() for name in names)}
 
-# Elements of FAST 1.2, and by what FAST 1.1 sends the same.
+# Elements of FAST 1.2, and the FAST 1.1 types with the same encoding.
 SENT_AS = {
     **{"enum": "uInt32", "boolean": "uInt32", "set": "uInt64", "timestamp": "uInt64"},
     **{"int8": "int32", "int16": "int32", "uInt8": "uInt32", "uInt16": "uInt32"},

@@ -1,9 +1,9 @@
-"""The numbers of a set's nodes, as lines and records have them: in the order of the text, with references in place."""
+"""The numbers of a set's nodes, as in lines and records: in the order of the file, with references resolved."""
 
 import re
 from dataclasses import astuple, dataclass, fields
 
-# What a set can have, and how many references and rows are looked at.
+# The greatest number of nodes of a set, and the limits on chains of references and on rows.
 NODES = 65_536
 CHAIN = 64
 STEPS = 1_000_000
@@ -25,17 +25,17 @@ class Node:
 
 
 def plain(text):
-    """A text of the XML as a cell of a table has it."""
+    """Returns a string of the XML in the form of a cell of the table."""
     return re.sub(r"[^ -~\u00a0-\U0010ffff]", "?", text or "")
 
 
 def identifier(template):
-    """The identifier of a template as it is written."""
+    """Returns the identifier of a template as it is written."""
     return next((it.removeprefix("id = ") for it in template.keys if it.startswith("id = ")), "")
 
 
 class Numbering:
-    """Numbers the nodes of templates, or names why they have no numbers."""
+    """Numbers the nodes of templates, or reports why they have no numbers."""
 
     def __init__(self, templates, report):
         self.report, self.named, self.nodes, self.count, self.steps = report, {}, [], 0, 0
@@ -47,7 +47,7 @@ class Numbering:
             self.walk(it.rows, it.name, (), (it.name,))
 
     def walk(self, rows, template, path, way):
-        """Numbers rows at a path of groups and sequences, to which a way of references led."""
+        """Numbers rows at a path of groups and sequences, reached by a chain of references."""
         for row in rows:
             self.steps += 1
             if self.steps > STEPS or self.count > NODES:
@@ -65,7 +65,7 @@ class Numbering:
             self.walk(row.rows or (), template, here, way)
 
     def follow(self, row, template, path, way):
-        """Numbers what a reference stands for, in its place."""
+        """Numbers the target of a reference, in its place."""
         if row.name not in self.named:
             what = "no template has the name, so that nodes have no numbers: add it to the set"
             self.report.refuse(row.element.line, f"templateRef {row.name}: {what}")
@@ -76,11 +76,11 @@ class Numbering:
 
 
 def numbered(templates, report):
-    """The templates of a set, and its nodes behind each."""
+    """Returns the templates of a set, each followed by its nodes."""
     return Numbering(templates, report).nodes
 
 
 def tabled(nodes):
-    """The table of fields: a line each, with tabs between."""
+    """Returns the table of fields: a line each, separated by tabs."""
     head = [it.name for it in fields(Node) if it.name != "parts"]
     return "".join("\t".join(map(str, row)) + "\n" for row in [head, *(astuple(it)[: len(head)] for it in nodes)])

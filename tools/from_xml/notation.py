@@ -1,4 +1,4 @@
-"""Elements of templates in the TOML notation of fastcat."""
+"""Converts elements of templates to the TOML notation of fastcat."""
 
 from __future__ import annotations
 
@@ -9,14 +9,15 @@ from elements import Element
 from grammar import ATTRIBUTES, CHILDREN, ENTRIES, FIELDS, LATER, OPERATORS, OWN, SCALARS, YES_NO
 from values import initial_in, number_in, quoted, suits, table
 
-# How deep groups and sequences nest; and from what height on they have headers of their own, since TOML takes 80 arrays and tables one in another.
+# The greatest depth of groups and sequences; and the height from which they have their own headers, since TOML allows 80 nested arrays and
+# tables.
 DEEPEST = 64
 INLINE = 29
 
 
 @dataclass
 class Row:
-    """A field: its element, its kind, its keys, its comment, and the rows in it, where it is a group or a sequence."""
+    """A field: its element, its type, its keys, its comment, and, for a group or a sequence, its rows."""
 
     element: Element
     kind: str
@@ -50,12 +51,12 @@ class Template:
 
 
 def height(rows):
-    """How deep groups and sequences nest in rows."""
+    """Returns the depth to which groups and sequences nest in rows."""
     return max((it.height for it in rows), default=0)
 
 
 def inline(row, margin):
-    """The lines of a row within an array."""
+    """Returns the lines of a row within an array."""
     if row.rows is None:
         return [f"{margin}{table(row.pairs)},{row.note}"]
     pairs = ", ".join(f"{key} = {value}" for key, value in row.pairs)
@@ -64,7 +65,7 @@ def inline(row, margin):
 
 
 def array(rows, path):
-    """The lines of what stands in a table of a path: an array, or, where it is too high for one, a header for each row."""
+    """Returns the lines of the rows at a path: an array, or, if they nest too deep for one, a header for each row."""
     if not rows:
         return []
     if height(rows) <= INLINE:
@@ -74,7 +75,7 @@ def array(rows, path):
 
 
 def remark(element, *more):
-    """The comment with what is kept of an element but says nothing of the encoding."""
+    """Returns a comment with the parts of an element that are kept but do not affect the encoding."""
     said = [f"id {element.attributes['id']}"] if element.attributes.get("id") else []
     for it in element.of("length"):
         name = it.attributes.get("name") if element.tag in SCALARS else None
@@ -89,12 +90,12 @@ def commented(*said):
 
 
 def remedy(name):
-    """What to do about a name that has no place."""
+    """Returns what to do about a name that the notation cannot express."""
     return "take it out" if name in OWN else f"where it changes no byte, --pass-over {name}"
 
 
 class Writer:
-    """Writes the elements of a template text in the notation, and names what has no place in it."""
+    """Converts the elements of a template file to the notation, and reports names that it cannot express."""
 
     def __init__(self, wanted, report):
         self.wanted, self.report, self.spaces, self.depth = wanted, report, {}, 0
@@ -103,7 +104,7 @@ class Writer:
         self.report.refuse(element.line, what)
 
     def look(self, element):
-        """Names the attributes and children that an element cannot have."""
+        """Reports the attributes and children that an element cannot have."""
         for name in element.attributes:
             if name not in ATTRIBUTES[element.tag]:
                 self.fault(element, f"{name} of {element.tag}: no such attribute: {remedy(name)}")
@@ -116,7 +117,7 @@ class Writer:
                 self.fault(it, f"{it.tag} in {element.tag}: it has no place there")
 
     def look_at_names(self, element, around):
-        """One namespace for all names says nothing; two would tell names apart that are one here."""
+        """Reports a second namespace of names: one for all names has no meaning, but two would distinguish names that are equal here."""
         spaces = {it: element.attributes.get(it, around[it]) for it in around}
         which = "templateNs" if element.tag in ("template", "templateRef") else "ns"
         if element.tag != "typeRef" and {"name", "key"} & {*element.attributes}:
@@ -128,14 +129,14 @@ class Writer:
             self.look_at_names(it, spaces)
 
     def once(self, element, *tags):
-        """The only one of these children, if there is one."""
+        """Returns the only one of these children, if there is one."""
         found = element.of(*tags)
         for it in found[1:]:
             self.fault(it, f"{it.tag}: a second {'operator' if it.tag in OPERATORS else it.tag} in {element.tag}")
         return found[0] if found else None
 
     def name(self, element, attribute="name"):
-        """A name that the notation takes."""
+        """Returns a name in a form that the notation accepts."""
         name = element.attributes.get(attribute)
         if name is None:
             self.fault(element, f"{element.tag} without {attribute}")
@@ -145,7 +146,7 @@ class Writer:
         return name
 
     def dictionary(self, element, scope):
-        """The dictionary that an element names, or else that of what it stands in."""
+        """Returns the dictionary that an element names, else that of the scope."""
         if "dictionary" not in element.attributes:
             return scope
         name = self.name(element, "dictionary")
@@ -155,7 +156,7 @@ class Writer:
         return name
 
     def initial(self, element, kind, is_optional):
-        """The initial value of an operator."""
+        """Returns the initial value of an operator."""
         text = element.attributes.get("value")
         if text is None:
             if element.tag == "constant":
@@ -171,7 +172,7 @@ class Writer:
         return [("value", quoted(value or ""))]
 
     def operator(self, element, kind, is_optional, scope):
-        """The keys of the operator that stands in an element, if one does. The scope is the dictionary of what is around."""
+        """Returns the keys of an element's operator, if it has one. The scope is the dictionary of the enclosing element."""
         it = self.once(element, *sorted(OPERATORS))
         if it is None:
             return []
@@ -188,7 +189,7 @@ class Writer:
         return pairs
 
     def presence(self, element):
-        """Whether an element is optional, and the key that says so."""
+        """Returns whether an element is optional, and the key that says so."""
         said = element.attributes.get("presence", "mandatory")
         if said not in ("mandatory", "optional"):
             self.fault(element, f"presence {quoted(said)}: neither mandatory nor optional")
@@ -199,7 +200,7 @@ class Writer:
         return is_optional, [("kind", quoted(kind)), ("name", quoted(self.name(element))), *key]
 
     def kind(self, element):
-        """The kind of a scalar by its XML."""
+        """Returns the type of a scalar by its XML."""
         if element.tag != "string":
             return {"byteVector": "bytes"}.get(element.tag, element.tag)
         charset = element.attributes.get("charset", "ascii")
@@ -220,14 +221,14 @@ class Writer:
         return Row(element, written, pairs, remark(element, *(["charset unicode"] if as_bytes else [])))
 
     def unsent_length(self, element):
-        """Looks at what names the length of a text or byte vector, of which a comment is kept."""
+        """Checks the name of the length of a string or byte vector, which is kept as a comment."""
         if "length" in CHILDREN[element.tag] and (it := self.once(element, "length")):
             self.look(it)
             for operator in it.of(*OPERATORS):
                 self.fault(operator, f"{operator.tag} in the length of a {element.tag}: that length is sent as it is: take the operator out")
 
     def parts(self, element, is_optional, scope):
-        """The keys of a decimal with operators for exponent and mantissa."""
+        """Returns the keys of a decimal with operators for exponent and mantissa."""
         if whole := self.once(element, *sorted(OPERATORS)):
             self.fault(whole, f"{whole.tag} of a decimal beside operators of its parts")
         pairs = []
@@ -238,7 +239,7 @@ class Writer:
         return pairs
 
     def length(self, element, is_optional, scope):
-        """The key of a sequence's length, if it is written."""
+        """Returns the key of a sequence's length, if it is written."""
         it = self.once(element, "length")
         if it is None:
             return []
@@ -247,7 +248,7 @@ class Writer:
         return [("length", table(name + self.operator(it, "length", is_optional, scope)))]
 
     def instruction(self, element, scope):
-        """The row of a field."""
+        """Returns the row of a field."""
         self.look(element)
         if element.tag == "templateRef":
             if "name" not in element.attributes:
@@ -274,7 +275,7 @@ class Writer:
         return [self.instruction(it, scope) for it in element.of(*FIELDS)]
 
     def identifier(self, element):
-        """The identifier of a template: its own, or else the one that the call gives it."""
+        """Returns the identifier of a template: its own, else the one given by the call."""
         name, text = element.attributes.get("name"), element.attributes.get("id")
         if text is None:
             return [f"id = {self.wanted.ids[name]}"] if name in self.wanted.ids else []
@@ -292,7 +293,7 @@ class Writer:
         return ["reset = true"] if self.wanted.reset or YES_NO.get(said.lower()) else []
 
     def template(self, element, dictionary):
-        """A template. Its dictionary is that of the operators which name none."""
+        """Returns a template. Its dictionary is that of the operators that name none."""
         self.look(element)
         lines = ["[[template]]" + commented(*(f"type {it.attributes['name']}" for it in element.of("typeRef") if it.attributes.get("name")))]
         lines += [f"name = {quoted(self.name(element))}", *self.identifier(element), *self.resets(element)]
@@ -302,7 +303,7 @@ class Writer:
         return Template(element, lines, self.body(element, None))
 
     def unused(self, templates):
-        """Looks for templates that no message can have, and for identifiers that no template gets."""
+        """Reports templates that no message can have, and identifiers that no template gets."""
         used, names = set(), {it.attributes.get("name") for it in templates}
         walk = list(templates)
         while walk:
@@ -318,7 +319,7 @@ class Writer:
             self.report.refuse(1, f"no template {name}, to which --id gives an identifier")
 
     def document(self, root):
-        """The templates of a text of templates, or of one template."""
+        """Returns the templates of a file of templates, or of one template."""
         self.look_at_names(root, {"ns": "", "templateNs": ""})
         if root.tag == "template":
             self.unused([root])

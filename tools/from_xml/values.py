@@ -1,4 +1,4 @@
-"""Initial values, and texts as TOML writes them."""
+"""Initial values, and strings as TOML writes them."""
 
 import json
 import re
@@ -7,7 +7,7 @@ from grammar import RANGES
 
 
 def quoted(text):
-    """A text as TOML writes it."""
+    """Returns a string in the form of TOML."""
     return json.dumps(text, ensure_ascii=False).replace("\x7f", "\\u007F")
 
 
@@ -16,14 +16,14 @@ def table(pairs):
 
 
 def number_in(text, kind):
-    """An integer of a kind as the notation writes it, or nothing."""
+    """Returns an integer of a type in the form of the notation, or None."""
     low, high = RANGES[kind]
     bare = text.strip()
     return str(int(bare)) if re.fullmatch(r"-?[0-9]{1,30}", bare) and low <= int(bare) <= high else None
 
 
 def decimal_in(text):
-    """A decimal as mantissa and exponent, normalised: the mantissa ends in no zero."""
+    """Returns a decimal as mantissa and exponent, normalised: the mantissa does not end in a zero."""
     found = re.fullmatch(r"(-?)([0-9]{0,90})(?:\.([0-9]{0,90}))?", text.strip())
     if not found or not (found[2] or found[3]):
         return None
@@ -45,7 +45,7 @@ def bytes_in(text):
 
 
 def initial_in(text, kind):
-    """The text of an initial value in the notation, or nothing where it is no value of the kind."""
+    """Returns an initial value in the form of the notation, or None if it is not a value of the type."""
     if kind in RANGES:
         return number_in(text, kind)
     if kind == "decimal":
@@ -56,5 +56,5 @@ def initial_in(text, kind):
 
 
 def suits(operator, kind):
-    """Whether an operator can stand at a kind."""
+    """Returns whether an operator suits a type."""
     return {"increment": kind in RANGES, "tail": kind in ("ascii", "unicode", "bytes")}.get(operator, True)

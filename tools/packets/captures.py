@@ -1,16 +1,16 @@
-"""Captures, pcap and pcapng, as frames one after the other, in memory that does not grow."""
+"""Reads captures, pcap and pcapng, frame by frame, in constant memory."""
 
 from __future__ import annotations
 
 import struct
 from dataclasses import dataclass
 
-# A frame of more bytes is none of a network: the capture is damaged.
+# No network has frames of more bytes: the capture is damaged.
 MOST = 1 << 20
 PIECE = 1 << 16
 SECOND = 10**9
 
-# How a pcap file begins: the order of its bytes, and how many of its units a second has.
+# The first bytes of a pcap file: its byte order, and the number of its time units in a second.
 PCAP = {
     b"\xd4\xc3\xb2\xa1": ("<", 10**6),
     b"\xa1\xb2\xc3\xd4": (">", 10**6),
@@ -24,7 +24,7 @@ RESOLUTION, OFFSET = 9, 14
 
 
 class Failed(Exception):
-    """A run ends before its end: its status, and why, with what to do."""
+    """The error of a run that cannot go on: the exit status, and the reason with what to do."""
 
     def __init__(self, status, words):
         super().__init__(words)
@@ -33,7 +33,7 @@ class Failed(Exception):
 
 @dataclass
 class Frame:
-    """What was captured of a frame: when, in nanoseconds since 1970 if that is known, and the type of its link."""
+    """A captured frame: its time, in nanoseconds since 1970 if that is known, and its link type."""
 
     time: int | None
     link: int
@@ -41,13 +41,13 @@ class Frame:
 
 
 class Source:
-    """A file that is read from its front to its end, and the place where that is."""
+    """A file that is read from start to end, and the current offset."""
 
     def __init__(self, file, name):
         self.file, self.name, self.at = file, name, 0
 
     def failed(self, words):
-        """It cannot be read on."""
+        """Raises the error that the file cannot be read on."""
         return Failed(3, f"{self.name}: {words}")
 
     def take(self, count):
@@ -56,7 +56,7 @@ class Source:
         return data
 
     def whole(self, count, what):
-        """As many bytes, or nothing where the file ends in front of them."""
+        """Returns this many bytes, or nothing at the end of the file."""
         if count > MOST:
             raise self.failed(f"{what} at byte {self.at} has {count} bytes: the capture is damaged there")
         at, data = self.at, self.take(count)
@@ -65,7 +65,7 @@ class Source:
         return data
 
     def rest(self, count, what):
-        """As many bytes, of what has begun."""
+        """Returns this many bytes of a record that has begun."""
         data = self.whole(count, what) if count else b""
         if len(data) < count:
             raise self.failed(f"it ends at byte {self.at}, inside {what}: it was cut, capture or copy it again")
@@ -77,7 +77,7 @@ class Source:
 
 
 def frames(source):
-    """The frames of a capture."""
+    """Yields the frames of a capture."""
     magic = source.take(4)
     if magic in PCAP:
         yield from pcap(source, *PCAP[magic])
@@ -101,7 +101,8 @@ def pcap(source, order, units):
 
 @dataclass
 class Interface:
-    """An interface of a pcapng section: the type of its link, how many of its units a second has, what is added, and how much is kept."""
+    """An interface of a pcapng section: its link type, the number of its time units in a second, the time offset, and the captured
+    length."""
 
     link: int
     units: int
@@ -113,7 +114,7 @@ class Interface:
 
 
 def pcapng(source):
-    """The frames of a capture whose first four bytes were those of a section."""
+    """Yields the frames of a capture whose first four bytes were those of a section."""
     order, interfaces, kind = section(source), [], SECTION
     while head := source.whole(8, "the head of a block"):
         if head[:4] == SECTION:
@@ -131,7 +132,7 @@ def pcapng(source):
 
 
 def section(source, size=b""):
-    """The order of the bytes in a section that begins, whose first four bytes were taken."""
+    """Returns the byte order of a section whose first four bytes were read."""
     size, magic = size or source.rest(4, "a section"), source.rest(4, "a section")
     if magic not in ORDERS:
         raise source.failed(f"the section at byte {source.at - 12} has no order of bytes: the capture is damaged there")
@@ -143,7 +144,7 @@ def section(source, size=b""):
 
 
 def block(source, kind, body, order, interfaces):
-    """The frame of a block, if it has one; an interface is kept."""
+    """Returns the frame of a block, if it has one; keeps an interface."""
     try:
         if kind == INTERFACE:
             interfaces.append(interface(body, order))

@@ -1,4 +1,4 @@
-"""What the tests of tools/packets/run have in common."""
+"""Shared by the tests of tools/packets/run."""
 
 import importlib.util
 import io
@@ -21,7 +21,7 @@ def expect(name, is_so):
 
 
 def tool():
-    """The tool as a module, for what is cut out of captures."""
+    """Returns the tool as a module, for the packets of captures."""
     loader = SourceFileLoader("packets", f"{HERE}/run")
     module = importlib.util.module_from_spec(importlib.util.spec_from_loader("packets", loader))
     sys.modules["packets"] = module
@@ -38,7 +38,7 @@ TOOL = tool()
 
 
 def cut_out(capture, *words):
-    """What is cut out of a capture: of each packet its flow, number and bytes, or what is wrong; the time where it has one; and how it ends."""
+    """Returns the packets of a capture, each with its time, sequence number, bytes, gap and fault; and how the capture ends."""
     words = TOOL.words_of([*words, "--packet", "0"])
     payloads, found, ended = TOOL.Payloads(words.port), [], ""
     try:
@@ -51,18 +51,18 @@ def cut_out(capture, *words):
 
 
 def run(*words, stdin=b"", **more):
-    """A run of the tool: its status, standard output and standard error."""
+    """Runs the tool; returns its status, standard output and standard error."""
     ran = subprocess.run([sys.executable, f"{HERE}/run", *words], input=stdin, capture_output=True, env=MADE.environment(), **more)
     return ran.returncode, ran.stdout, ran.stderr.decode()
 
 
 def shown(templates, stream, *words):
-    """What `fastcat show` shows of a stream."""
+    """Returns the output of `fastcat show` for a stream."""
     return subprocess.run([FASTCAT, "show", *words, templates], input=stream, stdout=subprocess.PIPE).stdout
 
 
 class MADE:
-    """What the tests make: a folder, and the shared library in it."""
+    """The temporary folder of the tests, with the shared library."""
 
     folder = library = ""
 

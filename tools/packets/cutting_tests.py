@@ -1,4 +1,4 @@
-"""Tests of what is cut out of captures: files, links, networks, streams of TCP, preambles; and of captures that are damaged."""
+"""Tests of the packets of captures: files, links, networks, TCP streams, preambles; and of damaged captures."""
 
 import random
 
@@ -9,12 +9,12 @@ PAYLOADS = [bytes([it] * (it * 7 + 1)) for it in range(12)]
 
 
 def due(resolution=1):
-    """What is cut out of a capture of the payloads, whose times are in so many nanoseconds."""
+    """Returns the packets of a capture of the payloads, whose times have this resolution in nanoseconds."""
     return [(m.time_of(number) // resolution * resolution, None, it, 0, "") for number, it in enumerate(PAYLOADS)], ""
 
 
 def test_forms():
-    """Each form of a file, of a link and of a network gives the payloads."""
+    """Each form of a file, of a link and of a network yields the payloads."""
     packets = [m.ip(m.udp(it)) for it in PAYLOADS]
     sixes = [m.ip(m.udp(it, m.FROM_6, m.TO_6)) for it in PAYLOADS]
     frames = [m.ethernet(it) for it in packets]
@@ -38,7 +38,7 @@ def test_forms():
 
 
 def test_sections():
-    """A section has its own order of bytes and interfaces, with times by binary parts and an offset."""
+    """A section has its own byte order and interfaces, with times in binary fractions and an offset."""
     frame, raw = m.ethernet(m.ip(m.udp(b"one"))), m.ip(m.udp(b"two"))
     made = m.section("<") + m.interface("<", 1) + m.packet_block("<", frame, 5_000_001)
     made += m.section(">") + m.interface(">", 127) + m.interface(">", 101, 128 + 10, 100) + m.packet_block(">", raw, 1536, 6, 1)
@@ -48,7 +48,7 @@ def test_sections():
 
 
 def test_network():
-    """What is no payload is passed over and, where something is lost, counted; headers of IPv6 between, and what a capture cuts."""
+    """Frames without payload are skipped, and counted if something is lost; IPv6 headers in between, and truncated captures."""
     good = m.ethernet(m.ip(m.udp(b"good")))
     kept = [(m.time_of(1), None, b"good", 0, "")]
     six = m.udp(b"good", m.FROM_6, m.TO_6)
@@ -78,7 +78,7 @@ def test_network():
 
 
 def test_tcp():
-    """A stream comes in its order, once, and what is missing of it is said; numbers begin anew behind 2^32."""
+    """A stream is put in order, without duplicates, and its gaps are reported; sequence numbers wrap at 2^32."""
     def stream(*parts, **more):
         found, ended = cut_out(m.segments(*parts, **more))
         return [(data, gap) for _, _, data, gap, _ in found], ended
@@ -112,7 +112,7 @@ def test_tcp():
 
 
 def test_preambles():
-    """What stands in front of messages: bytes, sequence numbers in all forms, lengths, the ten bytes of B3."""
+    """Preambles: bytes, sequence numbers in all forms, lengths, the ten bytes of B3."""
     def cut(payloads, *words):
         return [(it[1], it[2], it[4]) for it in cut_out(m.pcap([m.ethernet(m.ip(m.udp(it))) for it in payloads]), *words)[0]]
 
@@ -143,7 +143,7 @@ def test_preambles():
 
 
 def test_b3():
-    """Messages in one chunk and in more, which may come in any order, and chunks that are missing."""
+    """Messages in one chunk and in several, which may come in any order, and missing chunks."""
     def head(number, many, which, data, length=None):
         numbers = (number, 4), (many, 2), (which, 2), (len(data) if length is None else length, 2)
         return b"".join(it.to_bytes(size, "big") for it, size in numbers) + data
@@ -171,7 +171,7 @@ def test_b3():
 
 
 def whole_of(capture, kind):
-    """A capture, and its records or blocks, as the places at which they end."""
+    """Returns a capture, and the offsets at which its records or blocks end."""
     at, ends = (24, [24]) if kind == "pcap" else (0, [0])
     while at < len(capture):
         at += 16 + int.from_bytes(capture[at + 8 : at + 12], "little") if kind == "pcap" else int.from_bytes(capture[at + 4 : at + 8], "little")
@@ -180,7 +180,7 @@ def whole_of(capture, kind):
 
 
 def test_cut():
-    """A capture that is cut at any byte gives the packets that are whole before that, and says where it ends."""
+    """A capture that is truncated at any byte yields the packets that are whole before it, and reports where it ends."""
     frames = [m.ethernet(m.ip(m.udp(it))) for it in PAYLOADS]
     for kind, capture in (("pcap", m.pcap(frames)), ("pcapng", m.pcapng(frames))):
         ends, all_found = whole_of(capture, kind), cut_out(capture)[0]
@@ -195,7 +195,7 @@ def test_cut():
 
 
 def test_damaged():
-    """Damaged captures are read as far as they go, by whatever words, or end with a line that says where."""
+    """Damaged captures are read as far as possible, with any arguments, or end with a line that says where."""
     chance = random.Random(20261129)
     frames = [m.ethernet(m.ip(m.udp(it)), (0x8100,)) for it in PAYLOADS] + [m.ethernet(m.ip(m.tcp(it, it[0] * 9))) for it in PAYLOADS]
     captures = (m.pcap(frames), m.pcapng(frames, 1, ">"), m.pcap([m.cooked_2(m.ip(m.udp(it, m.FROM_6, m.TO_6))) for it in PAYLOADS], 276, ">", False))

@@ -1,4 +1,4 @@
-"""What a frame carries: the payload of UDP, and of TCP in the order in which it was sent."""
+"""The payloads of frames: UDP datagrams, and TCP data in the order in which it was sent."""
 
 from __future__ import annotations
 
@@ -12,18 +12,19 @@ RAW = (12, 14, 101, 228, 229)
 IP, IP_6 = 0x0800, 0x86DD
 TAGS = (0x8100, 0x88A8, 0x9100)
 TCP, UDP = 6, 17
-# Headers of IPv6 between the first one and the payload: of hops, of routes, for the destination; of fragments.
+# IPv6 headers between the first one and the payload: hop-by-hop options, routing, destination options; and the fragment header.
 BETWEEN, FRAGMENT = (0, 43, 60), 44
 FIN, SYN, RST = 1, 2, 4
 
-# How much of a stream waits for what has not come, and how many streams are followed at a time.
+# The greatest number of bytes and of segments of a TCP stream that wait for a gap, and of streams that are followed at a time.
 WAITING, SEGMENTS = 1 << 20, 1024
 STREAMS = 1024
 
 
 @dataclass
 class Piece:
-    """Bytes that came: when, from and to where, how many there should be, and how many of a stream are missing in front of them."""
+    """Bytes that arrived: their time and flow, the number of bytes that were sent, and the number of bytes missing before them in a
+    stream."""
 
     time: int | None
     flow: tuple
@@ -44,13 +45,13 @@ def place(packed, port):
 
 
 def named(flow):
-    """A flow in words: where it goes to, and of a stream of TCP where it comes from too."""
+    """Returns the name of a flow: its destination, and for a TCP stream the source too."""
     of, source, source_port, to, port = flow
     return place(to, port) if of == UDP else f"{place(source, source_port)}>{place(to, port)}"
 
 
 class Payloads:
-    """Takes frames, and gives the payloads that they carry. What is passed over is counted."""
+    """Extracts the payloads of frames. It counts the frames that it skips."""
 
     def __init__(self, ports):
         self.ports, self.passed, self.streams = ports, {}, {}
@@ -59,7 +60,7 @@ class Payloads:
         self.passed[what] = self.passed.get(what, 0) + 1
 
     def of(self, frame):
-        """The pieces that are there with a frame."""
+        """Yields the pieces that are complete with a frame."""
         try:
             packet = self.network(frame)
             found = packet and self.transport(*packet)
@@ -78,12 +79,12 @@ class Payloads:
             yield from self.streams.setdefault(flow, Stream(flow)).take(frame.time, data, sent, *control)
 
     def last(self):
-        """What still waits when there are no more frames."""
+        """Yields the pieces that still wait after the last frame."""
         for stream in self.streams.values():
             yield from stream.flush(None)
 
     def network(self, frame):
-        """The IP packet of a frame, with its version, if it carries one."""
+        """Returns the IP packet of a frame, with its version, if there is one."""
         data, link = frame.data, frame.link
         if link in RAW:
             return self.ip(data)
@@ -100,7 +101,7 @@ class Payloads:
         return self.ip(data[behind:]) if kind in (IP, IP_6) else None
 
     def ip(self, data):
-        """What follows the IP header: protocol, addresses, the bytes that are there, and how many were sent."""
+        """Returns the content of an IP packet: protocol, addresses, the captured bytes, and the number of bytes that were sent."""
         if data[0] >> 4 == 4:
             length, cut, protocol = struct.unpack_from(">2xHxxHxB", data)
             head = (data[0] & 15) * 4
@@ -122,7 +123,7 @@ class Payloads:
         return following, data[8:24], data[24:40], data[at:end], end - at
 
     def transport(self, protocol, source, to, data, sent):
-        """The flow and the payload of a datagram or a segment, of which that is known, with sequence number and flags."""
+        """Returns the flow and the payload of a datagram or a segment, with sequence number and flags, as far as they are known."""
         if protocol == UDP:
             source_port, port, length = struct.unpack_from(">HHH2x", data)
             sent = max(min(sent, length or sent) - 8, 0)
@@ -135,13 +136,13 @@ class Payloads:
 
 
 class Stream:
-    """A stream of TCP in one direction: what comes next, and segments that came too soon."""
+    """A TCP stream in one direction: the next sequence number, and the segments that arrived too early."""
 
     def __init__(self, flow):
         self.flow, self.next, self.waiting, self.held = flow, None, {}, 0
 
     def take(self, time, data, sent, number, flags):
-        """A segment comes: the pieces that are in order with it."""
+        """Adds a segment, and yields the pieces that are in order with it."""
         if flags & SYN:
             yield from self.flush(time)
             self.next = number = (number + 1) & 0xFFFFFFFF
@@ -155,11 +156,11 @@ class Stream:
             yield from self.flush(time)
 
     def ahead(self, number):
-        """How far a number is in front of what comes next; negative where it has come."""
+        """Returns how far a sequence number is ahead of the next one; negative if it is past."""
         return ((number - self.next + 2**31) & 0xFFFFFFFF) - 2**31
 
     def place(self, time, data, sent, number):
-        """Gives a segment whose turn it is, with those that waited for it, or keeps it."""
+        """Yields a segment that is next, with those that waited for it; keeps one that is early."""
         ahead = self.ahead(number)
         if ahead > 0:
             kept = self.waiting.get(number)
@@ -177,7 +178,7 @@ class Stream:
         return Piece(time, self.flow, data, sent, True, gap)
 
     def ready(self):
-        """The segments whose turn it has become."""
+        """Yields the segments that have become next."""
         while self.waiting:
             number = self.next if self.next in self.waiting else min(self.waiting, key=self.ahead)
             ahead = self.ahead(number)
@@ -189,7 +190,7 @@ class Stream:
                 yield self.given(time, data[-ahead:], sent + ahead)
 
     def bridge(self):
-        """Goes on behind what is missing."""
+        """Skips a gap, and yields the segments after it."""
         number = min(self.waiting, key=self.ahead)
         time, data, sent = self.waiting.pop(number)
         self.held -= len(data)
@@ -197,7 +198,7 @@ class Stream:
         yield from self.ready()
 
     def flush(self, time):
-        """The stream ends, or begins anew: all that waits, with the gaps."""
+        """Ends the stream, or restarts it: yields all segments that wait, with the gaps."""
         while self.waiting:
             yield from self.bridge()
         if self.next is not None:

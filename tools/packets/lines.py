@@ -1,4 +1,4 @@
-"""The lines of events, as `fastcat show` writes them."""
+"""The lines of events, as `fastcat show` prints them."""
 
 import talvrugon
 
@@ -10,18 +10,18 @@ PLAIN = {
     talvrugon.MESSAGE_END: b"end message\n",
 }
 LETTERS = {talvrugon.UNSIGNED: "u", talvrugon.SIGNED: "i", talvrugon.DECIMAL: "d", talvrugon.ASCII: "a", talvrugon.UNICODE: "s", talvrugon.BYTES: "b"}
-# What stands in a line for a byte of a text.
+# How a line writes each byte of a string.
 ESCAPES = [b"\\x%02x" % it if it < 0x20 or it == 0x7F else (b"\\" if it in b'"\\' else b"") + bytes([it]) for it in range(256)]
 
 
 class Lines:
-    """Writes lines by the names of a set."""
+    """Writes lines with the names of a set."""
 
     def __init__(self, names):
         self.names, self.fronts = names, {}
 
     def front(self, kind, node):
-        """What a line begins with, made once for each kind and node."""
+        """Returns the start of a line, made once for each type and node."""
         if (kind, node) not in self.fronts:
             if kind == talvrugon.MESSAGE_START:
                 words = f"message {self.names.template_name(node)}\n"
@@ -33,7 +33,7 @@ class Lines:
         return self.fronts[kind, node]
 
     def line(self, kind, node, value):
-        """The line of an event."""
+        """Returns the line of an event."""
         if kind in PLAIN:
             return PLAIN[kind]
         front = self.front(kind, node)

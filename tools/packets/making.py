@@ -15,7 +15,7 @@ FROM_6, TO_6 = ("fd00::1", 30001), ("ff15::7", 30002)
 
 
 def time_of(number):
-    """When a packet is captured, in nanoseconds."""
+    """Returns the time of a packet, in nanoseconds."""
     return BEGUN + number * STEP
 
 
@@ -33,7 +33,7 @@ def tcp(payload, number, source=FROM, to=TO, flags=16, options=b""):
 
 
 def ip(segment, cut=0, length=None):
-    """An IPv4 or IPv6 packet, by its addresses; `cut` is the field of flags and offset of a fragment."""
+    """Returns an IPv4 or IPv6 packet, by its addresses; `cut` is the field of flags and offset of a fragment."""
     protocol, source, to, data = segment
     if len(packed(source)) == 16:
         return struct.pack(">IHBB", 6 << 28, len(data) if length is None else length, protocol, 64) + packed(source) + packed(to) + data
@@ -46,7 +46,7 @@ def kind_of(packet):
 
 
 def ethernet(packet, tags=()):
-    """A frame with tags of VLANs, filled up to 60 bytes."""
+    """Returns a frame with VLAN tags, padded to 60 bytes."""
     head = bytes(12) + b"".join(struct.pack(">HH", tag, 7) for tag in tags)
     return (head + struct.pack(">H", kind_of(packet)) + packet).ljust(60, b"\xaa")
 
@@ -62,7 +62,7 @@ def cooked_2(packet, tags=()):
 
 
 def pcap(frames, link=1, order="<", nanoseconds=True, most=None):
-    """A pcap of frames, each captured up to `most` bytes."""
+    """Returns a pcap of frames, each captured up to `most` bytes."""
     units = 1 if nanoseconds else 1000
     made = [struct.pack(order + "IHHiIII", 0xA1B23C4D if nanoseconds else 0xA1B2C3D4, 2, 4, 0, 0, most or 262144, link)]
     for number, frame in enumerate(frames):
@@ -94,7 +94,8 @@ def packet_block(order, frame, time, kind=6, which=0):
 
 
 def pcapng(frames, link=1, order="<", resolution=9, kind=6):
-    """A pcapng of frames, with blocks of other kinds between them. `resolution` is that of its times: decimal digits, or from 128 on bits."""
+    """Returns a pcapng of frames, with blocks of other types between them. `resolution` is that of its times: decimal digits, or from 128
+    on bits."""
     units = 2 ** (resolution - 128) if resolution >= 128 else 10**resolution
     made = section(order) + interface(order, link, resolution) + block(order, 4, b"names of addresses")
     for number, frame in enumerate(frames):
@@ -107,7 +108,8 @@ def pcapng(frames, link=1, order="<", resolution=9, kind=6):
 
 
 def segments(*parts, begun=2**32 - 5, flags=None):
-    """A capture of segments of TCP, each an offset in the stream and its bytes; `flags` are those of some by their number."""
+    """Returns a capture of TCP segments, each an offset in the stream and its bytes; `flags` are those of some segments, by their
+    number."""
     kinds = flags or {}
     return pcap([ethernet(ip(tcp(data, begun + at, flags=kinds.get(it, 16)))) for it, (at, data) in enumerate(parts)])
 

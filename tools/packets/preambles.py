@@ -1,21 +1,22 @@
-"""What exchanges put in front of messages: lengths, sequence numbers, chunks."""
+"""Preambles: the lengths, sequence numbers and chunk headers that exchanges put before messages."""
 
 from __future__ import annotations
 
 import re
 from dataclasses import dataclass, field
 
-# The most that is gathered of one packet.
+# The greatest number of bytes that are kept for one packet.
 MOST = 1 << 20
-# How many flows have chunks that wait.
+# The greatest number of flows with incomplete chunks.
 FLOWS = 1024
-# In front of B3's messages: the number, how many chunks it has, which one this is, from 1, and how many bytes are behind it.
+# The header of B3's messages has the sequence number, the number of chunks, the number of this one, from 1, and the number of bytes after
+# it.
 B3_HEAD = 10
 
 
 @dataclass
 class Packet:
-    """Bytes of messages, and what is said of them: what was missing in front, the sequence number, and what is wrong."""
+    """The bytes of messages, with the gap before them, the sequence number, and what is wrong."""
 
     time: int | None
     flow: tuple
@@ -29,7 +30,7 @@ class Packet:
 
 @dataclass
 class Chunks:
-    """A message of B3 that comes in chunks: those that are there, and how many bytes they have."""
+    """A message of B3 in chunks: those that have arrived, and their total size."""
 
     number: int
     many: int
@@ -37,14 +38,14 @@ class Chunks:
     size: int = 0
 
     def is_whole_with(self, which, data):
-        """Keeps a chunk, and returns whether the message is whole with it."""
+        """Keeps a chunk, and returns whether the message is complete with it."""
         if which not in self.found:
             self.found[which], self.size = data, self.size + len(data)
         return len(self.found) == self.many
 
 
 def number_in(text):
-    """How a number is written, such as be4: the order of its bytes and how many there are."""
+    """Parses the form of a number, such as be4: its byte order and its size."""
     found = re.fullmatch(r"(be|le)([1-8])", text)
     if not found:
         raise ValueError
@@ -53,7 +54,7 @@ def number_in(text):
 
 @dataclass
 class Preamble:
-    """What stands in front of messages: a length, bytes of which the first are a sequence number, or the head of B3."""
+    """The preamble of packets: a length, bytes that begin with a sequence number, or the header of B3."""
 
     length: tuple | None = None
     skip: int = 0
@@ -62,7 +63,7 @@ class Preamble:
     kept: dict = field(default_factory=dict)
 
     def packets(self, piece):
-        """The packets that are whole with a piece."""
+        """Yields the packets that are complete with a piece."""
         if not self.length:
             yield from self.bare(piece)
             return
@@ -77,18 +78,18 @@ class Preamble:
             self.kept.pop(piece.flow, None)
 
     def unfinished(self, piece):
-        """A gap comes: what has begun is not ended any more."""
+        """Drops the incomplete packet before a gap, and yields the gap."""
         kept = self.kept.pop(piece.flow, b"")
         wrong = f"damaged length {self.due(kept)} of {len(kept)}" if kept else ""
         yield Packet(piece.time, piece.flow, gap=piece.gap, wrong=wrong)
 
     def due(self, kept):
-        """How many bytes a packet has with its length, or the length has."""
+        """Returns the size of a packet with its length field, or that of the length field alone."""
         order, size = self.length
         return size if len(kept) < size else size + int.from_bytes(kept[:size], order)
 
     def framed(self, piece, kept):
-        """Takes the packets that are whole from what is kept."""
+        """Yields the complete packets of the buffered bytes."""
         order, size = self.length
         while len(kept) >= size and self.due(kept) <= min(len(kept), MOST):
             due = self.due(kept)
@@ -104,7 +105,7 @@ class Preamble:
         return Packet(piece.time, piece.flow, wrong=wrong)
 
     def bare(self, piece):
-        """The packet of a piece without a length."""
+        """Yields the packet of a piece without a length."""
         is_cut = f"cut {len(piece.data)} of {piece.sent}" if len(piece.data) < piece.sent else ""
         if piece.ends:
             yield Packet(piece.time, piece.flow, ends=True)
@@ -117,14 +118,14 @@ class Preamble:
         yield it
 
     def headed(self, piece, data):
-        """A packet without its preamble, whose first bytes may be a sequence number."""
+        """Returns a packet without its preamble, the first bytes of which may be a sequence number."""
         if len(data) < self.skip:
             return Packet(piece.time, piece.flow, wrong=f"damaged preamble {len(data)} of {self.skip}")
         number = int.from_bytes(data[: self.sequence[1]], self.sequence[0]) if self.sequence else None
         return Packet(piece.time, piece.flow, data[self.skip :], number)
 
     def chunks(self, piece, is_cut):
-        """The message of which this is the last chunk; a message whose chunks are not all there is named."""
+        """Yields the message that this chunk completes; reports a message with missing chunks."""
         head, data = piece.data[:B3_HEAD], piece.data[B3_HEAD:]
         if len(head) < B3_HEAD:
             yield Packet(piece.time, piece.flow, wrong=is_cut or f"damaged preamble {len(head)} of {B3_HEAD}")
@@ -149,11 +150,11 @@ class Preamble:
             yield self.without_chunks(piece, piece.flow)
 
     def without_chunks(self, piece, flow):
-        """A message of a flow that will not be whole."""
+        """Returns the report of an incomplete message of a flow."""
         kept = self.kept.pop(flow)
         return Packet(piece and piece.time, flow, sequence=kept.number, wrong=f"damaged chunks {len(kept.found)} of {kept.many}")
 
     def last(self):
-        """What was not whole when there are no more pieces."""
+        """Yields the incomplete messages after the last piece."""
         for flow in list(self.kept) if self.is_b3 else ():
             yield self.without_chunks(None, flow)

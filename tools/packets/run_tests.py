@@ -1,4 +1,4 @@
-"""Tests of whole runs: words, statuses, what is said, long captures, a terminal; and the commands of docs/FEEDS.md."""
+"""Tests of whole runs: arguments, statuses, messages, long captures, a terminal; and the commands of docs/FEEDS.md."""
 
 import gzip
 import os
@@ -20,7 +20,7 @@ ALWAYS = ("--reset", "always")
 
 
 def test_statuses():
-    """What cannot be done is one line that says what to do, with its status, and nothing is written."""
+    """A run that fails prints one line that says what to do, has the status of the failure, and writes nothing."""
     frame = m.ethernet(m.ip(m.udp(b"")))
     made = {
         name: MADE.file(name, data)
@@ -55,7 +55,7 @@ def test_statuses():
 
 
 def test_words():
-    """A mistake in the words is told, with status 2."""
+    """A usage error is reported, with status 2."""
     mistakes = [(), ("--packet", "x"), (FEED, CAPTURE), ALWAYS, ("--packet", "0", FEED, CAPTURE), (*ALWAYS, FEED, CAPTURE, "x"), ("--skip", "-1")]
     for words in (("--sequence", "be9"), ("--length", "4"), ("--b3", "--skip", "2"), ("--reset", "maybe")):
         mistakes.append((*ALWAYS, *words, FEED, CAPTURE))
@@ -73,7 +73,7 @@ def full_device():
 
 
 def test_cut_capture():
-    """What stands before the place where a capture is cut is shown."""
+    """The packets before the end of a truncated capture are shown."""
     whole = run(*ALWAYS, "--skip", "5", FEED, stdin=content(CAPTURE))
     cut = run(*ALWAYS, "--skip", "5", FEED, stdin=content(CAPTURE)[:-3])
     said = r"packets: -: it ends at byte \d+, inside a record at byte \d+: it was cut, capture or copy it again\n"
@@ -82,7 +82,7 @@ def test_cut_capture():
 
 
 def fed(pieces, *words, **more):
-    """A run whose standard input comes piece by piece: its status, and the most memory that it took, in KiB."""
+    """Runs the tool with standard input piece by piece; returns its status, and its peak memory in KiB."""
     ran = subprocess.Popen([sys.executable, f"{HERE}/run", *words], stdin=subprocess.PIPE, env=MADE.environment(), **more)
 
     def write():
@@ -99,7 +99,7 @@ def fed(pieces, *words, **more):
 
 
 def test_long():
-    """A capture of any length takes the same memory: of UDP, of TCP with a segment that never comes, and in blocks of pcapng that are passed over."""
+    """Captures of any length take the same memory: UDP, TCP with a segment that never arrives, and pcapng with blocks that are skipped."""
     most = []
     many = m.pcap([m.ethernet(m.ip(m.udp(bytes(1400))))] * 100)[24:]
     segment = b"".join(m.pcap([m.ethernet(m.ip(m.tcp(bytes(1400), 1400 * it)))])[24:] for it in range(1, 2000))
@@ -116,7 +116,7 @@ def test_long():
 
 
 def slowly(frames, out):
-    """A capture whose second half comes a second after the first was shown."""
+    """Writes a capture whose second half follows one second after the first was shown."""
     yield m.pcap([]) + frames
     for _ in range(3000):
         if os.pread(out.fileno(), 1 << 20, 0).count(b"packet ") >= 1024:
@@ -127,7 +127,7 @@ def slowly(frames, out):
 
 
 def test_terminal():
-    """How far a long capture is, is said on a terminal, once it has taken a second; what is shown is the same."""
+    """The progress of a long capture is printed on a terminal after one second; the output is the same."""
     frames = m.pcap([m.ethernet(m.ip(m.udp(b"")))] * 1024)[24:]
     for is_terminal, form in ((True, rb"(\r\x1b\[K(1024|2048) packets, 0 MiB){1,2}\r\x1b\[K"), (False, b"")):
         ours, theirs = pty.openpty() if is_terminal else os.pipe()
@@ -141,7 +141,7 @@ def test_terminal():
 
 
 def blocks_of(page):
-    """The commands of a page, each with the lines that it has to write; `..` is any lines."""
+    """Returns the commands of a page, each with its expected lines; `..` stands for any lines."""
     found = []
     for line in content(page).decode().splitlines():
         if found and found[-1][0].endswith("\\"):
@@ -158,7 +158,7 @@ def blocks_of(page):
 
 
 def test_page():
-    """The commands of docs/FEEDS.md write what the page says."""
+    """The commands of docs/FEEDS.md print what the page says."""
     commands = blocks_of(f"{TOP}/docs/FEEDS.md")
     with tempfile.TemporaryDirectory() as folder:
         for name in ("tools", "examples", "docs"):

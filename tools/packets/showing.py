@@ -1,4 +1,4 @@
-"""Packets as lines, through the library."""
+"""Packets as lines, decoded by the library."""
 
 from __future__ import annotations
 
@@ -16,14 +16,14 @@ from lines import Lines
 
 LIBRARY = f"{TOP}/crates/fast_c/out/libfast_c.so"
 SECOND = 10**9
-# How many streams have a decoder at a time.
+# The greatest number of flows that have a decoder at a time.
 DECODERS = 256
 # The status of a packet that ends inside a message.
 TRUNCATED = 6
 
 
 def library(path):
-    """The shared library of a path; where there is none, or one of another build, how to make it."""
+    """Returns the shared library at a path; if there is none, or one of another build, the error says how to make it."""
     path = os.path.relpath(path or os.environ.get("FAST_LIBRARY") or LIBRARY)
     tool = os.path.relpath(f"{TOP}/tools/library")
     if not os.path.exists(path):
@@ -35,7 +35,7 @@ def library(path):
 
 
 def template_set(of, path):
-    """The template set of a file."""
+    """Reads the template set of a file."""
     try:
         with open(path, "rb") as it:
             text = it.read(16 * 1024 * 1024 + 1)
@@ -52,7 +52,7 @@ def template_set(of, path):
 
 
 def when(time):
-    """A time in words, in nanoseconds; of packets without one a dash."""
+    """Returns a time, given in nanoseconds, as text; a dash for a packet without one."""
     if time is None:
         return "-"
     seconds, parts = divmod(time, SECOND)
@@ -64,7 +64,7 @@ def when(time):
 
 
 class Shown:
-    """Shows packets: a line for each, what its messages come to, and what is wrong with it."""
+    """Shows packets: a line for each, the lines of its messages, and what is wrong with it."""
 
     def __init__(self, words):
         self.names = template_set(library(words.library), words.files[0])
@@ -73,7 +73,7 @@ class Shown:
         self.decoder(None)
 
     def decoder(self, flow):
-        """The decoder of a flow, or of all where each packet begins anew; of too many the oldest is closed."""
+        """Returns the decoder of a flow, or the one decoder if each packet starts afresh; closes the oldest if there are too many."""
         flow = None if self.is_afresh else flow
         if flow not in self.decoders:
             if len(self.decoders) >= DECODERS:
@@ -89,7 +89,7 @@ class Shown:
         return f"{words}\n".encode()
 
     def texts(self, number, packet):
-        """What is written of a packet, line by line."""
+        """Yields the output of a packet, line by line."""
         sequence = "-" if packet.sequence is None else packet.sequence
         yield f"packet {number} {when(packet.time)} {named(packet.flow)} {sequence}\n".encode()
         decoder = self.decoder(packet.flow)
@@ -101,7 +101,7 @@ class Shown:
             yield self.wrong(packet.wrong)
 
     def decoded(self, decoder, packet):
-        """The events of a packet's messages, and the fault after them, if there is one. A packet of a stream may end anywhere."""
+        """Returns the events of a packet's messages, and the fault after them, if there is one. A packet of a stream may end anywhere."""
         goes_on = packet.is_stream and not self.is_afresh
         try:
             return decoder.feed(packet.data) if goes_on else decoder.packet(packet.data, afresh=self.is_afresh), None
@@ -109,7 +109,7 @@ class Shown:
             return error.events, error
 
     def messages(self, decoder, packet):
-        """The lines of a packet's messages, and after them that of a fault or of a cut."""
+        """Yields the lines of a packet's messages, and then that of a fault or a truncation."""
         begun = 0 if packet.is_stream or self.is_afresh else decoder.consumed
         events, fault = self.decoded(decoder, packet)
         for event in events:
@@ -122,7 +122,7 @@ class Shown:
             yield self.wrong(f"{what} at {fault.place - begun}")
 
     def end(self, packet):
-        """What is written where a stream ends: nothing, but where that is inside a message."""
+        """Returns the output at the end of a stream: nothing, unless that is inside a message."""
         decoder = None if self.is_afresh else self.decoders.pop(packet.flow, None)
         if not decoder:
             return b""

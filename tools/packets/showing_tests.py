@@ -1,4 +1,4 @@
-"""Tests of what is shown of packets, beside what `fastcat show` shows of the same bytes."""
+"""Tests of the output for packets, compared with that of `fastcat show` for the same bytes."""
 
 import random
 import re
@@ -12,14 +12,14 @@ EXAMPLES = ("trades", "increments", "snapshots")
 
 
 def example(name):
-    """The template text of an example, its messages, and the lines of each."""
+    """Returns the template file of an example, its messages, and the lines of each."""
     folder = f"{TOP}/examples/{name}"
     lines = re.findall(r"message .*?\nend message\n", content(f"{folder}/stream.lines").decode(), re.S)
     return f"{folder}/templates.toml", [bytes.fromhex(it) for it in content(f"{folder}/stream.hex").decode().split()], lines
 
 
 def headed(lines, flow="239.1.2.3:30002", sequence="-", step=1):
-    """The lines of packets, each after its head; times are in so many nanoseconds."""
+    """Returns the lines of packets, each after its header line."""
     made = []
     for number, it in enumerate(lines):
         seconds, parts = divmod(m.time_of(number) // step * step, 10**9)
@@ -29,7 +29,7 @@ def headed(lines, flow="239.1.2.3:30002", sequence="-", step=1):
 
 
 def test_shows():
-    """A message a packet, whose dictionary goes on, gives the lines of `fastcat show`, in datagrams and in a stream."""
+    """Packets of one message each, whose dictionary continues, have the lines of `fastcat show`, in datagrams and in a stream."""
     for name in EXAMPLES:
         templates, messages, lines = example(name)
         all_lines = shown(templates, b"".join(messages))
@@ -48,17 +48,18 @@ def test_shows():
 
 
 def payloads():
-    """The messages of each packet of the example, without the five bytes in front of them."""
+    """Returns the messages of each packet of the example, without the five bytes before them."""
     return [bytes.fromhex(it)[5:] for it in content(f"{TOP}/examples/packets/packets.hex").decode().splitlines()]
 
 
 def packets_of(out):
-    """The lines of each packet, without its head."""
+    """Returns the lines of each packet, without its header line."""
     return [it.partition(b"\n")[2] for it in re.split(rb"^(?=packet )", out, flags=re.M)[1:]]
 
 
 def test_faults():
-    """Of packets that begin anew, some damaged, each shows what `fastcat show` shows of its bytes, and so do those after it."""
+    """Each packet that starts afresh, damaged or not, has the lines that `fastcat show` prints for its bytes, and so have those after
+    it."""
     templates = f"{TOP}/examples/packets/templates.toml"
     heads = [it for it in payloads() if shown(templates, it).endswith(b"end message\n")]
     chance, damaged = random.Random(20261129), []
@@ -80,7 +81,7 @@ def test_faults():
 
 
 def test_goes_on():
-    """Where the dictionary goes on, a packet at fault ends it; each flow has one of its own, and a gap ends that of a stream."""
+    """A packet with a fault ends a dictionary that continues; each flow has its own, and a gap ends that of a stream."""
     templates, messages, lines = example("increments")
     other = ("239.1.2.4", 30002)
     frames = [m.ethernet(m.ip(m.udp(it, to=to))) for it in messages[:40] for to in (m.TO, other)]
@@ -100,7 +101,7 @@ def test_goes_on():
 
 
 def test_wrong():
-    """What is wrong with a packet itself comes after the lines of what there is of it."""
+    """The fault of a packet itself follows the lines of its bytes."""
     templates, first = f"{TOP}/examples/packets/templates.toml", payloads()[0]
     whole, frame = shown(templates, first), m.ethernet(m.ip(m.udp(first)))
     cut = run("--reset", "always", templates, stdin=m.pcap([frame], most=52))
@@ -114,14 +115,14 @@ def test_wrong():
 
 
 def test_large():
-    """A packet of more events than the library gives at once begins anew once."""
+    """A packet of more events than the library returns in one call starts afresh once."""
     templates, sent = f"{TOP}/examples/packets/templates.toml", bytes.fromhex("c0018581") + b"\x80\x81" * 30000
     out = run("--reset", "always", templates, stdin=m.pcap([m.ethernet(m.ip(m.udp(sent)))]))
     expect("a large packet", out[0] == 0 and packets_of(out[1]) == [shown(templates, sent)] and out[1].count(b"end message\n") == 30001)
 
 
 def test_texts():
-    """All characters of a text, and all bytes of a byte vector, are written as fastcat writes them."""
+    """All characters of a string, and all bytes of a byte vector, are written as fastcat writes them."""
     templates, text = f"{TOP}/examples/packets/templates.toml", bytes(range(128)) + "é€𝄞".encode()
     sent = b"".join((bytes.fromhex("c09f07f10153bd"), bytes([len(text) + 1 >> 7, len(text) + 1 & 127 | 128]), text, b"\x02\x81", bytes(range(256))))
     out = run("--reset", "always", templates, stdin=m.pcap([m.ethernet(m.ip(m.udp(sent)))]))
@@ -129,9 +130,9 @@ def test_texts():
 
 
 def test_limits():
-    """Limits and the strict mode are those of fastcat."""
+    """Limits and strict mode are those of fastcat."""
     templates = f"{TOP}/examples/packets/templates.toml"
-    # two of whose elements, of a text of 17 bytes, and of an integer with a byte too many
+    # of two elements, of a string of 17 bytes, and of an integer with one byte too many
     sent = [payloads()[4], bytes.fromhex(f"c09f07f10153bd92{'41' * 17}80"), bytes.fromhex("c001850007ef")]
     capture = m.pcap([m.ethernet(m.ip(m.udp(it))) for it in sent])
     faults = {(): None, ("--max-elements", "1"): b"L2", ("--max-total", "1"): b"L5", ("--max-text", "16"): b"L1", ("--strict",): b"R6"}
@@ -142,7 +143,8 @@ def test_limits():
 
 
 def test_example():
-    """The capture of the example is what the script makes of its packets, and shows as its lines; each packet as `fastcat show` shows it."""
+    """The capture of the example is what the script makes from its packets, and has its lines; each packet is shown as by `fastcat
+    show`."""
     folder = f"{TOP}/examples/packets"
     made = subprocess.run([f"{HERE}/making.py", f"{folder}/packets.hex"], stdout=subprocess.PIPE).stdout
     expect("the example's capture", made == content(f"{folder}/capture.pcap"))
