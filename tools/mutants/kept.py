@@ -1,4 +1,4 @@
-"""What runs on this machine came to, kept beside the kit by the checksums of all that they read, as rt ci keeps its own."""
+"""Results of earlier runs on this machine, stored in the kit's cache by the checksums of all that they read, as those of rt ci are."""
 
 import contextlib
 import hashlib
@@ -9,7 +9,7 @@ PARTS = ("src", "specs", "proofs")
 
 
 def add_files(sum, folder, is_whole):
-    """Adds the files below a folder to a sum: their texts, or else their sizes and times."""
+    """Adds the files of a folder to a checksum: their contents, or only their sizes and times."""
     for at, folders, files in os.walk(folder):
         folders.sort()
         for name in sorted(files):
@@ -23,7 +23,7 @@ def add_files(sum, folder, is_whole):
 
 
 def sum_of(kit, crate, rows, tool):
-    """Returns a sum of all that the mutants of a crate are judged by: this tool, the kit, the crate, and what it stands on."""
+    """Returns a checksum of all that the results of a crate's mutants depend on: this tool, the kit, the crate, and its dependencies."""
     sum = hashlib.sha256()
     for part in ("bin", "logic_built", "rlibs"):
         add_files(sum, f"{kit}/{part}", False)
@@ -48,7 +48,7 @@ def refused(kit, sum):
 
 
 def keep(kit, sum, said):
-    """Keeps that a run refused all mutants of this sum, where there is such a place."""
+    """Stores that a run refused all mutants of this checksum, if the cache exists."""
     at = os.path.dirname(place(kit, sum))
     with contextlib.suppress(OSError):
         os.makedirs(at, 0o700, exist_ok=True)

@@ -1,8 +1,9 @@
-"""The record in the repository of the controls that held: for each crate a checksum of all that these were judged by.
+"""The record in the repository of the controls that held: for each crate a checksum of all that they depend on.
 
-A control is a function as it is, tried as its mutants are. It says nothing of a mutant: only that nothing of how mutants are tried leaves a
-goal open by itself. So one that held need not be tried again as long as nothing changes that it was judged by, on whatever machine. The kit is no
-part of that: that a kit proves the function is what rt ci shows, and that it judges copies as it should, tools/mutants/selftest.
+A control is a copy of an unchanged function, tried as its mutants are. It shows nothing about a mutant: only that the way in which mutants
+are tried leaves no goal open by itself. So a control that held need not be tried again, on any machine, as long as its inputs are
+unchanged. The kit is not one of them: rt ci shows that a kit proves the function, and tools/mutants/selftest that it judges copies
+correctly.
 """
 
 import functools
@@ -16,7 +17,7 @@ HEAD = (
     "# Written by tools/mutants/run --record: of each crate, what the controls of its mutants were judged by when they held; and by\n"
     "# tools/mutants/selftest --record: the tool and the kit by which all of its test held.\n"
 )
-# What a control depends on of this tool: not what is kept of earlier runs.
+# The files of this tool that a control depends on; the cache of earlier runs is not one of them.
 TOOL = ("record.py", "run", "sources.py")
 
 
@@ -34,15 +35,15 @@ def lines_of(tool):
 
 
 def write(tool, name, sum):
-    """Writes the line of a crate, or removes it where there is no checksum."""
+    """Writes the line of a crate, or removes it if there is no checksum."""
     lines = {it: own for it, own in {**lines_of(tool), name: sum}.items() if own}
     with open(place(tool), "w", encoding="utf-8") as it:
         it.write(HEAD + "".join(f"{name} {lines[name]}\n" for name in sorted(lines)))
 
 
 def sum_of(crate, rows, tool, tried):
-    """Returns a checksum of all that the controls of a crate are judged by: this tool, the crate, what others can see of the crates below it,
-    and which functions are tried, and how."""
+    """Returns a checksum of all that the controls of a crate depend on: this tool, the crate, the parts of its dependencies that others can
+    see, and which functions are tried, and how."""
     sum = hashlib.sha256()
     for name in TOOL:
         with open(f"{tool}/{name}", "rb") as it:
@@ -59,8 +60,8 @@ def sum_of(crate, rows, tool, tried):
 
 @functools.cache
 def seen_of(folder):
-    """Returns a checksum of what others can see of a crate: its specs, its lemmas, and its code without the bodies that only their own
-    proofs read. Those of constants, of traits and of what the compiler evaluates stay."""
+    """Returns a checksum of the parts of a crate that others can see: its specs, its lemmas, and its code without the bodies that only
+    their own proofs read. Bodies of constants, of traits and of functions that the compiler evaluates stay."""
     sum, texts = hashlib.sha256(), {}
     for part in PARTS:
         for at, _, files in os.walk(f"{folder}/{part}"):
@@ -71,7 +72,7 @@ def seen_of(folder):
     code = {file: text for file, text in texts.items() if file.endswith(".rt")}
     texts |= without_bodies(os.path.basename(folder), code, ())[0]
     for file, text in sorted(texts.items()):
-        # (how many lines a body has is no part of it)
+        # (the number of lines of a body does not count)
         bare = text if file not in code else "\n".join(line for line in text.split("\n") if line.strip())
         sum.update(repr((file, bare)).encode())
     return sum.hexdigest()

@@ -1,12 +1,12 @@
-"""What the texts of crates.txt, of edits and of crates say: the functions of a crate, told by the layout of its files, and the crate without
-the bodies of some."""
+"""Parses crates.txt, edits and crates: finds the functions of a crate by the layout of its files, and makes the crate without the bodies of
+some of them."""
 
 import os
 import re
 from dataclasses import dataclass, replace
 
 TYPE = re.compile(r"(?m)^(?:pub(?:\(.*?\))? )?(?:struct|enum) (\w+)")
-# What a function with a body of its own has in its folder of proofs/, beside files of lemmas.
+# The files of a function with its own body in its folder of proofs/, besides files of lemmas.
 PROOF_FILES = ("Answers.antt", "Invariants.antt", "Proof.antt")
 HOLE = """use Rattle.{crate}.proofs.{folder}.Statement.{{statement}}
 use Rattle.{crate}.proofs.Unshown.{{unshown}}
@@ -14,7 +14,7 @@ use Rattle.{crate}.proofs.Unshown.{{unshown}}
 pub {name}_spec : {{M : Type 1}} → statement M
 {name}_spec = unshown
 """
-# The one hole that stands for all proofs: a check prints what a hole is to show, which takes it some 0.3 s for each statement.
+# The one hole that replaces all proofs: a check prints the statement of a hole, which takes some 0.3 s for each statement.
 UNSHOWN = """pub unshown : {A : Type 2} → A
 unshown = ?
 """
@@ -23,9 +23,9 @@ UNOFFERED = """
 pub {name} : {name}-goal
 {name} = ?
 """
-# What a declaration in a file of answers begins with.
+# The start of a declaration in a file of answers.
 DECLARED = re.compile(r"(?:pub |abbrev )*(\S+) : ")
-# What a check tries for a goal without an answer, one after the other.
+# The attempts of a check for a goal without an answer, in order.
 TRIED = """
 pub {goal} : {goals}.{goal}
 {goal} c = first_of (
@@ -44,7 +44,7 @@ TRIED_BY = {
 
 
 def rows_of(file):
-    """Returns the crates of crates.txt, each with what it stands on."""
+    """Returns the crates of crates.txt, each with its dependencies."""
     rows = {}
     with open(file, encoding="utf-8") as it:
         for line in it:
@@ -69,7 +69,7 @@ def pairs_of(text):
 
 
 def goal_of(text):
-    """Returns the goal of its function that an edit names as one that it leaves open, or an empty text."""
+    """Returns the goal of its function that an edit names as one that it leaves open, or an empty string."""
     return next((line[len("goal: ") :].strip() for line in text.split("\n") if line.startswith("goal: ")), "")
 
 
@@ -90,14 +90,14 @@ class Function:
 
     @property
     def owned(self):
-        """The end of the path that a proof's folder has too: that of a method has its type's module, wherever the method stands."""
+        """The end of the path, which a proof's folder shares: for a method it has the module of its type, wherever the method is."""
         parts = self.path.split("::")
         return "::".join(parts[-2:] if len(parts) > 2 else parts[-1:])
 
 
 def functions_of(crate, file, text):
-    """Returns the functions with a body in a file that is in rt fmt's layout, where heads and closing braces stand at one indentation. A
-    function begins with its attributes, where a check says of goals that they are open."""
+    """Returns the functions with a body in a file that is formatted by rt fmt, where heads and closing braces have the same indentation. A
+    function begins with its attributes, where a check reports its open goals."""
     module = file.removeprefix("src/").removesuffix(".rt")
     module = "" if module in ("lib", "main") else module.removesuffix("/mod").replace("/", "::") + "::"
     found, owner, cycle, head, above = [], "", "", None, 0
@@ -134,7 +134,7 @@ def module_of(file):
 
 
 def modules_in(texts):
-    """Returns the modules that declare types, by the names of these."""
+    """Returns the modules that declare types, by the names of the types."""
     found = {}
     for file, text in texts.items():
         for it in TYPE.finditer(text):
@@ -143,8 +143,8 @@ def modules_in(texts):
 
 
 def proof_folder(fn, modules_of_types):
-    """Returns the folder of a function's proof below proofs/, or None where it is not told by its path: a method of a trait's impl, or of a
-    type whose name the crate has twice."""
+    """Returns the folder of a function's proof below proofs/, or None if its path does not determine it: a method of a trait's impl, or of
+    a type whose name the crate has twice."""
     names = fn.path.split("::")[1:]
     module = [it for it in module_of(fn.file).split("::") if it]
     own = names[len(module) :]
@@ -155,11 +155,12 @@ def proof_folder(fn, modules_of_types):
 
 
 def without_bodies(crate, texts, kept):
-    """Returns the texts of a crate's files in which only the kept functions have bodies, and the folders of the other functions' proofs,
-    with their names.
+    """Returns the files of a crate in which only the kept functions have bodies, and the folders of the other functions' proofs, with their
+    names.
 
-    A function with its body stays where its proof's folder is not known, as does a cycle of calls with a kept member, or whose
-    members do not all go."""
+    A function keeps its body if the folder of its proof is not known; so does a cycle of calls with a kept member, or whose members cannot
+    all lose theirs.
+    """
     modules_of_types = modules_in(texts)
     functions = {file: functions_of(crate, file, text) for file, text in texts.items()}
     every = [fn for found in functions.values() for fn in found]
@@ -175,7 +176,7 @@ def without_bodies(crate, texts, kept):
             for number in range(fn.first - 1, opens):
                 if re.match(r"\s*#\[(cycle|tactic)\(", lines[number]):
                     lines[number] = ""
-            # (a line for a line, so that a note's place is that of the crate's own text)
+            # (line for line, so that the position in a message is that of the crate's own file)
             lines[opens + 1 : fn.last - 1] = ["unreachable!()", *[""] * (fn.last - opens - 3)]
             folders[proof_folder(fn, modules_of_types)] = fn.path.split("::")[-1]
         cut[file] = "\n".join(lines)
@@ -183,8 +184,8 @@ def without_bodies(crate, texts, kept):
 
 
 def users_of_constant(crate, texts, logic, file, at):
-    """Returns the functions that name the constant which a place of a file defines, none where the place is in no constant, or where
-    a contract, a type, a macro or a text of the logic names it, so that more may depend on it than bodies."""
+    """Returns the functions that name the constant which is defined at an offset of a file; none if the offset is in no constant, or if a
+    contract, a type, a macro or a file of the logic names it, so that more than bodies may depend on it."""
     line = texts[file][texts[file].rfind("\n", 0, at) + 1 :].partition("\n")[0]
     named = constant_in(line)
     if not named or any(re.search(rf"\b{named}\b", text) for text in logic):
@@ -207,14 +208,14 @@ def users_of_constant(crate, texts, logic, file, at):
 
 @dataclass(frozen=True)
 class Copy:
-    """A function that stands beside another as it is, under a name of its own, or with what a mutant changes."""
+    """A copy of a function under a name of its own, unchanged or with the change of a mutant."""
 
     fn: Function
     suffix: str
     pairs: tuple
     # The constants that it names by other names, since a mutant changes them.
     constants: tuple = ()
-    # The only goals that are tried; where there are none, all are.
+    # The only goals that are tried; all, if there are none.
     goals: tuple = ()
 
     @property
@@ -227,8 +228,8 @@ class Copy:
 
 
 def can_be_copied(room, fn, modules_of_types, text):
-    """Returns whether a function can stand once more in its crate under another name, with its proof: it is no method of a trait and in no
-    cycle of calls, and all of its proof is its answers and invariants."""
+    """Returns whether a function can be copied in its crate under another name, with its proof: it is no method of a trait and in no cycle
+    of calls, and its whole proof is its answers and invariants."""
     folder = None if fn.cycle else proof_folder(fn, modules_of_types)
     if not folder or body_line(text.split("\n"), fn) is None or re.search(rf"(?m)^(pub )?trait {fn.owned.split('::')[0]}\b", text):
         return False
@@ -237,7 +238,7 @@ def can_be_copied(room, fn, modules_of_types, text):
 
 
 def with_copies(crate, texts, copies):
-    """Returns the texts of a crate's files with these copies, each behind its function, and mutated constants behind theirs."""
+    """Returns the files of a crate with these copies, each after its function, and mutated constants after theirs."""
     result = {}
     for file, text in texts.items():
         lines, added = text.split("\n"), {}
@@ -272,8 +273,8 @@ def with_copies(crate, texts, copies):
 
 
 def copy_proofs(room, crate, copies, modules_of_types):
-    """Gives each copy of a function the proof of that function, which speaks of the copy by its name; where only some goals are tried, the
-    answers to these."""
+    """Gives each copy of a function the proof of that function, with the name of the copy; if only some goals are tried, only the answers
+    to these."""
     for it in copies:
         folder = proof_folder(it.fn, modules_of_types)
         found = os.listdir(f"{room}/proofs/{folder}") if os.path.isdir(f"{room}/proofs/{folder}") else []
@@ -293,7 +294,8 @@ def copy_proofs(room, crate, copies, modules_of_types):
 
 
 def answers_to(said, goals, module):
-    """Returns the answers to these goals alone, with what they name. A goal without one has what a check would try by itself."""
+    """Returns only the answers to these goals, with the declarations that they name. A goal without an answer has the attempts of a
+    check."""
     blocks = blocks_of(said)
     kept = {k for k, (name, _) in enumerate(blocks) if name is None or name in goals}
     while more := {k for k, (name, _) in enumerate(blocks) if k not in kept and is_named(name, (blocks[it][1] for it in kept if blocks[it][0]))}:
@@ -315,7 +317,7 @@ def is_named(name, texts):
 
 
 def blocks_of(said):
-    """Returns the declarations of a file of answers, each with its name; what stands between them has None."""
+    """Returns the declarations of a file of answers, each with its name; the lines between them have None."""
     blocks, name = [], None
     for line in said.split("\n"):
         goes_on = not line.strip() or line[0].isspace() or line[0] in ")]}" or (name and line.startswith(f"{name} "))
@@ -335,12 +337,12 @@ def constant_in(line):
 
 
 def head_of(lines, fn):
-    """Returns the place of the line with a function's name."""
+    """Returns the index of the line with a function's name."""
     return next(it for it in range(fn.first - 1, fn.last) if re.match(r"\s*(pub(\(.*?\))? )?((final|const|unsafe|extern \"C\") )*fn ", lines[it]))
 
 
 def body_line(lines, fn):
-    """Returns the place of the line that opens a function's body, or None where the body has no line of its own."""
+    """Returns the index of the line that opens a function's body, or None if the body has no line of its own."""
     head = head_of(lines, fn)
     indent = len(lines[head]) - len(lines[head].lstrip())
     for number in range(head, fn.last - 2):
@@ -351,14 +353,14 @@ def body_line(lines, fn):
 
 
 def head_line(lines, fn):
-    """Returns the place of the line that opens a function's body, or None where the body has no line of its own, or is evaluated by the
+    """Returns the index of the line that opens a function's body, or None if the body has no line of its own, or is evaluated by the
     compiler or called from C."""
     is_fixed = re.search(r"\b(const|extern) .*\bfn\b", lines[head_of(lines, fn)].partition("fn")[0] + "fn")
     return None if is_fixed else body_line(lines, fn)
 
 
 def leave_holes(room, crate, folders):
-    """Puts a hole in place of the proof of each function without a body."""
+    """Replaces the proof of each function without a body by a hole."""
     for at, inside, _ in os.walk(f"{room}/proofs"):
         for name in [it for it in inside if it.startswith("+")]:
             folder = os.path.dirname(os.path.relpath(f"{at}/{name}/x", f"{room}/proofs"))
@@ -378,14 +380,14 @@ def leave_holes(room, crate, folders):
 
 
 def answers_folder(room, fn, modules_of_types, texts):
-    """Returns the folder of a function's answers below proofs/, that of its cycle where it is in one, or None where it is not known."""
+    """Returns the folder of a function's answers below proofs/, or that of its cycle of calls; None if it is not known."""
     module = [it for it in module_of(fn.file).split("::") if it]
     if fn.cycle:
         found = [it for it, _, _ in os.walk(f"{room}/proofs/{'/'.join(module)}") if os.path.basename(it) == f"+{fn.cycle}"]
         return os.path.relpath(found[0], f"{room}/proofs") if len(found) == 1 else None
     if folder := proof_folder(fn, modules_of_types):
         return folder
-    # A method of a trait's impl has the folder that its path has, where type and impl stand in one module.
+    # A method of a trait's impl has the folder of its path, if type and impl are in one module.
     names = fn.path.split("::")[1:]
     own = names[len(module) :]
     beside = [it[1] for it in TYPE.finditer(texts[fn.file])] + re.findall(r"(?m)^(?:pub )?trait (\w+)", texts[fn.file])
@@ -393,8 +395,8 @@ def answers_folder(room, fn, modules_of_types, texts):
 
 
 def leave_unoffered(room, crate, texts, paths):
-    """Adds to the answers of each of these functions one that is wrong: of a function with such an answer a check tells which goals are
-    open, and does not look for the file to offer, which takes as long as to find the open goals."""
+    """Adds a wrong answer to those of each of these functions: for a function with such an answer, a check reports which goals are open,
+    and does not search for a file to offer, which takes as long as finding the open goals."""
     modules_of_types, done = modules_in(texts), set()
     for fn in (it for file, text in texts.items() for it in functions_of(crate, file, text)):
         folder = answers_folder(room, fn, modules_of_types, texts) if fn.path in paths else None
