@@ -63,7 +63,7 @@ impl Error for RoundTripStop {}
 ///
 /// - `Encode` if the encoder refuses the message, as [`Encoder::encode`] does: nothing has changed, and the two are still level.
 /// - `Decode` with `SinkStopped` if the sink stopped at one of the message's events, or with L4 if the decoder's count of consumed bytes
-/// would pass 2^64 - 1, in which case it reads none of the message. Then only the encoder is past the message: reset both.
+///   would pass 2^64 - 1 (it then reads none of the message). In both cases only the encoder is past the message: reset both.
 ///
 /// There are no other errors.
 pub fn round_trip<S: Sink>(

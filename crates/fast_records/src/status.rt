@@ -23,11 +23,11 @@ pub enum Status {
     NoRoom,
     /// The template file is not UTF-8.
     NotText,
-    /// The set, decoder or encoder is closed, or was never made. Returned by the callers that hold the pointer, not by the library.
+    /// The set, decoder or encoder is closed, or was never made. The code that holds the pointers returns it, not this crate.
     Closed,
     /// The records are not those of one whole message of the set.
     Misplaced,
-    /// The bytes of a packet end inside a message. Returned by the caller that knows where packets end.
+    /// The bytes of a packet end inside a message. The code that knows where packets end returns it, not this crate.
     Truncated,
     /// The stream has a fault.
     Stream(FaultCode),
