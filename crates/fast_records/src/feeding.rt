@@ -56,8 +56,8 @@ fn is_nothing(taken: usize, filled: usize) -> bool
     taken == 0 && filled == 0
 }
 
-/// Returns how a call ended: whether events wait, what the decoder returned, whether the whole piece was consumed, and whether nothing was
-/// consumed or written decide it.
+/// Returns how a call ended, from whether events wait, the decoder's result, whether the whole piece was consumed, and whether nothing was
+/// consumed or written.
 fn outcome_of(waits: bool, answer: Result<(), Fault>, all: bool, nothing: bool) -> Outcome
     ensures { result ≡ outcome_of waits answer all nothing }
 {
