@@ -381,4 +381,6 @@ static inline void fast_close_encoder(fast_encoder **encoder) {
 #ifdef __cplusplus
 }
 #endif
+
+#include "fast_queries.h"
 #endif

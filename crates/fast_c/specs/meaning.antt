@@ -3,3 +3,4 @@ pub mod Written
 pub mod Opening
 pub mod Decoders
 pub mod Encoders
+pub mod Queries

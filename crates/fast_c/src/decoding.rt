@@ -1,13 +1,14 @@
 //! Decoders for callers from C: bytes in, records out.
 
 ghost use Rattle.std.specs.Prelude.{◌≡◌, not, ◌==◌, IfOk, IfErr};
+ghost use Rattle.fast_decoder.specs.device.InHand.{in_hand};
 ghost use Rattle.fast_c.specs.declared.decoding.Decoding.{Decoding};
 ghost use Rattle.fast_c.specs.meaning.Opening.{limits_of, IsNotMade, Opens};
-ghost use Rattle.fast_c.specs.meaning.Decoders.{IsMade, IsReset, Starts, Feeds, FeedsPacket, cut_fed, ends_inside};
+ghost use Rattle.fast_c.specs.meaning.Decoders.{IsMade, IsReset, Starts, Feeds, FeedsPacket, cut_fed, due_info, ends_inside};
 
 use crate::sets::SetHandle;
 use crate::{boxed, limits_of};
-use fast_decoder::Decoder;
+use fast_decoder::{Decoder, Due};
 use fast_records::{Record, Status, Waiting, feed_records};
 use fast_value::Limits;
 use std::alloc::Global;
@@ -55,6 +56,13 @@ impl DecoderHandle {
         let DecoderHandle { at, alloc } = self;
         unsafe { Box::from_raw(alloc, at as *mut Decoding) }
     }
+
+    /// Borrows the decoder.
+    fn lent(self) -> &'static Decoding
+        ensures { result.now ≡ self.value }
+    {
+        Box::leak(self.into_box())
+    }
 }
 
 /// The result of a feed (`fast_fed` of the header).
@@ -73,6 +81,16 @@ pub struct FastFed {
     between: u32,
     /// The number of the status.
     status: u32,
+}
+
+/// The part of a stream that a decoder waits for, or at which it has stopped.
+#[repr(C)]
+#[derive(Clone, Copy)]
+pub struct FastDue {
+    /// 0: the start of a message, or the end of a segment; 1: the presence map of a group or an element; 2: the instruction of `node`.
+    what: u32,
+    /// The node of the instruction, else 0.
+    node: u32,
 }
 
 /// Makes a decoder in a box.
@@ -247,6 +265,25 @@ pub extern "C" fn fast_decoder_reset(decoder: DecoderHandle, back: &mut *mut Fas
     let mut decoding = decoder.into_box();
     reset(&mut decoding);
     *back = Box::into_raw(decoding) as *mut FastDecoder;
+}
+
+/// Returns the part of a stream as a struct of C's.
+fn due_info(due: Due) -> FastDue
+    ensures { result ≡ due_info due }
+{
+    match due {
+        Due::Nothing => FastDue { what: 0, node: 0 },
+        Due::SegmentMap => FastDue { what: 1, node: 0 },
+        Due::Instruction(node) => FastDue { what: 2, node },
+    }
+}
+
+/// Writes what a decoder waits for; at a fault, the instruction at which it has stopped. The decoder stays as it is.
+#[unsafe(no_mangle)]
+pub extern "C" fn fast_decoder_due(decoder: DecoderHandle, due: &mut FastDue)
+    ensures { due.new ≡ due_info (in_hand decoder.value.decoder) }
+{
+    *due = due_info(decoder.lent().decoder.in_hand());
 }
 
 /// Frees a decoder's memory. Its set stays open.

@@ -6,6 +6,7 @@
 
 mod decoding;
 mod encoding;
+mod queries;
 mod sets;
 
 ghost use Rattle.std.specs.Prelude.{◌≡◌, ◌≢◌, ◌≤◌, [], List, ℕ, length, IfOk, IfErr};

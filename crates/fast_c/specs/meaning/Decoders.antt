@@ -14,6 +14,9 @@ use Rattle.fast_records.specs.meaning.Feeding.{Delivers, outcome_of}
 use Rattle.fast_records.specs.meaning.Status.{status_number, ended}
 use Rattle.fast_c.specs.declared.decoding.Decoding.{Decoding}
 use Rattle.fast_c.specs.declared.decoding.FastFed.{FastFed}
+use Rattle.fast_c.specs.declared.decoding.FastDue.{FastDue}
+use Rattle.fast_machine.specs.declared.in_hand.Due.{Due}
+use Rattle.fast_machine.specs.declared.in_hand.Due.TheVariants.{Nothing, SegmentMap, Instruction}
 use Rattle.fast_c.specs.meaning.Opening.{CanBeMade}
 
 -- A new decoder of the set, with these limits: no byte has led to it, and nothing waits.
@@ -78,3 +81,9 @@ pub record FeedsPacket (is_reset : Bool) (old : Decoding) (packet : List ℕ) (r
   pub feeds : Feeds start packet records texts bytes next
   pub told : fed ≡ (if ends_inside bytes then told_cut bytes else bytes)
   pub left : new ≡ (if ends_inside bytes then cut_off next else next)
+
+-- the part of a stream that a decoder waits for, as C reads it
+abbrev pub due_info : Due → FastDue
+due_info Nothing = record { what = 0; node = 0 }
+due_info SegmentMap = record { what = 1; node = 0 }
+due_info (Instruction n) = record { what = 2; node = n }
