@@ -18,6 +18,7 @@
 #include <cstddef>
 #include <cstdint>
 #include <memory>
+#include <optional>
 #include <string>
 #include <string_view>
 #include <type_traits>
@@ -76,7 +77,33 @@ public:
     std::string template_name(std::uint32_t number) const { return named(fast_name_of_template, number); }
     std::string node_name(std::uint32_t number) const { return named(fast_name_of_node, number); }
 
+    // Queries as those of fast_queries.h: nothing where the set has no such template or node.
+    std::uint32_t entries() const { return fast_count_entries(get()); }
+    std::uint32_t depth() const { return fast_nesting_depth(get()); }
+    std::uint64_t message_cap(fast_limits limits) const { return fast_message_cap(get(), limits); }
+    std::optional<std::uint32_t> find_template(const std::string &name) const { return some(fast_find_template(get(), name.c_str())); }
+    std::optional<std::uint32_t> find_template(std::uint32_t id) const { return some(fast_find_template_id(get(), id)); }
+    std::optional<std::uint32_t> find_node(std::uint32_t in, const std::string &path) const { return some(fast_find_node(get(), in, path.c_str())); }
+    std::optional<std::uint32_t> parent_of_node(std::uint32_t number) const { return some(fast_parent_of_node(get(), number)); }
+    std::optional<std::uint32_t> template_of_node(std::uint32_t number) const { return some(fast_template_of_node(get(), number)); }
+    std::optional<fast_template_info> template_info(std::uint32_t number) const { return described<fast_template_info>(fast_describe_template, number); }
+    std::optional<fast_node_info> node_info(std::uint32_t number) const { return described<fast_node_info>(fast_describe_node, number); }
+    std::vector<std::uint32_t> body_of_template(std::uint32_t number) const { return body(fast_body_of_template, number); }
+    std::vector<std::uint32_t> body_of_node(std::uint32_t number) const { return body(fast_body_of_node, number); }
+
 private:
+    static std::optional<std::uint32_t> some(std::uint32_t number) {
+        return number == FAST_NONE ? std::nullopt : std::optional<std::uint32_t>(number);
+    }
+    template <class T> std::optional<T> described(std::uint32_t (*describe)(fast_set *, std::uint32_t, T *), std::uint32_t number) const {
+        T it{};
+        return describe(get(), number, &it) ? std::optional<T>(it) : std::nullopt;
+    }
+    std::vector<std::uint32_t> body(std::size_t (*of)(fast_set *, std::uint32_t, std::uint32_t *, std::size_t), std::uint32_t number) const {
+        std::vector<std::uint32_t> nodes(of(get(), number, nullptr, 0));
+        of(get(), number, nodes.data(), nodes.size());
+        return nodes;
+    }
     std::string named(std::size_t (*name)(fast_set *, std::uint32_t, char *, std::size_t), std::uint32_t number) const {
         std::string it(name(get(), number, nullptr, 0), '\0');
         name(get(), number, it.data(), it.size());
@@ -249,6 +276,8 @@ public:
     bool between() const { return last_.between != 0; }
     // How many bytes were consumed since the decoder was made or reset.
     std::uint64_t consumed() const { return last_.consumed; }
+    // The part of the stream that it waits for, or at which it has stopped.
+    fast_due in_hand() const { return fast_in_hand(it_.get()); }
     // As it was made, before the first byte.
     void reset() {
         fast_reset_decoder(it_.get());

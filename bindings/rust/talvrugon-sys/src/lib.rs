@@ -44,8 +44,41 @@ pub struct Put {
     pub unused: u32,
 }
 
+/// The number of no template, node or entry (`FAST_NONE`).
+pub const NONE: u32 = u32::MAX;
+
+/// A template (`fast_template_info`).
+#[repr(C)]
+#[derive(Clone, Copy, Debug, Default, PartialEq, Eq)]
+pub struct TemplateInfo {
+    pub has_id: u32,
+    pub id: u32,
+    pub reset: u32,
+}
+
+/// The instruction of a node (`fast_node_info`).
+#[repr(C)]
+#[derive(Clone, Copy, Debug, Default, PartialEq, Eq)]
+pub struct NodeInfo {
+    pub kind: u32,
+    pub optional: u32,
+    pub op: u32,
+    pub entry: u32,
+    pub mantissa_op: u32,
+    pub mantissa_entry: u32,
+}
+
+/// What a decoder waits for (`fast_due`).
+#[repr(C)]
+#[derive(Clone, Copy, Debug, Default, PartialEq, Eq)]
+pub struct Due {
+    pub what: u32,
+    pub node: u32,
+}
+
 const _: () = {
     assert!(size_of::<usize>() == 8);
+    assert!(size_of::<TemplateInfo>() == 12 && size_of::<NodeInfo>() == 24 && size_of::<Due>() == 8);
     assert!(size_of::<Record>() == 24 && offset_of!(Record, value) == 8 && offset_of!(Record, exponent) == 20);
     assert!(size_of::<Fed>() == 40 && offset_of!(Fed, status) == 36);
     assert!(size_of::<Put>() == 24 && offset_of!(Put, status) == 16);
@@ -78,6 +111,20 @@ extern "C" {
     pub fn fast_set_nodes(set: Handle<Set>) -> u32;
     pub fn fast_template_name(set: Handle<Set>, number: u32, out: *mut u8, out_len: usize) -> usize;
     pub fn fast_node_name(set: Handle<Set>, number: u32, out: *mut u8, out_len: usize) -> usize;
+    pub fn fast_set_entries(set: Handle<Set>) -> u32;
+    pub fn fast_set_depth(set: Handle<Set>) -> u32;
+    pub fn fast_set_cap(set: Handle<Set>, max_elements: u32, max_total: u32) -> u64;
+    pub fn fast_template_by_id(set: Handle<Set>, id: u32) -> u32;
+    pub fn fast_template_by_name(set: Handle<Set>, name: *const u8, name_len: usize) -> u32;
+    pub fn fast_template_describe(set: Handle<Set>, number: u32, out: *mut TemplateInfo) -> u32;
+    pub fn fast_node_describe(set: Handle<Set>, number: u32, out: *mut NodeInfo) -> u32;
+    pub fn fast_template_body(set: Handle<Set>, number: u32, out: *mut u32, out_len: usize) -> usize;
+    pub fn fast_node_body(set: Handle<Set>, number: u32, out: *mut u32, out_len: usize) -> usize;
+    pub fn fast_template_child(set: Handle<Set>, number: u32, name: *const u8, name_len: usize) -> u32;
+    pub fn fast_node_child(set: Handle<Set>, number: u32, name: *const u8, name_len: usize) -> u32;
+    pub fn fast_node_parent(set: Handle<Set>, number: u32) -> u32;
+    pub fn fast_node_template(set: Handle<Set>, number: u32) -> u32;
+    pub fn fast_decoder_due(decoder: Handle<Decoder>, due: *mut Due);
     pub fn fast_decoder_open(
         set: Handle<Set>,
         strict: u32,

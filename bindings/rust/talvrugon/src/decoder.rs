@@ -2,7 +2,7 @@ use crate::error::{expect, Error};
 use crate::event::{event_of, Event};
 use crate::set::{Limits, Set};
 use std::ptr::{null_mut, NonNull};
-use talvrugon_sys::{Fed, Handle, Record};
+use talvrugon_sys::{Due, Fed, Handle, Record};
 
 /// The number of records in a room (96 KiB).
 const RECORDS: usize = 4096;
@@ -36,6 +36,17 @@ pub enum Start {
     Continue = 0,
     /// With a new dictionary.
     Reset = 1,
+}
+
+/// What a decoder waits for (`fast_awaited`).
+#[derive(Clone, Copy, Debug, PartialEq, Eq)]
+pub enum InHand {
+    /// The presence map or the identifier of a message, or the end of a group or an element.
+    Message,
+    /// The presence map of the group or the element that has begun.
+    Map,
+    /// The instruction of this node.
+    Node(u32),
 }
 
 /// A decoder of a stream that comes in pieces, split anywhere. It keeps its set open, and is closed when it is dropped.
@@ -154,6 +165,18 @@ impl Decoder {
     /// Returns whether the stream is between two messages and has no fault.
     pub fn between(&self) -> bool {
         self.last.between != 0
+    }
+
+    /// Returns what the decoder waits for; at a fault, the instruction at which it has stopped.
+    pub fn in_hand(&self) -> InHand {
+        let mut due = Due::default();
+        // SAFETY: the decoder is open and stays as it is; `due` is a place for the struct
+        unsafe { talvrugon_sys::fast_decoder_due(Handle(self.at.as_ptr()), &mut due) };
+        match due.what {
+            0 => InHand::Message,
+            1 => InHand::Map,
+            _ => InHand::Node(due.node),
+        }
     }
 
     /// Returns the number of bytes consumed since the decoder was made or reset.

@@ -17,10 +17,12 @@ mod decoder;
 mod encoder;
 mod error;
 mod event;
+mod query;
 mod set;
 
-pub use decoder::{Decoder, Room, Start};
+pub use decoder::{Decoder, InHand, Room, Start};
 pub use encoder::{Encoder, Records};
 pub use error::Error;
 pub use event::{Event, Value};
+pub use query::{Node, Operator, Template, Type, Use};
 pub use set::{Limits, Set};

@@ -14,19 +14,21 @@ A call has decoded its whole piece when it returns. The library is proved; this 
 from __future__ import annotations
 
 import ctypes as c
-import operator
 import os
 import struct
 from collections.abc import Iterable, Iterator
 from ctypes import byref
 from typing import Any
 
+from .calls import FUNCTIONS, INTERFACE, ROW, Fed, Handle, P, Put, Record, integer, numbers_of
+from .queries import Node as Node
+from .queries import Queries, in_hand
+from .queries import Template as Template
+
 try:
     import numpy
 except ImportError:
     numpy = None
-
-INTERFACE = 2
 
 # The library in a wheel, next to this module.
 BESIDE = os.path.join(os.path.dirname(os.path.abspath(__file__)), "libfast.so.0")
@@ -38,58 +40,6 @@ DONE, MORE, CLOSED = 0, 1, 4
 
 # (kind, node, value); the value of a decimal is (mantissa, exponent), that of a string is bytes
 Event = tuple[int, int, Any]
-
-
-class Record(c.Structure):
-    """An event of fixed size: fast_record of fast.h. ROW is its layout."""
-
-    _fields_ = [("kind", c.c_uint32), ("node", c.c_uint32), ("value", c.c_uint64), ("length", c.c_uint32), ("exponent", c.c_int32)]
-
-
-ROW = struct.Struct("<IIQIi")
-
-
-class Fed(c.Structure):
-    """The result of a feed: fast_fed."""
-
-    _fields_ = [(name, c.c_uint64) for name in ("taken", "records", "texts", "consumed")] + [("between", c.c_uint32), ("status", c.c_uint32)]
-
-
-class Put(c.Structure):
-    """The result of encoding a message: fast_put."""
-
-    _fields_ = [("waiting", c.c_uint64), ("record", c.c_uint64), ("status", c.c_uint32), ("unused", c.c_uint32)]
-
-
-class Handle(c.Structure):
-    """A pointer of the library, passed by value."""
-
-    _fields_ = [("at", c.c_void_p)]
-
-
-assert (ROW.size, c.sizeof(Record), c.sizeof(Fed), c.sizeof(Put), c.sizeof(c.c_size_t)) == (24, 24, 40, 24, 8)
-
-U, N, P = c.c_uint32, c.c_size_t, c.c_void_p
-FUNCTIONS = {
-    "fast_interface": (U,),
-    "fast_status_words": (N, U, P, N),
-    "fast_set_read": (U, c.c_char_p, N, P),
-    "fast_set_close": (None, Handle),
-    "fast_set_templates": (U, Handle),
-    "fast_set_nodes": (U, Handle),
-    "fast_template_name": (N, Handle, U, P, N),
-    "fast_node_name": (N, Handle, U, P, N),
-    "fast_decoder_open": (U, Handle, U, U, U, U, P),
-    "fast_decoder_feed": (None, Handle, P, P, N, P, N, P, N, P),
-    "fast_decoder_packet": (None, Handle, P, U, P, N, P, N, P, N, P),
-    "fast_decoder_reset": (None, Handle, P),
-    "fast_decoder_close": (None, Handle),
-    "fast_encoder_open": (U, Handle, U, U, U, P),
-    "fast_encoder_put": (None, Handle, P, P, N, c.c_char_p, N, P),
-    "fast_encoder_take": (N, Handle, P, P, N),
-    "fast_encoder_reset": (None, Handle, P),
-    "fast_encoder_close": (None, Handle),
-}
 
 
 class Error(Exception):
@@ -110,22 +60,6 @@ class Error(Exception):
         """The name of the code, such as D9, if there is one."""
         name, colon, _ = self.words.partition(":")
         return name if colon else None
-
-
-def integer(name: str, value: Any, bits: int, signed: bool = False) -> int:
-    """Returns an integer of this many bits; raises a TypeError or a ValueError, with its name, if it is none."""
-    low, high = (-(1 << bits - 1), (1 << bits - 1) - 1) if signed else (0, (1 << bits) - 1)
-    try:
-        number = operator.index(value)
-    except TypeError:
-        raise TypeError(f"{name} is {value!r}, and has to be an integer from {low} to {high}") from None
-    if not low <= number <= high:
-        raise ValueError(f"{name} is {number}, and has to be from {low} to {high}")
-    return number
-
-
-def numbers_of(**named: Any) -> list[int]:
-    return [integer(name, value, 32) for name, value in named.items()]
 
 
 class Library:
@@ -197,7 +131,7 @@ class Held:
         self.close()
 
 
-class Set(Held):
+class Set(Queries, Held):
     """A template set. Its decoders and encoders stay usable when it is closed: its memory is freed after the last of them."""
 
     def __init__(self, library: Library, text: str):
@@ -354,6 +288,11 @@ class Decoder(Held):
     def between(self) -> bool:
         """True if the stream is between two messages and has no fault."""
         return bool(self._fed.between)
+
+    @property
+    def in_hand(self) -> tuple[str, int | None]:
+        """What the decoder waits for, or where it has stopped: "message", "map" of a group or an element, or "node" with its number."""
+        return in_hand(self.library, self.handle)
 
     @property
     def consumed(self) -> int:
