@@ -8,8 +8,8 @@
 //     counter sees;
 //     decoder.decode(piece, piece_len, sees);
 //
-// What goes wrong is thrown as a fast::error. Where exceptions are off (-fno-exceptions), nothing is thrown: each call that can fail returns
-// its status, and what a constructor could not make says so by status().
+// Failures are thrown as fast::error. With -fno-exceptions nothing is thrown: each call that can fail returns its status, and status() of an
+// object says whether its constructor succeeded.
 #ifndef FAST_HPP
 #define FAST_HPP
 
@@ -31,7 +31,7 @@
 
 namespace fast {
 
-// The sentence of a status.
+// Returns the sentence of a status.
 inline std::string words_of(std::uint32_t status) {
     std::uint8_t words[256];
     std::size_t length = fast_status_words(status, words, sizeof words);
@@ -39,8 +39,8 @@ inline std::string words_of(std::uint32_t status) {
 }
 
 #ifdef __cpp_exceptions
-// What a call did not do, and why. place: of a stream at fault or a packet that is cut, how many bytes were consumed by then; of records that are
-// no message (FAST_MISPLACED), the number of the first that is not due. It owns its words, and needs nothing of what threw it.
+// Why a call failed. place: at a fault of the stream or a truncated packet, the number of bytes consumed; for records that are no message
+// (FAST_MISPLACED), the number of the first that is out of place. It owns its message.
 class error : public std::runtime_error {
 public:
     explicit error(std::uint32_t its_status, std::uint64_t its_place = 0)
@@ -50,7 +50,7 @@ public:
 };
 #endif
 
-// Throws where a status is not FAST_DONE and exceptions are on, and returns it else.
+// Throws where a status is not FAST_DONE and exceptions are on; otherwise returns it.
 inline std::uint32_t expect(std::uint32_t status, std::uint64_t place = 0) {
 #ifdef __cpp_exceptions
     if (status != FAST_DONE) throw error(status, place);
@@ -60,8 +60,8 @@ inline std::uint32_t expect(std::uint32_t status, std::uint64_t place = 0) {
     return status;
 }
 
-// A template set. Copies are the same set, which is closed after the last of them and of the decoders and encoders that were made of it. The
-// text is read in the constructor alone; names are copies.
+// A template set. Copies share the set, which is closed with the last of them and of its decoders and encoders. The constructor does not keep
+// the text; names are copies.
 class set {
 public:
     explicit set(std::string_view text) {
@@ -69,7 +69,7 @@ public:
         status_ = expect(fast_read_set(reinterpret_cast<const std::uint8_t *>(text.data()), text.size(), &made));
         if (made) it_ = std::shared_ptr<fast_set>(made, [](fast_set *its) { fast_close_set(&its); });
     }
-    // FAST_DONE, or why there is no set: what the constructor throws where exceptions are on.
+    // FAST_DONE, or why the set was not made: the constructor throws it where exceptions are on.
     std::uint32_t status() const { return status_; }
     fast_set *get() const { return it_.get(); }
     std::uint32_t templates() const { return fast_count_templates(get()); }
@@ -131,14 +131,14 @@ struct bytes {
     std::size_t size;
 };
 
-// Why a message has no end: the status, and how many bytes of the stream were consumed by then.
+// Why a message has no end: the status, and the number of bytes of the stream consumed.
 struct fault {
     std::uint32_t status;
     std::uint64_t place;
 };
 
-// A visitor derives from this, and has the calls of these that it wants. It is a type parameter, so no call is virtual. A text is lent for the call
-// alone. Of the values it has any of these, or a template for all that the others do not take:
+// A visitor derives from this and defines the calls that it wants. It is a type parameter, so no call is virtual. Strings are valid during the
+// call only. For values it defines any of these, or a template for all that the others do not accept:
 //
 //     void field(std::uint32_t node, std::uint64_t value);
 //     void field(std::uint32_t node, std::int64_t value);
@@ -147,7 +147,7 @@ struct fault {
 //     void field(std::uint32_t node, fast::unicode value);
 //     void field(std::uint32_t node, fast::bytes value);
 //
-// A value is handed over as its own type and no other, so that a signed one never comes as an unsigned one; a `field` of another type does not
+// A value is passed as its own type and no other, so that a signed one never arrives as an unsigned one; a `field` of another type does not
 // compile.
 struct visitor {
     void message_start(std::uint32_t) {}
@@ -158,19 +158,19 @@ struct visitor {
     void element_end() {}
     void sequence_end() {}
     void message_end() {}
-    // The message at hand is at fault, or its packet ends within it: it has no end.
+    // The current message has a fault, or its packet ends inside it: it has no end.
     void abandoned(fault) {}
 };
 
 namespace detail {
 
-// What becomes a T and nothing else.
+// Converts to a T and to nothing else.
 template <class T> struct exactly {
     T value;
     template <class U, std::enable_if_t<std::is_same_v<U, T>, int> = 0> operator U() const { return value; }
 };
 
-// What only a template takes.
+// Only a template accepts it.
 struct unknown {};
 
 template <class V, class T, class = void> constexpr bool takes = false;
@@ -180,13 +180,13 @@ template <class V> constexpr bool has_one_field<V, std::void_t<decltype(&V::fiel
 
 template <class V, class... Ts> constexpr bool takes_any = (takes<V, exactly<Ts>> || ...);
 template <class V> constexpr bool takes_value = takes_any<V, std::uint64_t, std::int64_t, decimal, ascii, unicode, bytes>;
-// Whether a visitor has a `field` of the integers that are of these sizes and of other types, of smaller ones, or of what no value of FAST is.
+// Whether a visitor has a `field` of a type that no value of FAST is: another integer of the same size, a smaller one, a float, a string.
 template <class V, class T> constexpr bool takes_other = !std::is_same_v<T, std::uint64_t> && !std::is_same_v<T, std::int64_t> && takes<V, exactly<T>>;
 template <class V, class... Ts> constexpr bool takes_others = (takes_other<V, Ts> || ...);
 template <class V> constexpr bool takes_foreign = takes_others<V, bool, char, signed char, unsigned char, short, unsigned short, int, unsigned, long,
     unsigned long, long long, unsigned long long, float, double, long double, std::string, std::string_view, const char *, void *>;
 
-// Shows a value, where the visitor has a call for its type.
+// Passes a value to the visitor, if it has a call for its type.
 template <class V, class T> void show_field(V &sees, std::uint32_t node, T value) {
     if constexpr (takes<V, unknown>) {
         sees.field(node, value);
@@ -203,7 +203,7 @@ inline std::string_view text_of(const fast_record &it, const std::uint8_t *texts
 
 }  // namespace detail
 
-// Shows a record to a visitor.
+// Passes a record to a visitor.
 template <class V> void visit(const fast_record &it, const std::uint8_t *texts, V &&sees) {
     using namespace detail;
     switch (it.kind) {
@@ -224,22 +224,22 @@ template <class V> void visit(const fast_record &it, const std::uint8_t *texts, 
     }
 }
 
-// Room for the records of one call and their texts. One pair serves any number of decoders that are not fed at once, as those of one thread.
+// Buffers for the records of one call and their strings. One pair serves any number of decoders that are not fed at the same time.
 struct buffers {
-    // 96 KiB and 64 KiB; a decoder makes room for its longest text where that is more.
+    // 96 KiB and 64 KiB; a decoder enlarges `texts` to its max_text where that is more.
     explicit buffers(std::size_t records_len = 4096, std::size_t texts_len = 65536) : records(records_len ? records_len : 1), texts(texts_len) {}
     std::vector<fast_record> records;
     std::vector<std::uint8_t> texts;
 };
 
-// A decoder, which keeps its set. It is moved, and never copied; one that was moved from answers FAST_CLOSED.
+// A decoder, which keeps its set alive. It can be moved but not copied; after a move the old one returns FAST_CLOSED.
 class decoder {
 public:
-    // A decoder with buffers of its own, which hold a text of limits.max_text bytes at least.
+    // A decoder with its own buffers, which hold a string of limits.max_text bytes.
     explicit decoder(set of, fast_limits limits = fast_default_limits, std::size_t records = 4096)
         : decoder(std::move(of), limits, std::make_shared<buffers>(records)) {}
 
-    // A decoder that shares its buffers with others: none of these is fed while another is.
+    // A decoder that shares its buffers with others, which must not be fed at the same time.
     decoder(set of, fast_limits limits, std::shared_ptr<buffers> room) : set_(std::move(of)), room_(std::move(room)) {
         fast_decoder *made = nullptr;
         status_ = expect(fast_open_decoder(set_.get(), limits, &made));
@@ -247,21 +247,21 @@ public:
         if (made && room_->texts.size() < limits.max_text) room_->texts.resize(limits.max_text);
     }
 
-    // FAST_DONE, or why there is no decoder: what the constructor throws where exceptions are on.
+    // FAST_DONE, or why the decoder was not made: the constructor throws it where exceptions are on.
     std::uint32_t status() const { return status_; }
 
-    // Feeds a piece, which is read in the call alone, and shows its events to a visitor. A fault is thrown after the events before it, and so
-    // again until a reset; the visitor's `abandoned` is called for it once. Where the visitor throws, the events of the rest of its buffer are
-    // lost: reset before the next stream.
+    // Feeds a piece, which is not kept, and passes its events to a visitor. A fault is thrown after the events before it, and again at each
+    // call until a reset; the visitor's `abandoned` is called once for it. If the visitor throws, the remaining events of the buffer are lost:
+    // reset the decoder.
     template <class V> std::uint32_t decode(const std::uint8_t *piece, std::size_t piece_len, V &&sees) {
         return show_all(piece, piece_len, sees, [this](const std::uint8_t *rest, std::size_t rest_len) {
             return fast_feed(it_.get(), rest, rest_len, room_->records.data(), room_->records.size(), room_->texts.data(), room_->texts.size());
         });
     }
 
-    // Decodes one packet, which has to end between two messages, and shows its events: with FAST_RESET from a new dictionary, with FAST_CONTINUE from
-    // that which the packet before has left. Where it ends within a message, FAST_TRUNCATED is a fault as those of `decode`, until a reset or
-    // FAST_RESET.
+    // Decodes one packet, which has to end between two messages, and passes its events to a visitor: with FAST_RESET from a new dictionary, with
+    // FAST_CONTINUE from the one that the previous packet left. FAST_TRUNCATED, where it ends inside a message, is a fault like those of `decode`,
+    // until a reset or FAST_RESET.
     template <class V>
     std::uint32_t packet(const std::uint8_t *data, std::size_t size, V &&sees, std::uint32_t start = FAST_RESET) {
         if (start == FAST_RESET) last_ = at_start;
@@ -272,13 +272,13 @@ public:
         });
     }
 
-    // Whether there is no fault, and no message that is begun and not whole.
+    // Whether the decoder is between two messages, without a fault.
     bool between() const { return last_.between != 0; }
-    // How many bytes were consumed since the decoder was made or reset.
+    // The number of bytes consumed since the decoder was made or reset.
     std::uint64_t consumed() const { return last_.consumed; }
-    // The part of the stream that it waits for, or at which it has stopped.
+    // What the decoder waits for; at a fault, the instruction at which it has stopped.
     fast_due in_hand() const { return fast_in_hand(it_.get()); }
-    // As it was made, before the first byte.
+    // Resets the decoder to the start of a stream.
     void reset() {
         fast_reset_decoder(it_.get());
         last_ = at_start;
@@ -290,7 +290,7 @@ private:
         void operator()(fast_decoder *it) const { fast_close_decoder(&it); }
     };
 
-    // Calls until all bytes are taken, and shows what comes.
+    // Calls `feed` until all bytes are consumed, and passes the events on.
     template <class V, class F> std::uint32_t show_all(const std::uint8_t *piece, std::size_t piece_len, V &sees, F feed) {
         if (!it_) return expect(FAST_CLOSED);
         const bool was_abandoned = last_.status > FAST_MORE;
@@ -312,12 +312,12 @@ private:
     std::uint32_t status_ = FAST_CLOSED;
 };
 
-// Feeds a piece to a decoder, and shows its events to a visitor.
+// Feeds a piece to a decoder and passes its events to a visitor.
 template <class V> std::uint32_t decode(decoder &by, const std::uint8_t *piece, std::size_t piece_len, V &&sees) {
     return by.decode(piece, piece_len, std::forward<V>(sees));
 }
 
-// An encoder, which keeps its set. It is moved, and never copied; one that was moved from answers FAST_CLOSED.
+// An encoder, which keeps its set alive. It can be moved but not copied; after a move the old one returns FAST_CLOSED.
 class encoder {
 public:
     explicit encoder(set of, fast_limits limits = fast_default_limits) : set_(std::move(of)) {
@@ -326,12 +326,12 @@ public:
         it_.reset(made);
     }
 
-    // FAST_DONE, or why there is no encoder: what the constructor throws where exceptions are on.
+    // FAST_DONE, or why the encoder was not made: the constructor throws it where exceptions are on.
     std::uint32_t status() const { return status_; }
 
-    // Appends the bytes of one message, whose records these are, as a visitor sees them: records and texts are read in the call alone, and the
-    // bytes are the caller's. Where it is refused, nothing has changed: FAST_MISPLACED where they are no message, FAST_E1 to
-    // FAST_MESSAGE_R9, FAST_MESSAGE_MEMORY. Where out cannot grow, the bytes wait in the encoder, and come first at the next call.
+    // Encodes one message from its records and appends its bytes to `out`. Records and texts are not kept. A refusal changes nothing:
+    // FAST_MISPLACED where they are no message, FAST_E1 to FAST_MESSAGE_R9, FAST_MESSAGE_MEMORY. If `out` cannot grow, the bytes stay in the
+    // encoder and come first at the next call.
     std::uint32_t encode(const fast_record *records, std::size_t count, const std::uint8_t *texts, std::size_t texts_len,
                          std::vector<std::uint8_t> &out) {
         fast_put put = fast_put_message(it_.get(), records, count, texts, texts_len);
@@ -341,7 +341,7 @@ public:
         fast_take_bytes(it_.get(), out.data() + before, put.waiting);
         return FAST_DONE;
     }
-    // As it was made: to be used where the reader's decoder is reset too.
+    // Resets the encoder to the start of a stream: use it where the reader's decoder is reset too.
     void reset() { fast_reset_encoder(it_.get()); }
 
 private:

@@ -201,3 +201,15 @@ fn a_writer_of_std_has_failed_from_a_flush_on_that_fails(rt: HostRuntime) {
     let count = target.into_inner().count;
     expect(&rt, count == 3, "flushes", 3);
 }
+
+/// A flush of a block flushes the writer inside it too.
+#[test]
+fn a_flush_of_a_block_flushes_the_writer_inside(rt: HostRuntime) {
+    let mut target = BlockWriter::new(Watched::new(Flushes {
+        count: 0,
+        fails_at: 2,
+    }));
+    let first = target.write_all(b"ab").is_ok() && target.flush().is_ok() && !target.failed();
+    let second = target.flush().is_err() && target.failed();
+    assert!(rt; first && second);
+}
