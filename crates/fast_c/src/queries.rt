@@ -3,12 +3,11 @@
 ghost use Rattle.std.specs.Prelude.{◌≡◌, ◌<◌, ◌≤◌, [], length, slice_get, Some, string_bytes};
 ghost use Rattle.fast_tree.specs.declared.instructions.Node.{Node as NodeData};
 ghost use Rattle.fast_tree.specs.declared.instructions.Template.{Template as TemplateData};
-ghost use Rattle.fast_tree.specs.device.Places.{place};
 ghost use Rattle.fast_tree.specs.meaning.Numbers.{AreBelow, numbers_of};
 ghost use Rattle.fast_tree.specs.meaning.Sizes.{message_cap, set_depth};
 ghost use Rattle.fast_template.specs.meaning.Flat.{nodes_of, templates_of, tree_of};
 ghost use Rattle.fast_c.specs.meaning.Opening.{limits_of};
-ghost use Rattle.fast_c.specs.meaning.Queries.{kind_number, operator_number, number_or_none, template_info, field_info, node_info, first_named, has_node, names_node, IsFirstWith};
+ghost use Rattle.fast_c.specs.meaning.Queries.{kind_number, operator_number, number_or_none, template_info, field_info, node_info, first_named, first_that, has_node, names_node, IsFirstWith};
 ghost use Rattle.fast_c.specs.meaning.Written.{IsWritten};
 
 use crate::limits_of;
@@ -179,7 +178,7 @@ fn first_named(set: &Templates, body: &[u32], name: &[u8]) -> u32
 
 /// Returns the first group or sequence whose body has a node, or `NONE`.
 fn parent_of(set: &Templates, node: u32) -> u32
-    ensures { result ≡ number_or_none (place (names_node node) 0 (nodes_of set.now)) }
+    ensures { result ≡ first_that (names_node node) 0 (nodes_of set.now) }
 {
     for parent in 0..set.nodes() {
         if body_of(set.node(parent)).contains(&node) {
@@ -191,7 +190,7 @@ fn parent_of(set: &Templates, node: u32) -> u32
 
 /// Returns the first template whose body has a node, or `NONE`.
 fn template_of(set: &Templates, node: u32) -> u32
-    ensures { result ≡ number_or_none (place (has_node node) 0 (templates_of set.now)) }
+    ensures { result ≡ first_that (has_node node) 0 (templates_of set.now) }
 {
     for template in 0..set.count() {
         if set.template(template).body.contains(&node) {
@@ -338,7 +337,7 @@ pub extern "C" fn fast_node_child(set: SetHandle, node: u32, name: &[u8]) -> u32
 /// Returns the group or sequence whose body has a node, or `NONE` where it is in none.
 #[unsafe(no_mangle)]
 pub extern "C" fn fast_node_parent(set: SetHandle, node: u32) -> u32
-    ensures { result ≡ number_or_none (place (names_node node) 0 (nodes_of set.value)) }
+    ensures { result ≡ first_that (names_node node) 0 (nodes_of set.value) }
 {
     parent_of(set.lent(), node)
 }
@@ -346,7 +345,7 @@ pub extern "C" fn fast_node_parent(set: SetHandle, node: u32) -> u32
 /// Returns the template whose body has a node, or `NONE` where it is in a group, in a sequence or nowhere.
 #[unsafe(no_mangle)]
 pub extern "C" fn fast_node_template(set: SetHandle, node: u32) -> u32
-    ensures { result ≡ number_or_none (place (has_node node) 0 (templates_of set.value)) }
+    ensures { result ≡ first_that (has_node node) 0 (templates_of set.value) }
 {
     template_of(set.lent(), node)
 }

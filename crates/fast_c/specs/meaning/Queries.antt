@@ -1,5 +1,5 @@
 -- What the functions of include/fast.h return that ask a template set.
-use Rattle.std.specs.Prelude.{◌≡◌, ℕ, ◌<◌, ◌==◌, Bool, false, if◌then◌else◌, List, [], ◌∷◌, slice_get, Option, Some, None, IfSome, IfNone, is_some, string_bytes}
+use Rattle.std.specs.Prelude.{◌≡◌, ℕ, suc, ◌<◌, ◌==◌, Bool, false, if◌then◌else◌, List, [], ◌∷◌, slice_get, Option, Some, None, IfSome, IfNone, is_some, string_bytes}
 use Rattle.std.specs.List.{list_any}
 use Rattle.std.specs.Int.{from_bool}
 use Rattle.std.specs.Str.{bytes_eq}
@@ -77,6 +77,11 @@ shape_info (Is.Sequence length body) = field_info 11 length
 -- the instruction of a node, without its name and its body
 abbrev pub node_info : Node → FastNodeInfo
 node_info n = shape_info n.shape
+
+-- the number of the first element that passes, counted from a number on, or that of none
+abbrev pub first_that : {A : Type 0} → (A → Bool) → ℕ → List A → ℕ
+first_that test n [] = no_number
+first_that test n (x ∷ xs) = if test x then n else first_that test (suc n) xs
 
 -- whether the number is in the list
 abbrev pub has_number : ℕ → List ℕ → Bool
