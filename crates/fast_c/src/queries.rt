@@ -238,10 +238,11 @@ pub extern "C" fn fast_template_by_id(set: SetHandle, id: u32) -> u32
 pub extern "C" fn fast_template_by_name(set: SetHandle, name: &[u8]) -> u32
     ensures { IsFirstWith (λ t. string_bytes t.name ≡ name.now) (templates_of set.value) result }
 {
+    let set = set.lent();
     let Ok(name) = std::str::from_utf8(name) else {
         return NONE;
     };
-    number_or_none(set.lent().by_name(name))
+    number_or_none(set.by_name(name))
 }
 
 /// Describes a template: 1, or 0 where the set has none of the number, and then nothing is written.
