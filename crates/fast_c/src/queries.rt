@@ -176,6 +176,23 @@ fn first_named(set: &Templates, body: &[u32], name: &[u8]) -> u32
     NONE
 }
 
+/// Returns the template with an identifier, or `NONE`.
+fn with_id(set: &Templates, id: u32) -> u32
+    ensures { IsFirstWith (λ t. t.id ≡ Some id) (templates_of set.now) result }
+{
+    number_or_none(set.by_id(id))
+}
+
+/// Returns the template with a name, or `NONE`.
+fn with_name(set: &Templates, name: &[u8]) -> u32
+    ensures { IsFirstWith (λ t. string_bytes t.name ≡ name.now) (templates_of set.now) result }
+{
+    let Ok(name) = std::str::from_utf8(name) else {
+        return NONE;
+    };
+    number_or_none(set.by_name(name))
+}
+
 /// Returns the first group or sequence whose body has a node, or `NONE`.
 fn parent_of(set: &Templates, node: u32) -> u32
     ensures { result ≡ first_that (names_node node) 0 (nodes_of set.now) }
@@ -230,7 +247,7 @@ pub extern "C" fn fast_set_cap(set: SetHandle, max_elements: u32, max_total: u32
 pub extern "C" fn fast_template_by_id(set: SetHandle, id: u32) -> u32
     ensures { IsFirstWith (λ t. t.id ≡ Some id) (templates_of set.value) result }
 {
-    number_or_none(set.lent().by_id(id))
+    with_id(set.lent(), id)
 }
 
 /// Returns the template with a name, or `NONE`.
@@ -238,11 +255,7 @@ pub extern "C" fn fast_template_by_id(set: SetHandle, id: u32) -> u32
 pub extern "C" fn fast_template_by_name(set: SetHandle, name: &[u8]) -> u32
     ensures { IsFirstWith (λ t. string_bytes t.name ≡ name.now) (templates_of set.value) result }
 {
-    let set = set.lent();
-    let Ok(name) = std::str::from_utf8(name) else {
-        return NONE;
-    };
-    number_or_none(set.by_name(name))
+    with_name(set.lent(), name)
 }
 
 /// Describes a template: 1, or 0 where the set has none of the number, and then nothing is written.

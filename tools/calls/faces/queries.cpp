@@ -56,7 +56,7 @@ static void find(const fast::set &set) {
 }
 
 static void due(const fast::set &set) {
-    static const std::uint8_t stream[] = {0xe0, 0x80, 0xc0, 0x81, 0x82, 0x80, 0x81, 0x81, 0x80};
+    static const std::uint8_t stream[] = {0xe0, 0x80, 0xc0, 0x81, 0x82, 0xc0, 0x81, 0x81, 0x80, 0x80, 0x80, 0xc0, 0x87, 0x80};
     fast::decoder decoder{set};
     for (std::size_t i = 0; i <= sizeof stream; i++) {
         const fast_due it = decoder.in_hand();

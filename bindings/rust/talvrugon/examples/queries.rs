@@ -5,7 +5,7 @@ use talvrugon::{Decoder, InHand, Limits, Set};
 const NAMES: [&str; 6] = ["All", "Nested.One", "Part", "", "al", "All.a"];
 const PATHS: [&str; 16] =
     ["a", "e", "i", "", ".", "x", "x.s", "x.s.t", "x.y.z", "x.s.y", "x.s.y.z", "x.s.y.z.z", "x.", ".x", "x..s", "n"];
-const STREAM: [u8; 9] = [0xe0, 0x80, 0xc0, 0x81, 0x82, 0x80, 0x81, 0x81, 0x80];
+const STREAM: [u8; 14] = [0xe0, 0x80, 0xc0, 0x81, 0x82, 0xc0, 0x81, 0x81, 0x80, 0x80, 0x80, 0xc0, 0x87, 0x80];
 
 fn number(name: &str, it: Option<u32>) -> String {
     it.map_or(format!(" {name} -"), |it| format!(" {name} {it}"))
