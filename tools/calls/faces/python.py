@@ -1,4 +1,4 @@
-"""python.py LIBRARY: tests bindings/python/talvrugon.py with numbers out of range, closed sets, pieces of all types and unread results."""
+"""python.py LIBRARY: tests bindings/python/talvrugon with numbers out of range, closed sets, pieces of all types and unread results."""
 
 import os
 import sys

@@ -1,4 +1,4 @@
-"""rows.py LIBRARY: prints the results of each stream of the rows on standard input, by bindings/python/talvrugon.py, as rows.cpp does."""
+"""rows.py LIBRARY: prints the results of each stream of the rows on standard input, by bindings/python/talvrugon, as rows.cpp does."""
 
 import os
 import sys
