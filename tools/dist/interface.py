@@ -1,0 +1,30 @@
+"""What include/fast.h declares."""
+
+import re
+import textwrap
+
+# A function at the start of a line: whether programs call it in the place of one of the library, its type, name and parameters, and how it goes on.
+FUNCTION = re.compile(r"^(static inline )?([a-z]\w*(?: \w+)*[ *]+)(fast_\w+)\(([^()]*)\)\s*([;{])", re.M)
+WIDTH = 78
+
+
+def functions(header):
+    """Returns the functions of the header: (is inline, type, name, parameters)."""
+    header = re.sub(r"/\*.*?\*/|//[^\n]*", "", header, flags=re.S)
+    return [(bool(inline), kind, name, " ".join(parameters.split())) for inline, kind, name, parameters, _ in FUNCTION.findall(header)]
+
+
+def exported(header):
+    """Returns the names of the functions that the library has."""
+    return sorted(name for inline, _, name, _ in functions(header) if not inline)
+
+
+def synopsis(header):
+    """Returns the functions that programs call as lines of a man page: the inline ones, and those of the library that no inline one calls."""
+    found = functions(header)
+    bodies = "".join(re.findall(r"^static inline .*?^}", header, re.M | re.S))
+    lines = []
+    for inline, kind, name, parameters in found:
+        if inline or not re.search(rf"\b{name}\(", bodies):
+            lines += textwrap.wrap(f"{kind}{name}({parameters});", WIDTH, subsequent_indent="    ")
+    return "\n".join(lines)

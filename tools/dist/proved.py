@@ -1,0 +1,59 @@
+"""The file PROVED of a release: what proved it, and the checksums of its sources and of its files. `sha256sum -c` reads it."""
+
+import hashlib
+import importlib.util
+import os
+import subprocess
+from importlib.machinery import SourceFileLoader
+
+# What is proved and shipped.
+SHIPPED = ("fast_c", "fastcat")
+PARTS = ("src", "specs", "proofs")
+
+
+def crates_below(top, names):
+    """Returns crates with all that they stand on, in the order in which they are built."""
+    loader = SourceFileLoader("build", f"{top}/tools/build")
+    build = importlib.util.module_from_spec(importlib.util.spec_from_loader("build", loader))
+    loader.exec_module(build)
+    rows = build.rows_of(f"{top}/crates.txt")
+    return list(dict.fromkeys(it for name in names for it in build.in_order(name, rows)))
+
+
+def files_in(folder):
+    """Returns the files below a folder by their paths from there, sorted by bytes; no links."""
+    paths = (os.path.join(at, name) for at, _, names in os.walk(folder) for name in names)
+    return sorted((os.path.relpath(it, folder) for it in paths if not os.path.islink(it)), key=os.fsencode)
+
+
+def checksum(path):
+    with open(path, "rb") as it:
+        return hashlib.sha256(it.read()).hexdigest()
+
+
+def checksums(folder, names):
+    """Returns the lines that `sha256sum` writes of files in a folder."""
+    return "".join(f"{checksum(f'{folder}/{name}')}  {name}\n" for name in names)
+
+
+def checksum_of_crate(folder):
+    """Returns the SHA-256 of the checksums of a crate's sources."""
+    names = [it for it in files_in(folder) if it.split("/")[0] in PARTS]
+    return hashlib.sha256(checksums(folder, names).encode()).hexdigest()
+
+
+def text(top, tree, version, gate):
+    """Returns the file for a tree."""
+    kit = os.environ.get("KIT", "/opt/rattle")
+    said = subprocess.run([f"{kit}/bin/rt", "version"], stdout=subprocess.PIPE, text=True, check=True).stdout.split()
+    lines = [
+        f"# Talvrugon {version} for x86_64-linux, proved and built by",
+        f"# kit {said[0]}",
+        f"# logic {said[-1]}",
+        f"# gate {gate}",
+        "# from these crates, each with the checksum of its sources, as these commands write it:",
+        f"#     cd crates/NAME && find {' '.join(PARTS)} -type f | LC_ALL=C sort | xargs sha256sum | sha256sum",
+    ]
+    lines += [f"# crate {it} {checksum_of_crate(f'{top}/crates/{it}')}" for it in crates_below(top, SHIPPED)]
+    lines.append("# The files, which `sha256sum --quiet --strict -c share/doc/talvrugon/PROVED` compares where share/ lies:")
+    return "\n".join(lines) + "\n" + checksums(tree, files_in(tree))
