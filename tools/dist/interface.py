@@ -26,5 +26,6 @@ def synopsis(header):
     lines = []
     for inline, kind, name, parameters in found:
         if inline or not re.search(rf"\b{name}\(", bodies):
-            lines += textwrap.wrap(f"{kind}{name}({parameters});", WIDTH, subsequent_indent="    ")
+            whole = f"{kind}{name}({parameters});".replace(" ", "\0").replace(",\0", ", ")  # broken between parameters alone
+            lines += [it.replace("\0", " ") for it in textwrap.wrap(whole, WIDTH, subsequent_indent="    ")]
     return "\n".join(lines)

@@ -42,8 +42,8 @@ def checksum_of_crate(folder):
     return hashlib.sha256(checksums(folder, names).encode()).hexdigest()
 
 
-def text(top, tree, version, gate):
-    """Returns the file for a tree."""
+def text(top, tree, version, gate, given):
+    """Returns the file for a tree; `given` names what was not proved and built here."""
     kit = os.environ.get("KIT", "/opt/rattle")
     said = subprocess.run([f"{kit}/bin/rt", "version"], stdout=subprocess.PIPE, text=True, check=True).stdout.split()
     lines = [
@@ -51,6 +51,7 @@ def text(top, tree, version, gate):
         f"# kit {said[0]}",
         f"# logic {said[-1]}",
         f"# gate {gate}",
+        *(f"# not built here, but given: {it}" for it in given),
         "# from these crates, each with the checksum of its sources, as these commands write it:",
         f"#     cd crates/NAME && find {' '.join(PARTS)} -type f | LC_ALL=C sort | xargs sha256sum | sha256sum",
     ]

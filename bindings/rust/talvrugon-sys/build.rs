@@ -4,8 +4,8 @@ use std::{env, path::Path};
 
 fn main() {
     println!("cargo:rerun-if-env-changed=FAST_C_DIR");
-    let own = concat!(env!("CARGO_MANIFEST_DIR"), "/lib");
-    let dir = env::var("FAST_C_DIR").unwrap_or_else(|_| own.to_owned());
+    let own = env::var("CARGO_MANIFEST_DIR").map(|it| it + "/lib");
+    let dir = env::var("FAST_C_DIR").or(own).expect("Cargo names the folder of a crate");
     assert!(Path::new(&dir).join("libfast_c.a").is_file(), "FAST_C_DIR names the folder of libfast_c.a");
     println!("cargo:rerun-if-changed={dir}/libfast_c.a");
     println!("cargo:rustc-link-search=native={dir}");
