@@ -3,7 +3,7 @@
 import re
 import textwrap
 
-# A function at the start of a line: whether programs call it in the place of one of the library, its type, name and parameters, and how it goes on.
+# A function at the start of a line: static inline or not, its type, name and parameters, and a body or a semicolon.
 FUNCTION = re.compile(r"^(static inline )?([a-z]\w*(?: \w+)*[ *]+)(fast_\w+)\(([^()]*)\)\s*([;{])", re.M)
 WIDTH = 78
 
