@@ -1,4 +1,4 @@
-"""What include/fast.h declares."""
+"""What the headers of include/ declare."""
 
 import re
 import textwrap
@@ -9,7 +9,7 @@ WIDTH = 78
 
 
 def functions(header):
-    """Returns the functions of the header: (is inline, type, name, parameters)."""
+    """Returns the functions of a header: (is inline, type, name, parameters)."""
     header = re.sub(r"/\*.*?\*/|//[^\n]*", "", header, flags=re.S)
     return [(bool(inline), kind, name, " ".join(parameters.split())) for inline, kind, name, parameters, _ in FUNCTION.findall(header)]
 
