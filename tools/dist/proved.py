@@ -26,6 +26,17 @@ def files_in(folder):
     return sorted((os.path.relpath(it, folder) for it in paths if not os.path.islink(it)), key=os.fsencode)
 
 
+def sources_of(folder):
+    """Returns the sources of a crate by their paths in its folder, sorted by bytes."""
+    return [it for it in files_in(folder) if it.split("/")[0] in PARTS]
+
+
+def newest_source(top, name):
+    """Returns when a source of a crate, or of those that it stands on, was last changed."""
+    folders = [f"{top}/crates/{it}" for it in crates_below(top, [name])]
+    return max(os.path.getmtime(f"{folder}/{it}") for folder in folders for it in sources_of(folder))
+
+
 def checksum(path):
     with open(path, "rb") as it:
         return hashlib.sha256(it.read()).hexdigest()
@@ -38,8 +49,7 @@ def checksums(folder, names):
 
 def checksum_of_crate(folder):
     """Returns the SHA-256 of the checksums of a crate's sources."""
-    names = [it for it in files_in(folder) if it.split("/")[0] in PARTS]
-    return hashlib.sha256(checksums(folder, names).encode()).hexdigest()
+    return hashlib.sha256(checksums(folder, sources_of(folder)).encode()).hexdigest()
 
 
 def text(top, tree, version, gate, given):
