@@ -12,7 +12,7 @@ PARTS = ("src", "specs", "proofs")
 
 
 def crates_below(top, names):
-    """Returns crates with all that they stand on, in the order in which they are built."""
+    """Returns crates and all their dependencies, in the order in which they are built."""
     loader = SourceFileLoader("build", f"{top}/tools/build")
     build = importlib.util.module_from_spec(importlib.util.spec_from_loader("build", loader))
     loader.exec_module(build)
@@ -32,7 +32,7 @@ def sources_of(folder):
 
 
 def newest_source(top, name):
-    """Returns when a source of a crate, or of those that it stands on, was last changed."""
+    """Returns the time at which a source of a crate or of its dependencies was last changed."""
     folders = [f"{top}/crates/{it}" for it in crates_below(top, [name])]
     return max(os.path.getmtime(f"{folder}/{it}") for folder in folders for it in sources_of(folder))
 
