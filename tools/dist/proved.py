@@ -1,10 +1,8 @@
 """The file PROVED of a release: what proved it, and the checksums of its sources and of its files. `sha256sum -c` reads it."""
 
 import hashlib
-import importlib.util
 import os
 import subprocess
-from importlib.machinery import SourceFileLoader
 
 # What is proved and shipped.
 SHIPPED = ("fast_c", "fastcat")
@@ -12,12 +10,19 @@ PARTS = ("src", "specs", "proofs")
 
 
 def crates_below(top, names):
-    """Returns crates and all their dependencies, in the order in which they are built."""
-    loader = SourceFileLoader("build", f"{top}/tools/build")
-    build = importlib.util.module_from_spec(importlib.util.spec_from_loader("build", loader))
-    loader.exec_module(build)
-    rows = build.rows_of(f"{top}/crates.txt")
-    return list(dict.fromkeys(it for name in names for it in build.in_order(name, rows)))
+    """Returns crates and all their dependencies, in the order of crates.txt."""
+    rows, found, waiting = {}, set(), list(names)
+    with open(f"{top}/crates.txt", encoding="utf-8") as it:
+        for line in it:
+            head, colon, uses = line.partition("#")[0].partition(":")
+            if colon:
+                rows[head.split()[0]] = uses.split()
+    while waiting:
+        crate = waiting.pop()
+        if crate in rows and crate not in found:
+            found.add(crate)
+            waiting += rows[crate]
+    return [it for it in rows if it in found]
 
 
 def files_in(folder):
