@@ -1,7 +1,7 @@
 // A decoder and an encoder of FAST 1.1 streams, proved in Rattle. For C11 and C++11 on little-endian machines of 64 bits, such as x86-64.
 // Link with libfast_c.a, which `tools/library fast_c` makes, and with heap.c or another heap (below).
 //
-// A template set is read from TOML text; decoders and encoders are made from a set. The objects behind the pointers are opaque: do not read,
+// A template set is read from TOML text; decoders and encoders are made from a set. The types of the pointers are opaque: do not read,
 // copy or move them. Do not use one pointer in two threads at once, nor pass one to another thread: the proofs do not cover that.
 //
 // The caller owns the set, decoder or encoder that it makes, and closes it once. A decoder or an encoder borrows its set from the time it is
@@ -230,7 +230,7 @@ void fast_encoder_close(fast_encoder_handle encoder);
 
 // ---- the functions that programs call. A null buffer is an empty one, whatever its length; buffers of one call do not overlap.
 
-// Stands in for a null buffer: the library wants an address even for nothing.
+// Replaces a null buffer: the library wants an address even for nothing.
 static fast_record fast_nothing;
 
 // Reads a template set from TOML text in UTF-8, which is not kept; a null text is an empty one. Returns FAST_DONE and sets *out, which the

@@ -276,7 +276,7 @@ public:
     bool between() const { return last_.between != 0; }
     // The number of bytes consumed since the decoder was made or reset.
     std::uint64_t consumed() const { return last_.consumed; }
-    // What the decoder waits for; at a fault, the instruction at which it has stopped.
+    // Returns what the decoder waits for; at a fault, the instruction at which it has stopped.
     fast_due in_hand() const { return fast_in_hand(it_.get()); }
     // Resets the decoder to the start of a stream.
     void reset() {

@@ -42,7 +42,7 @@ typedef struct fast_node_info {
     uint32_t mantissa_entry;  // of a decimal in parts, else FAST_NONE
 } fast_node_info;
 
-// What a decoder waits for.
+// The part of a stream that a decoder waits for.
 enum fast_awaited {
     FAST_AWAITS_MESSAGE = 0,  // the presence map or the identifier of a message, or the end of a group or an element
     FAST_AWAITS_MAP = 1,      // the presence map of the group or the element that has begun

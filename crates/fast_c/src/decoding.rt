@@ -22,7 +22,7 @@ pub struct Decoding {
     is_cut: bool,
 }
 
-/// The type behind a C caller's pointer to a decoder.
+/// The type that a C caller's pointer to a decoder has.
 #[repr(C)]
 #[derive(Drop)]
 pub struct FastDecoder {

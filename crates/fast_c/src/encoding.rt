@@ -22,7 +22,7 @@ pub struct Encoding {
     bytes: Vec<u8>,
 }
 
-/// The type behind a C caller's pointer to an encoder.
+/// The type that a C caller's pointer to an encoder has.
 #[repr(C)]
 #[derive(Drop)]
 pub struct FastEncoder {

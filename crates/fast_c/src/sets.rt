@@ -15,7 +15,7 @@ use fast_template::Templates;
 use std::alloc::Global;
 use std::marker::Model;
 
-/// The type behind a C caller's pointer to a set.
+/// The type that a C caller's pointer to a set has.
 #[repr(C)]
 #[derive(Drop)]
 pub struct FastSet {

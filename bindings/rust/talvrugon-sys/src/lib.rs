@@ -68,7 +68,7 @@ pub struct NodeInfo {
     pub mantissa_entry: u32,
 }
 
-/// What a decoder waits for (`fast_due`).
+/// The part of a stream that a decoder waits for (`fast_due`).
 #[repr(C)]
 #[derive(Clone, Copy, Debug, Default, PartialEq, Eq)]
 pub struct Due {
@@ -86,7 +86,7 @@ const _: () = {
 
 macro_rules! opaque {
     ($($name:ident)*) => {$(
-        /// The type behind a pointer of the library.
+        /// The type of a pointer of the library.
         #[repr(C)]
         pub struct $name {
             unseen: [u8; 0],

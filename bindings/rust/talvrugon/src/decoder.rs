@@ -38,7 +38,7 @@ pub enum Start {
     Reset = 1,
 }
 
-/// What a decoder waits for (`fast_awaited`).
+/// The part of a stream that a decoder waits for (`fast_awaited`).
 #[derive(Clone, Copy, Debug, PartialEq, Eq)]
 pub enum InHand {
     /// The presence map or the identifier of a message, or the end of a group or an element.
