@@ -291,7 +291,10 @@ class Decoder(Held):
 
     @property
     def in_hand(self) -> tuple[str, int | None]:
-        """The part of the stream that the decoder waits for, or where it has stopped: "message", "map" of a group or an element, or "node" with its number."""
+        """The part of the stream that the decoder waits for, or where it has stopped.
+
+        "message", "map" (of a group or an element), or "node" with its number.
+        """
         return in_hand(self.library, self.handle)
 
     @property
