@@ -1,17 +1,12 @@
-#!/usr/bin/env python3
-"""Tests which program ./fastcat runs and what it builds, in a tree whose programs and tools are stubs.
-
-Each case plants programs of an age, runs ./fastcat, and compares what ran, what was built, the status and standard error with what is wanted.
-"""
+"""Tests which program ./fastcat runs and what it builds. Programs of some age are planted, and what ran, what was built, the status and standard
+error are compared with what is wanted."""
 
 import os
 import shutil
 import subprocess
-import sys
-import tempfile
-import time
 
-TOP = os.path.dirname(os.path.dirname(os.path.dirname(os.path.realpath(__file__))))
+from common import TOP, age, content, run, write
+
 PROVED, UNPROVED = "crates/fastcat/out/fastcat", "out/unproved/fastcat"
 SOURCES = ("crates.txt", "crates/fastcat/src/main.rt", "crates/fastcat/specs/a.antt", "crates/low/src/lib.rt", "crates/low/proofs/b.antt")
 PROGRAM = """#!/bin/sh
@@ -32,22 +27,6 @@ mkdir -p "$(dirname {makes})"
 cp {name}.program {makes}.new && mv {makes}.new {makes}
 """
 LINE = "fastcat: building the program without proofs, in one to three minutes; ./fastcat --prove proves it, in 20 to 40\n"
-
-
-def write(path, text, mode=0o644):
-    os.makedirs(os.path.dirname(path), exist_ok=True)
-    with open(path, "w", encoding="utf-8") as file:
-        file.write(text)
-    os.chmod(path, mode)
-
-
-def age(path, minutes):
-    """Makes a file, or a folder and what it holds, so many minutes old."""
-    at = time.time() - 60 * minutes
-    os.utime(path, (at, at))
-    for folder, folders, files in os.walk(path):
-        for it in (*folders, *files):
-            os.utime(f"{folder}/{it}", (at, at))
 
 
 class Tree:
@@ -71,33 +50,30 @@ class Tree:
         age(f"{self.top}/{program}", minutes)
 
     def run(self, *words, at=None, program="./fastcat", **environment):
-        ran = subprocess.run(
-            [program, *words], cwd=at or self.top, input=b"", capture_output=True, env={**os.environ, **environment}, timeout=20
-        )
-        return ran.returncode, ran.stdout.decode(), ran.stderr.decode()
+        return run([program, *words], at or self.top, **environment)
 
     def built(self):
-        """What the tools have noted, each with the programs that it found."""
-        if not os.path.exists(f"{self.top}/built"):
-            return ""
-        with open(f"{self.top}/built", encoding="utf-8") as file:
-            return file.read()
+        """Returns what the tools have noted, each with the programs that it found."""
+        return content(f"{self.top}/built")
 
 
-def first_run_builds(tree):
+def test_first_run_builds(room):
+    tree = Tree(room)
     assert tree.run("show", "a b", "") == (0, "building's <show> <a b> <>", LINE)
     assert tree.run("show") == (0, "building's <show>", "")
     assert tree.built() == "building fastcat \n"
 
 
-def proved_program_is_preferred(tree):
+def test_proved_program_is_preferred(room):
+    tree = Tree(room)
     tree.plant(PROVED, 30)
     tree.plant(UNPROVED, 10)
     assert tree.run("check", "a b", "") == (0, "proved <check> <a b> <>", "")
     assert tree.built() == ""
 
 
-def each_source_of_a_proof_counts(tree):
+def test_each_source_of_a_proof_counts(room):
+    tree = Tree(room)
     tree.plant(UNPROVED, 10)
     for it in SOURCES:
         tree.plant(PROVED, 30)
@@ -109,7 +85,8 @@ def each_source_of_a_proof_counts(tree):
     assert tree.built() == ""
 
 
-def program_without_proofs_needs_no_proofs(tree):
+def test_program_without_proofs_needs_no_proofs(room):
+    tree = Tree(room)
     tree.plant(UNPROVED, 30)
     for it in ("specs", "proofs"):
         age(f"{tree.top}/crates/{'fastcat' if it == 'specs' else 'low'}/{it}", 20)
@@ -118,7 +95,8 @@ def program_without_proofs_needs_no_proofs(tree):
     assert tree.run() == (0, "building's <>", LINE)
 
 
-def stale_programs_stay(tree):
+def test_stale_programs_stay(room):
+    tree = Tree(room)
     tree.plant(PROVED, 90)
     tree.plant(UNPROVED, 80)
     assert tree.run() == (0, "building's <>", LINE)
@@ -126,14 +104,16 @@ def stale_programs_stay(tree):
     assert os.path.exists(f"{tree.top}/{PROVED}")
 
 
-def failed_build_runs_nothing(tree):
+def test_failed_build_runs_nothing(room):
+    tree = Tree(room)
     tree.plant(PROVED, 90)
     tree.plant(UNPROVED, 80)
     assert tree.run(FAILS="1") == (70, "", LINE)
     assert os.path.exists(f"{tree.top}/{PROVED}") and os.path.exists(f"{tree.top}/{UNPROVED}")
 
 
-def prove_keeps_what_is_there(tree):
+def test_prove_keeps_what_is_there(room):
+    tree = Tree(room)
     tree.plant(PROVED, 90)
     tree.plant(UNPROVED, 10)
     assert tree.run("--prove", FAILS="1") == (1, "", "")
@@ -143,14 +123,16 @@ def prove_keeps_what_is_there(tree):
     assert tree.run() == (0, "proving's <>", "")
 
 
-def prove_stands_alone(tree):
+def test_prove_stands_alone(room):
+    tree = Tree(room)
     tree.plant(UNPROVED, 10)
     assert tree.run("show", "--prove") == (0, "unproved <show> <--prove>", "")
     assert tree.run("--prove", "x") == (0, "unproved <--prove> <x>", "")
     assert tree.built() == ""
 
 
-def status_and_input_pass(tree):
+def test_status_and_input_pass(room):
+    tree = Tree(room)
     for program in (UNPROVED, PROVED):
         tree.plant(program, 10)
         assert tree.run(STATUS="3")[0] == 3
@@ -160,7 +142,8 @@ def status_and_input_pass(tree):
     assert ran.stdout == b"building's <>input", ran.stdout
 
 
-def any_folder_and_link(tree):
+def test_any_folder_and_link(room):
+    tree = Tree(room)
     tree.plant(PROVED, 10)
     link = f"{os.path.dirname(tree.top)}/link"
     os.symlink(f"{tree.top}/fastcat", link)
@@ -168,43 +151,11 @@ def any_folder_and_link(tree):
     assert tree.run("a", at="/", program=f"{tree.top}/fastcat") == (0, "proved <a>", "")
 
 
-def pipeline_builds_once(tree):
+def test_pipeline_builds_once(room):
+    tree = Tree(room)
     runs = [subprocess.Popen(["./fastcat"], cwd=tree.top, stdin=subprocess.DEVNULL, stdout=subprocess.PIPE, stderr=subprocess.PIPE,
                              env={**os.environ, "SECONDS_OF_A_BUILD": "0.3"}) for _ in range(3)]
     said = [it.communicate(timeout=20) for it in runs]
     assert [it[0] for it in said] == [b"building's <>"] * 3, said
     assert sorted(it[1].decode() for it in said) == ["", "", LINE], said
     assert tree.built() == "building fastcat \n"
-
-
-CASES = [
-    first_run_builds,
-    proved_program_is_preferred,
-    each_source_of_a_proof_counts,
-    program_without_proofs_needs_no_proofs,
-    stale_programs_stay,
-    failed_build_runs_nothing,
-    prove_keeps_what_is_there,
-    prove_stands_alone,
-    status_and_input_pass,
-    any_folder_and_link,
-    pipeline_builds_once,
-]
-
-
-def main():
-    failed = 0
-    for it in CASES:
-        with tempfile.TemporaryDirectory() as room:
-            try:
-                it(Tree(room))
-            except (AssertionError, subprocess.TimeoutExpired) as error:
-                failed += 1
-                line = error.__traceback__.tb_next
-                print(f"./fastcat: {it.__name__}, line {line.tb_lineno if line else 0}: {error}", file=sys.stderr)
-    print(f"./fastcat: {len(CASES) - failed} cases passed, {failed} failed")
-    sys.exit(1 if failed else 0)
-
-
-if __name__ == "__main__":
-    main()

@@ -1,0 +1,180 @@
+"""Proves and builds crates of crates.txt, each after those that it stands on, with a line for each on standard error.
+
+There are two kinds of libraries, and they do not mix. `rt lib` writes whole ones, each with a stamp, and keeps what it has proved also where it is cut
+off. `rt ci` writes statements, without a stamp: `rt lib` and `rt check` take none of these and prove everything below anew. They are the same bytes
+whenever they are made of the same sources, so one that is missing is proved over the others, as `rt ci` does it, and fits those above.
+"""
+
+import functools
+import os
+import re
+import shutil
+import subprocess
+import sys
+import time
+
+TOP = os.path.dirname(os.path.dirname(os.path.realpath(__file__)))
+KIT = os.environ.get("KIT", "/opt/rattle")
+SO_FAR = re.compile(r"(?:so far: |checked .*, )(\d+) of (\d+)\b")
+SAME = "rt: nothing has changed since the last proved build"
+LAST_LINES = 20
+
+
+def rows_of(file):
+    """Returns the crates of crates.txt, each with what it stands on."""
+    rows = {}
+    with open(file, encoding="utf-8") as it:
+        for line in it:
+            head, colon, deps = line.partition("#")[0].partition(":")
+            if colon:
+                rows[head.split()[0]] = deps.split()
+    return rows
+
+
+def in_order(name, rows):
+    """Returns a crate's libraries and then the crate, each after those that it stands on."""
+    found = []
+    for dep in rows[name]:
+        if dep in rows:
+            found += [it for it in in_order(dep, rows) if it not in found]
+    return [*found, name]
+
+
+def folder_of(name):
+    return f"{TOP}/crates/{name}"
+
+
+def rlib_of(name):
+    return f"{folder_of(name)}/out/rlib/{name}.rlib"
+
+
+def is_program(name):
+    return os.path.isfile(f"{folder_of(name)}/src/main.rt")
+
+
+@functools.cache
+def changed(name):
+    """Returns when the newest source of a crate was changed."""
+    times = [0.0]
+    for kind in ("src", "specs", "proofs"):
+        for at, _, files in os.walk(f"{folder_of(name)}/{kind}"):
+            times += [os.path.getmtime(it) for it in (at, *(f"{at}/{file}" for file in files))]
+    return max(times)
+
+
+def is_current(made, name, rows):
+    """Returns whether a file or folder is there and no older than the sources of a crate and of all below it."""
+    return os.path.exists(made) and os.path.getmtime(made) >= max(changed(it) for it in in_order(name, rows))
+
+
+def has_stamp(name):
+    return os.path.exists(f"{folder_of(name)}/out/rlib/stamp")
+
+
+def is_from_ci(name, rows):
+    """Returns whether a crate is as `rt ci` proved it."""
+    return not has_stamp(name) and is_current(f"{folder_of(name)}/out/{name}" if is_program(name) else rlib_of(name), name, rows)
+
+
+def jobs():
+    return os.environ.get("RT_JOBS") or str(len(os.sched_getaffinity(0)))
+
+
+@functools.cache
+def tells_progress():
+    """Returns whether the kit's builds have a flag by which they report how far they are; without it they report that of large crates alone."""
+    ran = subprocess.run([f"{KIT}/bin/rattle", "build", "--help"], stdout=subprocess.PIPE, text=True)
+    return "--progress" in ran.stdout
+
+
+class Line:
+    """One line of standard error, written over where that is a terminal, and else only when it is whole."""
+
+    def __init__(self, head):
+        self.head, self.begun, self.said, self.is_terminal = head, time.monotonic(), "", sys.stderr.isatty()
+
+    def say(self, said, ending=""):
+        seconds = int(time.monotonic() - self.begun)
+        line = f"{self.head}, {said + ', ' if said else ''}{seconds // 60}:{seconds % 60:02}"
+        if self.is_terminal:
+            print(f"\r\x1b[K{line}", end=ending, file=sys.stderr, flush=True)
+        elif ending:
+            print(line, end=ending, file=sys.stderr, flush=True)
+
+
+def run(words, name, head, is_well=lambda status, said: not status):
+    """Runs the prover in a crate's folder with a line of progress. Where that did not go well, the prover's last lines end the run."""
+    line, kept, said, number = Line(head), [], "", ""
+    with subprocess.Popen(
+        words, cwd=folder_of(name), stdin=subprocess.DEVNULL, stdout=subprocess.PIPE, stderr=subprocess.STDOUT, text=True, errors="replace"
+    ) as ran:
+        for text in ran.stdout:
+            kept.append(text)
+            if it := SO_FAR.search(text):
+                said, number = f"{it[1]} of {it[2]} functions", f"{it[2]} functions"
+            line.say(said)
+    well = is_well(ran.returncode, kept)
+    line.say(number if well else "not proved", "\n")
+    if not well:
+        sys.exit("".join(kept[-LAST_LINES:]).rstrip("\n"))
+
+
+def words_of(name, rows):
+    """Returns the words by which the prover builds a crate over the libraries that it stands on."""
+    words = [f"{KIT}/bin/rattle", "build", "--crate-name", name, "src/main.rt" if is_program(name) else "src/lib.rt", "--links", f"{name}="]
+    words += ["--antt-project", f"{KIT}/rattle/logic/antt-project.json", "--logic-built", f"{KIT}/logic_built"]
+    for it in dict.fromkeys(["std", *rows[name]]):
+        words += ["--extern", f"{it}={rlib_of(it) if it in rows else f'{KIT}/rlibs/{it}.rlib'}"]
+    for it in (f"{KIT}/rlibs", *(os.path.dirname(rlib_of(it)) for it in in_order(name, rows)[:-1])):
+        words += ["-L", f"dependency={it}"]
+    return words
+
+
+def link(name, objects):
+    """Links a program, which takes the place of the one that was there."""
+    made = f"{folder_of(name)}/out/{name}"
+    words = [f"{KIT}/bin/rattle-link", "--target", "x86_64-unknown-linux-gnu", "--toolchain", f"{KIT}/toolchain", "-o", f"{made}.new", *objects]
+    subprocess.run([*words, f"{KIT}/c/libos_c.a", f"{KIT}/c/liblibc_c.a"], check=True, stderr=subprocess.DEVNULL)
+    os.replace(f"{made}.new", made)
+
+
+def prove_as_ci(name, rows, head):
+    """Proves one crate over the statements that `rt ci` left of the others, and leaves its own, or a program."""
+    words = [*words_of(name, rows), "--jobs", jobs()]
+    if is_program(name):
+        made = f"{folder_of(name)}/out/{name}.o"
+        os.makedirs(os.path.dirname(made), exist_ok=True)
+        run([*words, "--toolchain", f"{KIT}/toolchain", "-o", made], name, head)
+        link(name, [made])
+    else:
+        shutil.rmtree(os.path.dirname(rlib_of(name)), ignore_errors=True)
+        os.makedirs(os.path.dirname(rlib_of(name)))
+        run([*words, "--statements", "-o", rlib_of(name)], name, head)
+
+
+def prove_as_lib(name, head):
+    """Proves one crate by rt lib, or a program by rt run, which runs it once with no input, over what earlier runs kept."""
+    if not is_program(name):
+        run([f"{KIT}/bin/rt", "lib", "--jobs", jobs(), *(["--progress"] if tells_progress() else [])], name, head)
+        return
+    made, begun = f"{folder_of(name)}/out/{name}", time.time()
+
+    def is_well(_, said):
+        # The status is the program's own.
+        return os.path.exists(made) and (os.path.getmtime(made) >= begun or any(it.startswith(SAME) for it in said))
+
+    run([f"{KIT}/bin/rt", "run", "--jobs", jobs()], name, head, is_well)
+    # A source that was changed meanwhile is newer than the program.
+    os.utime(made, (begun, begun))
+
+
+def prove_all(crates, rows):
+    """Proves and builds crates, lowest first, with all that they stand on among them. What `rt ci` or earlier runs have proved is not proved again."""
+    from_ci = {it for it in crates if is_from_ci(it, rows)}
+    as_ci = len(from_ci) > sum(map(has_stamp, crates))
+    for number, it in enumerate(crates, 1):
+        head = f"{it} {number} of {len(crates)}"
+        if not as_ci:
+            prove_as_lib(it, head)
+        elif it not in from_ci:
+            prove_as_ci(it, rows, head)
