@@ -8,7 +8,9 @@ import subprocess
 from common import TOP, age, content, run, write
 
 PROVED, UNPROVED = "crates/fastcat/out/fastcat", "out/unproved/fastcat"
-SOURCES = ("crates.txt", "crates/fastcat/src/main.rt", "crates/fastcat/specs/a.antt", "crates/low/src/lib.rt", "crates/low/proofs/b.antt")
+CRATES = "# lowest first\nlow: hex\nmid: low\nother: mid\nfastcat: mid clap\n"
+SOURCES = ("crates/fastcat/src/main.rt", "crates/fastcat/specs/a.antt", "crates/low/src/lib.rt", "crates/low/proofs/b.antt", "crates/mid/src/lib.rt")
+OTHERS = ("crates/other/src/lib.rt", "crates/other/proofs/c.antt", "crates/hex/src/lib.rt")
 PROGRAM = """#!/bin/sh
 # Prints which program ran, its arguments and its input, and ends with the status that STATUS names.
 printf '%s' "{0}"
@@ -36,7 +38,8 @@ class Tree:
         self.top = f"{room}/tree"
         os.makedirs(self.top)
         shutil.copy(f"{TOP}/fastcat", f"{self.top}/fastcat")
-        for it in SOURCES:
+        write(f"{self.top}/crates.txt", CRATES)
+        for it in (*SOURCES, *OTHERS):
             write(f"{self.top}/{it}", "\n")
         for it in ("crates.txt", "crates"):
             age(f"{self.top}/{it}", 60)
@@ -83,6 +86,14 @@ def test_each_source_of_a_proof_counts(room):
     tree.plant(PROVED, 30)
     assert tree.run() == (0, "proved <>", "")
     assert tree.built() == ""
+
+
+def test_other_crates_do_not_count(room):
+    tree = Tree(room)
+    tree.plant(PROVED, 30)
+    for it in OTHERS:
+        age(f"{tree.top}/{it}", 20)
+    assert tree.run() == (0, "proved <>", "")
 
 
 def test_program_without_proofs_needs_no_proofs(room):
