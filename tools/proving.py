@@ -80,10 +80,17 @@ def jobs():
     return os.environ.get("RT_JOBS") or str(len(os.sched_getaffinity(0)))
 
 
+def rattle():
+    """Returns the path of the prover. Ends the run where the kit is missing."""
+    if not os.path.exists(f"{KIT}/bin/rattle"):
+        sys.exit(f"{KIT}/bin/rattle does not exist: set KIT to the folder of the Rattle kit")
+    return f"{KIT}/bin/rattle"
+
+
 @functools.cache
 def tells_progress():
     """Returns whether the kit's builds have a flag by which they report how far they are; without it they report that of large crates alone."""
-    ran = subprocess.run([f"{KIT}/bin/rattle", "build", "--help"], stdout=subprocess.PIPE, text=True)
+    ran = subprocess.run([rattle(), "build", "--help"], stdout=subprocess.PIPE, text=True)
     return "--progress" in ran.stdout
 
 
@@ -105,14 +112,16 @@ class Line:
 def run(words, name, head, is_well=lambda status, said: not status):
     """Runs the prover in a crate's folder with a line of progress. Where that did not go well, the prover's last lines end the run."""
     line, kept, said, number = Line(head), [], "", ""
-    with subprocess.Popen(
-        words, cwd=folder_of(name), stdin=subprocess.DEVNULL, stdout=subprocess.PIPE, stderr=subprocess.STDOUT, text=True, errors="replace"
-    ) as ran:
-        for text in ran.stdout:
-            kept.append(text)
-            if it := SO_FAR.search(text):
-                said, number = f"{it[1]} of {it[2]} functions", f"{it[2]} functions"
-            line.say(said)
+    how = {"stdin": subprocess.DEVNULL, "stdout": subprocess.PIPE, "stderr": subprocess.STDOUT, "text": True, "errors": "replace"}
+    with subprocess.Popen(words, cwd=folder_of(name), **how) as ran:
+        try:
+            for text in ran.stdout:
+                kept.append(text)
+                if it := SO_FAR.search(text):
+                    said, number = f"{it[1]} of {it[2]} functions", f"{it[2]} functions"
+                line.say(said)
+        except KeyboardInterrupt:
+            sys.exit(130)
     well = is_well(ran.returncode, kept)
     line.say(number if well else "not proved", "\n")
     if not well:
@@ -121,7 +130,7 @@ def run(words, name, head, is_well=lambda status, said: not status):
 
 def words_of(name, rows):
     """Returns the words by which the prover builds a crate over the libraries that it stands on."""
-    words = [f"{KIT}/bin/rattle", "build", "--crate-name", name, "src/main.rt" if is_program(name) else "src/lib.rt", "--links", f"{name}="]
+    words = [rattle(), "build", "--crate-name", name, "src/main.rt" if is_program(name) else "src/lib.rt", "--links", f"{name}="]
     words += ["--antt-project", f"{KIT}/rattle/logic/antt-project.json", "--logic-built", f"{KIT}/logic_built"]
     for it in dict.fromkeys(["std", *rows[name]]):
         words += ["--extern", f"{it}={rlib_of(it) if it in rows else f'{KIT}/rlibs/{it}.rlib'}"]

@@ -21,6 +21,8 @@ exec "{1}" "$@"
 
 def module_of(folder, room):
     """Writes the module of the program in a folder, with its checks at run time, to room/module.bc. Ends the run where there is none."""
+    if not os.path.exists(f"{KIT}/bin/rt"):
+        sys.exit(f"{KIT}/bin/rt does not exist: set KIT to the folder of the Rattle kit")
     os.makedirs(f"{room}/kit/bin")
     for it in os.listdir(KIT):
         if it not in ("bin", "toolchain"):
