@@ -48,6 +48,10 @@ def rlib_of(name):
     return f"{folder_of(name)}/out/rlib/{name}.rlib"
 
 
+def program_of(name):
+    return f"{folder_of(name)}/out/{name}"
+
+
 def is_program(name):
     return os.path.isfile(f"{folder_of(name)}/src/main.rt")
 
@@ -73,7 +77,7 @@ def has_stamp(name):
 
 def is_from_ci(name, rows):
     """Returns whether a crate is as `rt ci` proved it."""
-    return not has_stamp(name) and is_current(f"{folder_of(name)}/out/{name}" if is_program(name) else rlib_of(name), name, rows)
+    return not has_stamp(name) and is_current(program_of(name) if is_program(name) else rlib_of(name), name, rows)
 
 
 def jobs():
@@ -139,26 +143,32 @@ def words_of(name, rows):
     return words
 
 
-def link(name, objects):
-    """Links a program, which takes the place of the one that was there."""
-    made = f"{folder_of(name)}/out/{name}"
-    words = [f"{KIT}/bin/rattle-link", "--target", "x86_64-unknown-linux-gnu", "--toolchain", f"{KIT}/toolchain", "-o", f"{made}.new", *objects]
+def link(made, code):
+    """Links a program, which replaces the one that was there."""
+    words = [f"{KIT}/bin/rattle-link", "--target", "x86_64-unknown-linux-gnu", "--toolchain", f"{KIT}/toolchain", "-o", f"{made}.new", code]
     subprocess.run([*words, f"{KIT}/c/libos_c.a", f"{KIT}/c/liblibc_c.a"], check=True, stderr=subprocess.DEVNULL)
     os.replace(f"{made}.new", made)
 
 
+def date(made, begun):
+    """Dates what a run has made by the start of the run, so that a source which was changed meanwhile is newer."""
+    os.utime(made, (begun, begun))
+
+
 def prove_as_ci(name, rows, head):
     """Proves one crate over the statements that `rt ci` left of the others, and leaves its own, or a program."""
-    words = [*words_of(name, rows), "--jobs", jobs()]
+    begun, words = time.time(), [*words_of(name, rows), "--jobs", jobs()]
     if is_program(name):
-        made = f"{folder_of(name)}/out/{name}.o"
+        made = program_of(name)
         os.makedirs(os.path.dirname(made), exist_ok=True)
-        run([*words, "--toolchain", f"{KIT}/toolchain", "-o", made], name, head)
-        link(name, [made])
+        run([*words, "--toolchain", f"{KIT}/toolchain", "-o", f"{made}.o"], name, head)
+        link(made, f"{made}.o")
     else:
-        shutil.rmtree(os.path.dirname(rlib_of(name)), ignore_errors=True)
-        os.makedirs(os.path.dirname(rlib_of(name)))
-        run([*words, "--statements", "-o", rlib_of(name)], name, head)
+        made = rlib_of(name)
+        shutil.rmtree(os.path.dirname(made), ignore_errors=True)
+        os.makedirs(os.path.dirname(made))
+        run([*words, "--statements", "-o", made], name, head)
+    date(made, begun)
 
 
 def prove_as_lib(name, head):
@@ -166,15 +176,15 @@ def prove_as_lib(name, head):
     if not is_program(name):
         run([f"{KIT}/bin/rt", "lib", "--jobs", jobs(), *(["--progress"] if tells_progress() else [])], name, head)
         return
-    made, begun = f"{folder_of(name)}/out/{name}", time.time()
+    made, begun = program_of(name), time.time()
+    was = os.path.getmtime(made) if os.path.exists(made) else None
 
     def is_well(_, said):
         # The status is the program's own.
-        return os.path.exists(made) and (os.path.getmtime(made) >= begun or any(it.startswith(SAME) for it in said))
+        return os.path.exists(made) and (os.path.getmtime(made) != was or any(it.startswith(SAME) for it in said))
 
     run([f"{KIT}/bin/rt", "run", "--jobs", jobs()], name, head, is_well)
-    # A source that was changed meanwhile is newer than the program.
-    os.utime(made, (begun, begun))
+    date(made, begun)
 
 
 def prove_all(crates, rows):
