@@ -1,8 +1,9 @@
-"""Proves and builds crates of crates.txt, each after those that it stands on, with a line for each on standard error.
+"""Proves and builds crates of crates.txt, each after its dependencies, with a line of progress for each on standard error.
 
-There are two kinds of libraries, and they do not mix. `rt lib` writes whole ones, each with a stamp, and keeps what it has proved also where it is cut
-off. `rt ci` writes statements, without a stamp: `rt lib` and `rt check` take none of these and prove everything below anew. They are the same bytes
-whenever they are made of the same sources, so one that is missing is proved over the others, as `rt ci` does it, and fits those above.
+There are two kinds of libraries, and they do not mix. `rt lib` writes whole ones, each with a stamp, and keeps its proofs even if it is
+interrupted. `rt ci` writes statements, without a stamp. `rt lib` and `rt check` accept none of these, and prove all dependencies again.
+Statements made from the same sources are the same bytes. So a missing one is proved over the others, as `rt ci` does, and fits the crates
+that were built over the first.
 """
 
 import functools
@@ -21,7 +22,7 @@ LAST_LINES = 20
 
 
 def rows_of(file):
-    """Returns the crates of crates.txt, each with what it stands on."""
+    """Returns the crates of crates.txt, each with its dependencies."""
     rows = {}
     with open(file, encoding="utf-8") as it:
         for line in it:
@@ -32,7 +33,7 @@ def rows_of(file):
 
 
 def in_order(name, rows):
-    """Returns a crate's libraries and then the crate, each after those that it stands on."""
+    """Returns a crate's libraries and then the crate, each after its dependencies."""
     found = []
     for dep in rows[name]:
         if dep in rows:
@@ -67,7 +68,7 @@ def changed(name):
 
 
 def is_current(made, name, rows):
-    """Returns whether a file or folder is there and no older than the sources of a crate and of all below it."""
+    """Returns whether a file or folder exists and is no older than the sources of a crate and its dependencies."""
     return os.path.exists(made) and os.path.getmtime(made) >= max(changed(it) for it in in_order(name, rows))
 
 
@@ -76,7 +77,7 @@ def has_stamp(name):
 
 
 def is_from_ci(name, rows):
-    """Returns whether a crate is as `rt ci` proved it."""
+    """Returns whether a crate is up to date as `rt ci` left it."""
     return not has_stamp(name) and is_current(program_of(name) if is_program(name) else rlib_of(name), name, rows)
 
 
@@ -85,7 +86,7 @@ def jobs():
 
 
 def rattle():
-    """Returns the path of the prover. Ends the run where the kit is missing."""
+    """Returns the path of the prover. Exits if the kit is missing."""
     if not os.path.exists(f"{KIT}/bin/rattle"):
         sys.exit(f"{KIT}/bin/rattle does not exist: set KIT to the folder of the Rattle kit")
     return f"{KIT}/bin/rattle"
@@ -93,13 +94,13 @@ def rattle():
 
 @functools.cache
 def tells_progress():
-    """Returns whether the kit's builds have a flag by which they report how far they are; without it they report that of large crates alone."""
+    """Returns whether the kit's builds have a flag for progress; without it they print progress only for large crates."""
     ran = subprocess.run([rattle(), "build", "--help"], stdout=subprocess.PIPE, text=True)
     return "--progress" in ran.stdout
 
 
 class Line:
-    """One line of standard error, written over where that is a terminal, and else only when it is whole."""
+    """One line of standard error, overwritten on a terminal, and printed only when complete elsewhere."""
 
     def __init__(self, head):
         self.head, self.begun, self.said, self.is_terminal = head, time.monotonic(), "", sys.stderr.isatty()
@@ -114,7 +115,7 @@ class Line:
 
 
 def run(words, name, head, is_well=lambda status, said: not status):
-    """Runs the prover in a crate's folder with a line of progress. Where that did not go well, the prover's last lines end the run."""
+    """Runs the prover in a crate's folder with a line of progress. If it fails, prints its last lines and exits."""
     line, kept, said, number = Line(head), [], "", ""
     how = {"stdin": subprocess.DEVNULL, "stdout": subprocess.PIPE, "stderr": subprocess.STDOUT, "text": True, "errors": "replace"}
     with subprocess.Popen(words, cwd=folder_of(name), **how) as ran:
@@ -133,7 +134,7 @@ def run(words, name, head, is_well=lambda status, said: not status):
 
 
 def words_of(name, rows):
-    """Returns the words by which the prover builds a crate over the libraries that it stands on."""
+    """Returns the command by which the prover builds a crate over its dependencies."""
     words = [rattle(), "build", "--crate-name", name, "src/main.rt" if is_program(name) else "src/lib.rt", "--links", f"{name}="]
     words += ["--antt-project", f"{KIT}/rattle/logic/antt-project.json", "--logic-built", f"{KIT}/logic_built"]
     for it in dict.fromkeys(["std", *rows[name]]):
@@ -144,19 +145,19 @@ def words_of(name, rows):
 
 
 def link(made, code):
-    """Links a program, which replaces the one that was there."""
+    """Links a program, which replaces the earlier one only when it is complete."""
     words = [f"{KIT}/bin/rattle-link", "--target", "x86_64-unknown-linux-gnu", "--toolchain", f"{KIT}/toolchain", "-o", f"{made}.new", code]
     subprocess.run([*words, f"{KIT}/c/libos_c.a", f"{KIT}/c/liblibc_c.a"], check=True, stderr=subprocess.DEVNULL)
     os.replace(f"{made}.new", made)
 
 
 def date(made, begun):
-    """Dates what a run has made by the start of the run, so that a source which was changed meanwhile is newer."""
+    """Sets the time of a result to the start of its run, so that a source changed during the run is newer."""
     os.utime(made, (begun, begun))
 
 
 def prove_as_ci(name, rows, head):
-    """Proves one crate over the statements that `rt ci` left of the others, and leaves its own, or a program."""
+    """Proves one crate over the statements that `rt ci` left, and writes its own statements, or links the program."""
     begun, words = time.time(), [*words_of(name, rows), "--jobs", jobs()]
     if is_program(name):
         made = program_of(name)
@@ -172,7 +173,7 @@ def prove_as_ci(name, rows, head):
 
 
 def prove_as_lib(name, head):
-    """Proves one crate by rt lib, or a program by rt run, which runs it once with no input, over what earlier runs kept."""
+    """Proves one crate by `rt lib`, or a program by `rt run`, which runs it once with no input. Reuses the proofs of earlier runs."""
     if not is_program(name):
         run([f"{KIT}/bin/rt", "lib", "--jobs", jobs(), *(["--progress"] if tells_progress() else [])], name, head)
         return
@@ -188,7 +189,7 @@ def prove_as_lib(name, head):
 
 
 def prove_all(crates, rows):
-    """Proves and builds crates, lowest first, with all that they stand on among them. What `rt ci` or earlier runs have proved is not proved again."""
+    """Proves and builds crates, given in order with all their dependencies. Reuses what `rt ci` or earlier runs have proved."""
     from_ci = {it for it in crates if is_from_ci(it, rows)}
     as_ci = len(from_ci) > sum(map(has_stamp, crates))
     for number, it in enumerate(crates, 1):

@@ -1,4 +1,4 @@
-"""What the tests share: files of some age, and runs of what is tested."""
+"""Files of some age, and runs of the tools."""
 
 import os
 import subprocess
@@ -15,7 +15,7 @@ def write(path, text, mode=0o644):
 
 
 def content(path):
-    """Returns the text of a file, which is empty where there is none."""
+    """Returns the text of a file, or an empty string if there is none."""
     if not os.path.exists(path):
         return ""
     with open(path, encoding="utf-8") as file:
@@ -23,7 +23,7 @@ def content(path):
 
 
 def age(path, minutes):
-    """Makes a file, or a folder and what it holds, so many minutes old."""
+    """Makes a file, or a folder with its contents, this many minutes old."""
     at = time.time() - 60 * minutes
     os.utime(path, (at, at))
     for folder, folders, files in os.walk(path):

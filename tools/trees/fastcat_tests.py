@@ -1,5 +1,5 @@
-"""Tests which program ./fastcat runs and what it builds. Programs of some age are planted, and what ran, what was built, the status and standard
-error are compared with what is wanted."""
+"""Tests which program ./fastcat runs and what it builds: each test plants programs of some age, and checks the output, the status, standard
+error and the tools that ran."""
 
 import os
 import shutil
@@ -18,7 +18,7 @@ printf ' <%s>' "$@"
 cat
 exit "${{STATUS:-0}}"
 """
-# Notes that it ran, and what it found there; then fails, or makes a program as the tool does: whole, in one step.
+# Notes its call and the programs that exist; then fails, or makes a program in one step, as the tool does.
 TOOL = """#!/bin/sh
 cd "$(dirname "$0")/{up}"
 echo "{name} $* $(ls -d {proved} {unproved} 2>/dev/null | tr '\\n' ' ')" >>built
@@ -56,7 +56,7 @@ class Tree:
         return run([program, *words], at or self.top, **environment)
 
     def built(self):
-        """Returns what the tools have noted, each with the programs that it found."""
+        """Returns the notes of the tools."""
         return content(f"{self.top}/built")
 
 

@@ -1,4 +1,4 @@
-"""Tests what tools/build and tools/library prove, over what `rt ci` and earlier runs have left. The kit is a stub that notes what it is asked for."""
+"""Tests what tools/build and tools/library prove, over the results of `rt ci` and of earlier runs. The kit is a stub that notes its calls."""
 
 import os
 import shutil
@@ -8,7 +8,7 @@ import time
 from common import TOP, age, content, run, write
 
 CRATES = {"low": "", "mid": "low hex", "top": "low mid", "app": "top", "fast_c": "top"}
-# Notes a crate and what is made of it, and makes that, unless the crate is the one that FAILS names.
+# Notes the crate and the type of the result, and makes it, unless FAILS names the crate.
 RATTLE = """#!/bin/sh
 case "$*" in *--help*) exit 0 ;; esac
 kind=rlib
@@ -79,7 +79,7 @@ class Tree:
         return {"KIT": self.kit, "NOTES": notes, "RT_JOBS": "1", "PATH": f"{self.kit}/cc:{os.environ['PATH']}"}
 
     def run(self, tool, *words, **environment):
-        """Returns the status, what the kit was asked for, and the lines of standard error without their times."""
+        """Returns the status, the calls of the kit, and the lines of standard error without their times."""
         notes = f"{self.top}/notes"
         write(notes, "")
         status, said, lines = run([f"{self.top}/tools/{tool}", *words], "/", **self.environment(notes), **environment)
@@ -88,7 +88,7 @@ class Tree:
 
 
 def test_fresh_tree(room):
-    """Each crate after those that it stands on; the status of a program's run says nothing of its proof."""
+    """Each crate comes after its dependencies. The status of a program's run does not count: the stub's is 3."""
     tree = Tree(room)
     status, notes, lines = tree.run("build", "app")
     assert (status, notes) == (0, ["low lib", "mid lib", "top lib", "app run"]), (status, notes, lines)
@@ -116,7 +116,7 @@ def test_program_stays_until_the_next(room):
 
 
 def test_missing_one_is_proved_over_the_others(room):
-    """As a gate leaves it that was ended in the middle: a folder for a library, and no library."""
+    """A gate that was interrupted leaves an empty folder for a library."""
     for tool, name, last in (("build", "app", "app rlib"), ("library", "fast_c", "fast_c static,llvm")):
         tree = Tree(f"{room}/{tool}")
         tree.leave("low", "top")
@@ -137,7 +137,7 @@ def test_nothing_is_missing(room):
 
 
 def test_changed_source(room):
-    """All above a changed crate is proved again, over the statements of those that are as they were."""
+    """The crates that depend on a changed one are proved again, over the statements of the unchanged ones."""
     tree = Tree(room)
     tree.leave("low", "mid", "top")
     age(tree.path("mid", "proofs"), 10)
@@ -148,7 +148,7 @@ def test_changed_source(room):
 
 
 def test_libraries_of_rt_lib(room):
-    """Which of the two kinds of libraries there are more of decides how the others are proved."""
+    """The kind of which there are more decides how the others are proved."""
     tree = Tree(f"{room}/1")
     tree.leave("low", "mid", stamp=True)
     tree.leave("top")
@@ -180,7 +180,7 @@ def test_shared_library(room):
 
 
 def test_beside(room):
-    """The library waits until all below it has been proved, and proves nothing but itself."""
+    """It waits until the dependencies have been proved, and proves nothing else."""
     tree = Tree(room)
     said, notes = f"{room}/said", f"{room}/notes"
     write(said, "rt: low proved\nrt: mid proved\nrt: top: its tests are proved\n")
@@ -203,6 +203,6 @@ def test_beside_a_gate_that_failed(room):
     write(said, "rt: low proved\nrt: mid proved\nrt: top proved\n3 passed, 0 failed\n")
     tree.leave("low", "mid", "top")
     age(tree.path("mid", "src"), 10)
-    assert tree.run("library", "--beside", said, "fast_c") == (1, [], ["library: mid is not as rt ci has proved it"])
+    assert tree.run("library", "--beside", said, "fast_c") == (1, [], ["library: mid has changed since rt ci proved it"])
     age(tree.path("mid", "src"), 60)
     assert tree.run("library", "--beside", said, "fast_c")[:2] == (0, ["fast_c static,llvm"])

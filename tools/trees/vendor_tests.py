@@ -1,4 +1,4 @@
-"""Tests the repository that tools/vendor makes, and what a second run changes in it."""
+"""Tests the repository that tools/vendor makes, and the changes of a second run."""
 
 import os
 import re
@@ -18,7 +18,7 @@ def rows_of(path):
 
 
 def below(rows, *names):
-    """Returns these crates and all that they stand on."""
+    """Returns these crates and their dependencies."""
     found = {it for it in names if it in rows}
     return found.union(*(below(rows, *rows[it].split()) for it in found))
 
@@ -35,7 +35,7 @@ def files_in(folder):
 
 
 def test_new_repository(room):
-    """The crates as they are here, their rows, a starter, and what `rt ci` wants; a second run changes nothing."""
+    """The crates, their rows, a starter, and the files for `rt ci`; a second run changes nothing."""
     folder, rows = f"{room}/mine", rows_of(f"{TOP}/crates.txt")
     assert vendor(folder) == (0, "", "")
     crates = below(rows, *FOUR)
@@ -63,7 +63,7 @@ def test_starter_is_that_of_the_readme(room):
 
 
 def test_only_those_named(room):
-    """Their crates, and no starter that would not build."""
+    """No starter is made if its dependencies are not among them."""
     folder, rows = f"{room}/mine", rows_of(f"{TOP}/crates.txt")
     assert vendor(folder, "fast_tree") == (0, "", "")
     assert {*os.listdir(f"{folder}/crates")} == below(rows, "fast_tree") == {*rows_of(f"{folder}/crates.txt")}
@@ -106,7 +106,7 @@ def refuses(folder, *crates, says):
 
 
 def test_refusals(room):
-    """Another crate of a name, by its folder or its row, and one that was changed: nothing is written."""
+    """Another crate of the same name, by its folder or its row, and a crate that was changed: nothing is written."""
     write(f"{room}/a/crates/fast_value/src/lib.rt", "//! Another.\n")
     refuses(f"{room}/a", "fast_value", says=f"{room}/a has another crate fast_value")
     write(f"{room}/b/crates.txt", "fast_wire: hex\n")

@@ -1,4 +1,4 @@
-"""The LLVM module that the kit's `rt try` makes of a program, and the program that the kit's compiler and linker make of a module. Neither proves anything."""
+"""Makes the LLVM module of a program by the kit's `rt try`, and a program from a module. Neither proves anything."""
 import os
 import shutil
 import subprocess
@@ -20,7 +20,7 @@ exec "{1}" "$@"
 
 
 def module_of(folder, room):
-    """Writes the module of the program in a folder, with its checks at run time, to room/module.bc. Ends the run where there is none."""
+    """Writes the module of the program in a folder, with its run-time checks, to room/module.bc. Exits if there is none."""
     if not os.path.exists(f"{KIT}/bin/rt"):
         sys.exit(f"{KIT}/bin/rt does not exist: set KIT to the folder of the Rattle kit")
     os.makedirs(f"{room}/kit/bin")
