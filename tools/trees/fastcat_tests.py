@@ -28,7 +28,7 @@ sleep "${{SECONDS_OF_A_BUILD:-0}}"
 mkdir -p "$(dirname {makes})"
 cp {name}.program {makes}.new && mv {makes}.new {makes}
 """
-LINE = "fastcat: building the program without proofs, in one to three minutes; ./fastcat --prove proves it, in 20 to 40\n"
+LINE = "fastcat: building the program without proofs, in under three minutes; ./fastcat --prove proves it, in 20 to 40\n"
 
 
 class Tree:

@@ -53,13 +53,11 @@ def test_new_repository(room):
 
 
 def test_starter_is_that_of_the_readme(room):
-    """The README's function `events` is the starter's, but for its layout and comments."""
+    """The README's function `events` is the starter's."""
     folder = f"{room}/mine"
     assert vendor(folder)[0] == 0
     example = re.search(r"```rust\n([^`]*pub fn events[^`]*)```", content(f"{TOP}/README.md"))[1]
-    starter = content(f"{folder}/crates/starter/src/lib.rt").partition("#[cfg(test)]")[0]
-    tokens = lambda it: re.findall(r"\w+|[^\w\s]", re.sub(r",(\s*})", r"\1", re.sub(r"//.*", "", it)))
-    assert tokens(example) == tokens(starter)
+    assert example in content(f"{folder}/crates/starter/src/lib.rt")
 
 
 def test_only_those_named(room):
