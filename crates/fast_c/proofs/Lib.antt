@@ -1,2 +1,3 @@
+mod Boxes
 mod Made
 mod Firsts

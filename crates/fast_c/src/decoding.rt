@@ -46,6 +46,9 @@ impl Model for DecoderHandle {
     ghost also_owns = { λ h. box_owns (ghosts.dealloc_token h.alloc) the_row h.at h.value };
 }
 
+// A decoder is `Send`, and any thread may free its block.
+unsafe impl Send for DecoderHandle {}
+
 impl DecoderHandle {
     ghost use Rattle.std.specs.Prelude.{◌≡◌};
 

@@ -46,6 +46,9 @@ impl Model for EncoderHandle {
     ghost also_owns = { λ h. box_owns (ghosts.dealloc_token h.alloc) the_row h.at h.value };
 }
 
+// An encoder is `Send`, and any thread may free its block.
+unsafe impl Send for EncoderHandle {}
+
 impl EncoderHandle {
     ghost use Rattle.std.specs.Prelude.{◌≡◌};
 

@@ -39,6 +39,9 @@ impl Model for SetHandle {
     ghost also_owns = { λ h. box_owns (ghosts.dealloc_token h.alloc) the_row h.at h.value };
 }
 
+// A set is `Send`, and any thread may free its block.
+unsafe impl Send for SetHandle {}
+
 impl SetHandle {
     ghost use Rattle.std.specs.Prelude.{◌≡◌};
 

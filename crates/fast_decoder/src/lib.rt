@@ -4,6 +4,7 @@
 pub mod decoder;
 pub mod laws;
 pub mod recorder;
+pub mod threads;
 
 pub use decoder::Decoder;
 pub use fast_machine::in_hand::Due;

@@ -4,6 +4,7 @@
 pub mod encoder;
 pub mod laws;
 pub mod round_trips;
+pub mod threads;
 
 pub use encoder::Encoder;
 pub use fast_decoder::MakeError;

@@ -15,6 +15,9 @@ impl Model for Turns {
     ghost also_owns = { λ _. ftrue };
 }
 
+// It owns nothing.
+unsafe impl Send for Turns {}
+
 impl Turns {
     /// Returns a count of no turn.
     #[inline]

@@ -7,6 +7,7 @@ pub mod queries;
 mod read;
 pub mod sets;
 mod texts;
+pub mod threads;
 pub mod vectors;
 mod widths;
 
