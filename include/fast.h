@@ -2,7 +2,12 @@
 // Link with libfast_c.a, which `tools/library fast_c` makes, and with heap.c or another heap (below).
 //
 // A template set is read from TOML text; decoders and encoders are made from a set. The types of the pointers are opaque: do not read,
-// copy or move them. Do not use one pointer in two threads at once, nor pass one to another thread: the proofs do not cover that.
+// copy or move the objects.
+//
+// Threads: any number of threads may use one set at the same time; it is closed after the last use. A decoder or an encoder may move to
+// another thread between two calls, and one call at a time uses it. Order the calls of different threads by a lock, the start or join of a
+// thread, or a sequentially consistent atomic. The functions of the heap (below) are called by each thread that calls the library: where there
+// are several, they have to be thread-safe, as those of the C library are.
 //
 // The caller owns the set, decoder or encoder that it makes, and closes it once. A decoder or an encoder borrows its set from the time it is
 // opened until it is closed; any number may share one set, which is closed after all of them. Buffers belong to the caller: the library keeps

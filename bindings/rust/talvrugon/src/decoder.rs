@@ -193,6 +193,10 @@ impl Decoder {
     }
 }
 
+// `Send` of a decoder is proved (`decoder_crosses_threads` of crates/fast_decoder, `DecoderHandle` of crates/fast_c),
+// and each call of the library has it alone, by `&mut self`.
+unsafe impl Send for Decoder {}
+
 impl Drop for Decoder {
     fn drop(&mut self) {
         // SAFETY: `fast_decoder_open` made the decoder, and only this closes it.

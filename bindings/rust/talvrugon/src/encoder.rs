@@ -85,6 +85,10 @@ impl Encoder {
     }
 }
 
+// `Send` of an encoder is proved (`encoder_crosses_threads` of crates/fast_encoder, `EncoderHandle` of crates/fast_c),
+// and each call of the library has it alone, by `&mut self`.
+unsafe impl Send for Encoder {}
+
 impl Drop for Encoder {
     fn drop(&mut self) {
         // SAFETY: `fast_encoder_open` made the encoder, and only this closes it.

@@ -11,7 +11,7 @@
 //! ```
 //!
 //! The library is proved; this crate is not. Its `unsafe` blocks contain only calls of `talvrugon-sys`, each with the reason why it is
-//! sound. No type is `Send`, since nothing is proved about the use of the library from several threads.
+//! sound. Threads may share a [`Set`]; a [`Decoder`] or an [`Encoder`] may move between threads, which is proved of the library's types.
 
 mod decoder;
 mod encoder;

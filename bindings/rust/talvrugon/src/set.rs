@@ -1,6 +1,6 @@
 use crate::error::{expect, Error};
 use std::ptr::{null_mut, NonNull};
-use std::rc::Rc;
+use std::sync::Arc;
 use talvrugon_sys::Handle;
 
 /// The limits of a decoder or an encoder.
@@ -22,12 +22,18 @@ impl Default for Limits {
     }
 }
 
-/// A template set. Clones share one set, which is closed with the last of them and of the decoders and encoders made from it.
+/// A template set, which threads may share. Clones share one set, which is closed with the last of them and of the decoders and encoders
+/// made from it.
 #[derive(Clone, Debug)]
-pub struct Set(Rc<Owned>);
+pub struct Set(Arc<Owned>);
 
 #[derive(Debug)]
 struct Owned(NonNull<talvrugon_sys::Set>);
+
+// SAFETY: `Send` and `Sync` of a set are proved (`set_crosses_threads` of crates/fast_template, `SetHandle` of crates/fast_c): no call
+// changes it, and any thread may close it.
+unsafe impl Send for Owned {}
+unsafe impl Sync for Owned {}
 
 impl Drop for Owned {
     fn drop(&mut self) {
@@ -45,7 +51,7 @@ impl Set {
         let mut set = null_mut();
         // SAFETY: a slice, and a pointer that is valid for a write.
         expect(unsafe { talvrugon_sys::fast_set_read(text.as_ptr(), text.len(), &mut set) })?;
-        Ok(Set(Rc::new(Owned(NonNull::new(set).expect("a set was made")))))
+        Ok(Set(Arc::new(Owned(NonNull::new(set).expect("a set was made")))))
     }
 
     pub(crate) fn handle(&self) -> Handle<talvrugon_sys::Set> {
