@@ -2,12 +2,11 @@
 // Link with libfast_c.a, which `tools/library fast_c` makes, and with heap.c or another heap (below).
 //
 // A template set is read from TOML text; decoders and encoders are made from a set. The types of the pointers are opaque: do not read,
-// copy or move the objects.
+// copy or move them.
 //
-// Threads: any number of threads may use one set at the same time; it is closed after the last use. A decoder or an encoder may move to
-// another thread between two calls, and one call at a time uses it. Order the calls of different threads by a lock, the start or join of a
-// thread, or a sequentially consistent atomic. The functions of the heap (below) are called by each thread that calls the library: where there
-// are several, they have to be thread-safe, as those of the C library are.
+// Threads: any number of threads may use one set at the same time; close it after the last use. A decoder or an encoder may move to another
+// thread between two calls, and only one call at a time may use it. Order the calls of different threads by a lock, the start or join of a
+// thread, or a sequentially consistent atomic. The library calls the heap (below) on the thread that calls the library.
 //
 // The caller owns the set, decoder or encoder that it makes, and closes it once. A decoder or an encoder borrows its set from the time it is
 // opened until it is closed; any number may share one set, which is closed after all of them. Buffers belong to the caller: the library keeps
@@ -112,6 +111,7 @@ size_t fast_status_words(uint32_t status, uint8_t *out, size_t out_len);
 uint32_t fast_interface(void);
 
 // ---- the heap: the library asks the program for memory. heap.c passes the requests to malloc, realloc and free. No alignment exceeds 16.
+// If several threads call the library, the heap must be thread-safe.
 
 // ---- template sets (fast_set_read is the library's function; programs call fast_read_set)
 

@@ -8,11 +8,11 @@
 //     counter sees;
 //     decoder.decode(piece, piece_len, sees);
 //
+// Threads may use one set, or copies of it, at the same time. A decoder or an encoder may be moved into another thread, with buffers that no
+// other thread uses; only one call at a time may use it.
+//
 // Failures are thrown as fast::error. With -fno-exceptions nothing is thrown: each call that can fail returns its status, and status() of an
 // object says whether its constructor succeeded.
-//
-// Threads may use one set, or copies of it, at the same time. A decoder or an encoder may be moved into another thread, with buffers that
-// no other thread uses then; one call at a time uses it.
 #ifndef FAST_HPP
 #define FAST_HPP
 

@@ -8,8 +8,8 @@ Make the shared library from the static one:
         for kind, node, value in decoder.feed(piece): ..
         for records, texts in decoder.feed_records(piece): ..     # NumPy structured arrays if NumPy is installed
 
-A call has decoded its whole piece when it returns. Threads may share a set; a decoder or an encoder is used by one thread at a time. The library
-is proved; this module is tested.
+A call has decoded its whole piece when it returns. Threads may share a set; use a decoder or an encoder from one thread at a time.
+The library is proved; this module is tested.
 """
 
 from __future__ import annotations

@@ -8,6 +8,7 @@ mod decoding;
 mod encoding;
 mod queries;
 mod sets;
+mod threads;
 
 ghost use Rattle.std.specs.Prelude.{◌≡◌, ◌≢◌, ◌≤◌, [], List, ℕ, length, IfOk, IfErr};
 ghost use Rattle.fast_records.specs.declared.status.Status.{Status as StatusData};

@@ -193,8 +193,8 @@ impl Decoder {
     }
 }
 
-// `Send` of a decoder is proved (`decoder_crosses_threads` of crates/fast_decoder, `DecoderHandle` of crates/fast_c),
-// and each call of the library has it alone, by `&mut self`.
+// SAFETY: the decoder is `Send`, by the proofs of `decoder_crosses_threads` in crates/fast_decoder and `handles_cross_threads` in
+// crates/fast_c. This type is not `Sync`, so only one call at a time uses it.
 unsafe impl Send for Decoder {}
 
 impl Drop for Decoder {

@@ -85,8 +85,8 @@ impl Encoder {
     }
 }
 
-// `Send` of an encoder is proved (`encoder_crosses_threads` of crates/fast_encoder, `EncoderHandle` of crates/fast_c),
-// and each call of the library has it alone, by `&mut self`.
+// SAFETY: the encoder is `Send`, by the proofs of `encoder_crosses_threads` in crates/fast_encoder and `handles_cross_threads` in
+// crates/fast_c. This type is not `Sync`, so only one call at a time uses it.
 unsafe impl Send for Encoder {}
 
 impl Drop for Encoder {

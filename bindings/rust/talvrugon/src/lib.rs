@@ -10,8 +10,8 @@
 //! # Ok::<(), talvrugon::Error>(())
 //! ```
 //!
-//! The library is proved; this crate is not. Its `unsafe` blocks contain only calls of `talvrugon-sys`, each with the reason why it is
-//! sound. Threads may share a [`Set`]; a [`Decoder`] or an [`Encoder`] may move between threads, which is proved of the library's types.
+//! The library is proved; this crate is not. Its `unsafe` is in calls of `talvrugon-sys`, and in `Send` and `Sync`, each with the reason
+//! why it is sound. Threads may share a [`Set`]; a [`Decoder`] or an [`Encoder`] may move between threads.
 
 mod decoder;
 mod encoder;

@@ -22,16 +22,15 @@ impl Default for Limits {
     }
 }
 
-/// A template set, which threads may share. Clones share one set, which is closed with the last of them and of the decoders and encoders
-/// made from it.
+/// A template set, which threads may share. Clones share one set, which is closed with the last of them and of the decoders and encoders made from it.
 #[derive(Clone, Debug)]
 pub struct Set(Arc<Owned>);
 
 #[derive(Debug)]
 struct Owned(NonNull<talvrugon_sys::Set>);
 
-// SAFETY: `Send` and `Sync` of a set are proved (`set_crosses_threads` of crates/fast_template, `SetHandle` of crates/fast_c): no call
-// changes it, and any thread may close it.
+// SAFETY: the set is `Send` and `Sync`, by the proofs of `set_crosses_threads` in crates/fast_template and `handles_cross_threads` in
+// crates/fast_c. No call changes it, and any thread may close it.
 unsafe impl Send for Owned {}
 unsafe impl Sync for Owned {}
 
