@@ -1,11 +1,11 @@
 -- The event that a record stands for, and which records stand for none.
-use Rattle.std.proofs.Common.{◌≡◌, ℕ, ◌≤◌, List, [], ◌∷◌, take, drop, refl, ap, sym, ◌∙◌, arith}
+use Rattle.std.proofs.Common.{◌≡◌, ℕ, ◌≤◌, List, [], ◌∷◌, take, drop, pos, refl, ap, sym, ◌∙◌, arith}
 use Rattle.fast_value.specs.meaning.Kinds.{U, I, Dec, AsciiText, UnicodeText, ByteVector}
 use Rattle.fast_stream.specs.meaning.Events.{EventData, MessageStart, FieldValue, GroupStart, GroupEnd, SequenceStart, ElementStart, ElementEnd, SequenceEnd, MessageEnd}
 use Rattle.fast_records.specs.declared.records.Record.{Record}
-use Rattle.fast_records.specs.meaning.Records.{record_of, event_text}
+use Rattle.fast_records.specs.meaning.Records.{record_of, text_record, event_text}
 use Rattle.fast_records.specs.meaning.Lent.{Tells, AreTold}
-use Rattle.fast_records.specs.device.Lent.{event_back, IsOf}
+use Rattle.fast_records.specs.device.Lent.{content, event_back, IsMark, IsTextOf, IsOf}
 
 -- the kind of a record is that of its event
 kind_is : (r : Record) (text : List ℕ) (e : EventData) → IsOf r text e → r.kind ≡ (record_of r.value e).kind
@@ -64,6 +64,13 @@ back_is r text ElementStart h = from_event r text ElementStart h
 back_is r text ElementEnd h = from_event r text ElementEnd h
 back_is r text SequenceEnd h = from_event r text SequenceEnd h
 back_is r text MessageEnd h = from_event r text MessageEnd h
+
+-- So of an event without a string, and of a field with one, by what the sink keeps of them.
+pub mark_back : (r : Record) (e : EventData) → IsMark r e → event_back r [] ≡ e
+mark_back r e h = back_is r [] e (record { record_is = h.record_is r.value; text_is = h.text_is; held = h.held })
+
+pub text_back : (kind node : ℕ) (text : List ℕ) (e : EventData) → IsTextOf kind node text e → event_back (content kind node 0 (pos 0)) text ≡ e
+text_back kind node text e h = back_is (text_record kind node 0 text) text e (record { record_is = h.record_is 0; text_is = h.text_is; held = h.held })
 
 -- the event that a record tells is of it
 pub told_of : (texts : List ℕ) (r : Record) (e : EventData) → Tells texts r e → IsOf r (take r.length (drop r.value texts)) e

@@ -33,11 +33,9 @@ pub(crate) struct RecordSink<'a> {
 
 impl<'a> RecordSink<'a> {
     ghost use Rattle.std.specs.Prelude.{◌≡◌, ℕ, nat_lt, ◌+◌, ◌-◌, ◌≤◌, [], ◌++◌, length, take, OnOk, OnErr};
-    ghost use Rattle.fast_value.specs.meaning.Kinds.{text_of};
-    ghost use Rattle.fast_value.specs.meaning.Values.{scalar_data};
-    ghost use Rattle.fast_stream.specs.meaning.Events.{EventData, FieldValue};
-    ghost use Rattle.fast_records.specs.meaning.Records.{text_record, field_record, event_text};
-    ghost use Rattle.fast_records.specs.device.Lent.{IsMark, IsOf, content};
+    ghost use Rattle.fast_stream.specs.meaning.Events.{EventData};
+    ghost use Rattle.fast_records.specs.meaning.Records.{event_text};
+    ghost use Rattle.fast_records.specs.device.Lent.{IsMark, IsTextOf, event_back, content};
     ghost use Rattle.std.specs.Bool.{OnTrue, OnFalse};
     ghost use Rattle.fast_stream.specs.meaning.Handed.{event_data};
     ghost use Rattle.fast_records.specs.meaning.Waiting.{pending};
@@ -70,27 +68,42 @@ impl<'a> RecordSink<'a> {
         }
     }
 
-    /// Adds a record and its string. Returns false, with nothing changed, if there is no room for both.
+    /// Adds a record without a string. Returns false, with nothing changed, if there is no room for it.
     #[inline(always)]
-    fn put(&mut self, next: Record, text: &[u8]) -> bool
+    fn put(&mut self, next: Record) -> bool
         ensures same { IsSameSink self.old self.new }
         ensures waiting { self.new.waiting.now ≡ self.old.waiting.now }
-        ensures put { OnTrue result (Adds next text.now (room_of self.old) (room_of self.new)) }
+        ensures texts { self.new.texts.now ≡ self.old.texts.now }
+        ensures used { self.new.used ≡ self.old.used }
+        ensures put { OnTrue result (Adds next [] (room_of self.old) (room_of self.new)) }
         ensures full { OnFalse result (IsUnchanged (room_of self.old) (room_of self.new)) }
-        ensures lacks { OnFalse result (LacksRoom text.now (room_of self.new)) }
+        ensures lacks { OnFalse result (LacksRoom [] (room_of self.new)) }
     {
-        if self.filled >= self.limit || text.len() > self.texts.len() - self.used {
+        if self.filled >= self.limit {
             return false;
-        }
-        if !text.is_empty() {
-            self.put_text(text);
         }
         self.records[self.filled] = next;
         self.filled += 1;
         true
     }
 
-    /// Adds a string for which there is room.
+    /// Adds a record and its string. Returns false, with nothing changed, if there is no room for both.
+    #[inline(always)]
+    fn put_both(&mut self, next: Record, text: &[u8]) -> bool
+        ensures same { IsSameSink self.old self.new }
+        ensures waiting { self.new.waiting.now ≡ self.old.waiting.now }
+        ensures put { OnTrue result (Adds next text.now (room_of self.old) (room_of self.new)) }
+        ensures full { OnFalse result (IsUnchanged (room_of self.old) (room_of self.new)) }
+        ensures lacks { OnFalse result (LacksRoom text.now (room_of self.new)) }
+    {
+        if text.len() > self.texts.len() - self.used || !self.put(next) {
+            return false;
+        }
+        self.put_text(text);
+        true
+    }
+
+    /// Adds a string for which there is room. One of a single character is stored directly, since a call that copies is slower.
     fn put_text(&mut self, text: &[u8])
         requires { self.old.used + length text.now ≤ length self.old.texts.now }
         ensures same { IsSameSink self.old self.new }
@@ -100,9 +113,13 @@ impl<'a> RecordSink<'a> {
         ensures records { self.new.records.now ≡ self.old.records.now }
         ensures texts { take self.new.used self.new.texts.now ≡ take self.old.used self.old.texts.now ++ text.now }
     {
-        let end = self.used + text.len();
-        self.texts[self.used..end].copy_from_slice(text);
-        self.used = end;
+        let start = self.used;
+        self.used = start + text.len();
+        if let [byte] = text {
+            self.texts[start] = *byte;
+        } else {
+            self.texts[start..self.used].copy_from_slice(text);
+        }
     }
 
     /// Returns the number of records that may still be written.
@@ -144,45 +161,49 @@ impl<'a> RecordSink<'a> {
             → OnErr result (RefusesRecord self.old e self.new) }
     {
         let next = content(kind, node, value, exponent);
-        if self.put(next, &[]) {
+        if self.put(next) {
             return Ok(());
         }
         self.keep_back(kind, node, value, exponent)
     }
 
-    /// Keeps an event without a string that has no room.
+    /// Adds a field with a string. Not inlined, since the code for other events needs far fewer registers.
+    #[inline(never)]
+    fn keep_text(&mut self, kind: u32, node: u32, text: &[u8]) -> Result<(), Stop>
+        ensures ok { (e : EventData) → IsTextOf kind node text.now e → OnOk result (TakesRecord self.old e self.new) }
+        ensures err { (e : EventData) → IsTextOf kind node text.now e → OnErr result (RefusesRecord self.old e self.new) }
+    {
+        let next = text_record(kind, node, self.used() as u64, text);
+        if self.put_both(next, text) {
+            return Ok(());
+        }
+        self.wait_for_room(content(kind, node, 0, 0), text)
+    }
+
+    /// Keeps an event without a string that has no room. It is passed as numbers, so that the arms of the decoder's loop build no record in
+    /// memory.
+    #[cold]
     #[inline(never)]
     fn keep_back(&mut self, kind: u32, node: u32, value: u64, exponent: i32) -> Result<(), Stop>
         requires lacks { LacksRoom [] (room_of self.old) }
-        ensures ok { (e : EventData) → IsOf (content kind node value exponent) [] e → OnOk result (TakesRecord self.old e self.new) }
-        ensures err { (e : EventData) → IsOf (content kind node value exponent) [] e
-            → OnErr result (RefusesRecord self.old e self.new) }
+        ensures ok { OnOk result (TakesRecord self.old (event_back (content kind node value exponent) []) self.new) }
+        ensures err { OnErr result (RefusesRecord self.old (event_back (content kind node value exponent) []) self.new) }
     {
-        match event_with(content(kind, node, value, exponent), &[]) {
+        self.wait_for_room(content(kind, node, value, exponent), &[])
+    }
+
+    /// Keeps the event of a record and a string that have no room.
+    #[cold]
+    #[inline(never)]
+    fn wait_for_room(&mut self, next: Record, text: &[u8]) -> Result<(), Stop>
+        requires lacks { LacksRoom text.now (room_of self.old) }
+        ensures ok { OnOk result (TakesRecord self.old (event_back next text.now) self.new) }
+        ensures err { OnErr result (RefusesRecord self.old (event_back next text.now) self.new) }
+    {
+        match event_with(next, text) {
             Some(event) => self.wait(event),
             None => Err(Stop),
         }
-    }
-
-    /// Adds a field with a string. Not inlined, since the code for other events needs far fewer registers.
-    #[inline(never)]
-    fn keep_text(
-        &mut self,
-        kind: u32,
-        node: u32,
-        value: Scalar<'_>,
-        text: &[u8],
-    ) -> Result<(), Stop>
-        requires is { (p : ℕ) → text_record kind node p text.now ≡ field_record p node (scalar_data value) }
-        requires says { text.now ≡ text_of (scalar_data value) }
-        ensures ok { OnOk result (TakesRecord self.old (FieldValue node (scalar_data value.entry)) self.new) }
-        ensures err { OnErr result (RefusesRecord self.old (FieldValue node (scalar_data value.entry)) self.new) }
-    {
-        let next = text_record(kind, node, self.used() as u64, text);
-        if self.put(next, text) {
-            return Ok(());
-        }
-        self.wait(Event::Field { node, value })
     }
 
     /// Keeps an event that has no room, and lets no later one overtake it.
@@ -218,9 +239,9 @@ impl Sink for RecordSink<'_> {
                 Scalar::Dec { exponent, mantissa } => {
                     (DECIMAL, node, mantissa.cast_unsigned(), exponent)
                 }
-                Scalar::Ascii(text) => return self.keep_text(ASCII, node, value, text),
-                Scalar::Unicode(text) => return self.keep_text(UNICODE, node, value, text),
-                Scalar::Bytes(text) => return self.keep_text(BYTES, node, value, text),
+                Scalar::Ascii(text) => return self.keep_text(ASCII, node, text),
+                Scalar::Unicode(text) => return self.keep_text(UNICODE, node, text),
+                Scalar::Bytes(text) => return self.keep_text(BYTES, node, text),
             },
             Event::MessageStart { template } => (MESSAGE_START, template, 0, 0),
             Event::GroupStart { node } => (GROUP_START, node, 0, 0),

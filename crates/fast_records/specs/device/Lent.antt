@@ -4,7 +4,7 @@ use Rattle.std.specs.Int.{w64, cast_signed}
 use Rattle.fast_value.specs.meaning.Kinds.{U, I, Dec, AsciiText, UnicodeText, ByteVector}
 use Rattle.fast_stream.specs.meaning.Events.{EventData, MessageStart, FieldValue, GroupStart, GroupEnd, SequenceStart, ElementStart, ElementEnd, SequenceEnd, MessageEnd}
 use Rattle.fast_records.specs.declared.records.Record.{Record}
-use Rattle.fast_records.specs.meaning.Records.{record_of, event_text}
+use Rattle.fast_records.specs.meaning.Records.{text_record, record_of, event_text}
 use Rattle.fast_records.specs.meaning.Lent.{IsHeld}
 
 -- the event of this kind that has the content of a record, and this text
@@ -37,6 +37,12 @@ content kind node value exponent = record { kind = kind; node = node; value = va
 pub record IsMark (r : Record) (e : EventData) : Type 0 where
   pub record_is : (place : ℕ) → r ≡ record_of place e
   pub text_is : event_text e ≡ []
+  pub held : IsHeld e
+
+-- The event is a field of this kind with this text, wherever that begins.
+pub record IsTextOf (kind node : ℕ) (text : List ℕ) (e : EventData) : Type 0 where
+  pub record_is : (place : ℕ) → text_record kind node place text ≡ record_of place e
+  pub text_is : event_text e ≡ text
   pub held : IsHeld e
 
 -- The event is of this record, with this text.
