@@ -90,15 +90,17 @@ typedef struct flow {
     gboolean has_begun;   // TCP: whether `next` is known
     uint32_t next;        // TCP: the sequence number of the next byte to feed
     uint32_t fed;         // TCP: the number of bytes of the incomplete message that are fed
+    uint32_t unit;        // TCP: the number of these that belong to an incomplete field or presence map
     wmem_array_t *begun;  // TCP: the marks of that message, from its first byte
 } flow;
 
-// The marks of the messages in bytes[first .. end - 1], which are fed from `at` on. An incomplete message starts at `open`, else `open` is `end`.
+// The marks of the messages in bytes[first .. end - 1], which are fed from `at` on. An incomplete message starts at `open`, else `open` is `end`;
+// its incomplete field or presence map at `unit`.
 typedef struct marking {
     wmem_allocator_t *scope;
     wmem_array_t *marks;
     const guint8 *bytes;
-    guint first, at, end, open;
+    guint first, at, unit, end, open;
     guint open_marks;    // the number of marks before those of the incomplete message
     gboolean is_faulty;  // a fault was found: the decoder has to be reset
 } marking;

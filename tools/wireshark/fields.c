@@ -8,7 +8,8 @@ static hf_register_info *registered;
 static guint registered_count;
 
 // The names that the dissector has for itself (tree.c).
-static const char *const own_names[] = {"preamble", "packet_sequence", "message", "template_id", "map", "element", "absent", "fault", "rest"};
+static const char *const own_names[] = {"preamble", "packet_sequence", "message", "template_id", "map", "length", "element", "absent",
+    "fault", "rest"};
 
 static char *name_of(size_t (*write)(fast_set *, uint32_t, char *, size_t), fast_set *set, uint32_t number) {
     size_t length = write(set, number, NULL, 0);
@@ -53,7 +54,7 @@ static enum ftenum type_of_node(fast_set *set, uint32_t node) {
     return type_of(info.type);
 }
 
-// Returns the name of a node with an underscore for each byte that a filter name cannot have.
+// Returns the name of a node as a part of a filter name, with an underscore for each point.
 static char *filter_of(const char *name) {
     char *filter = g_strdup(name);
     for (char *it = filter; *it; it++) {

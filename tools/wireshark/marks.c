@@ -103,7 +103,7 @@ static void stop(marking *it, fast_decoder *decoder, const unit *of, const fast_
 
 // Feeds the bytes from `at` on. An incomplete message at the end is no fault here.
 void mark_messages(marking *it, fast_decoder *decoder) {
-    unit of = {.due = fast_in_hand(decoder), .from = it->at};
+    unit of = {.due = fast_in_hand(decoder), .from = it->unit};
     while (it->at < it->end) {
         uint64_t records;
         fast_fed fed = feed_byte(it, decoder, &of, &records);
@@ -122,4 +122,5 @@ void mark_messages(marking *it, fast_decoder *decoder) {
             it->open_marks = wmem_array_get_count(it->marks);
         }
     }
+    it->unit = of.from;
 }

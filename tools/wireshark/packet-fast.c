@@ -62,7 +62,7 @@ static void mark_packet(marking *it, fast_decoder *decoder) {
     mark_messages(it, decoder);
     if (it->open < it->end) {
         fast_due due = fast_in_hand(decoder);
-        mark_fault(it, FAST_TRUNCATED, due.what == FAST_AWAITS_NODE ? due.node : FAST_NONE, it->end);
+        mark_fault(it, FAST_TRUNCATED, due.what == FAST_AWAITS_NODE ? due.node : FAST_NONE, it->unit);
         it->is_faulty = TRUE;
     }
     if (it->is_faulty) fast_reset_decoder(decoder);
@@ -70,7 +70,7 @@ static void mark_packet(marking *it, fast_decoder *decoder) {
 
 static marking marking_of(tvbuff_t *tvb, wmem_allocator_t *scope, guint first) {
     guint end = tvb_captured_length(tvb);
-    marking it = {.scope = scope, .first = first, .at = first, .end = end, .open = first};
+    marking it = {.scope = scope, .first = first, .at = first, .unit = first, .end = end, .open = first};
     it.bytes = tvb_get_ptr(tvb, 0, (gint)end);
     it.marks = wmem_array_new(scope, sizeof(mark));
     return it;
@@ -144,14 +144,17 @@ static guint resume(flow *way, marking *it, uint32_t first) {
     }
     if (way->begun && fed == way->fed) {
         wmem_array_append(it->marks, wmem_array_get_raw(way->begun), wmem_array_get_count(way->begun));
+        it->unit = fed - way->unit;
+        return fed;
     }
-    return MIN(fed, it->end);
+    return it->unit = MIN(fed, it->end);
 }
 
 // Keeps the marks of the message that is incomplete at the end of a piece, as from its first byte.
 static void suspend(flow *way, const marking *it) {
     guint count = wmem_array_get_count(it->marks);
     way->fed = it->end - it->open;
+    way->unit = it->end - it->unit;
     way->begun = wmem_array_new(wmem_file_scope(), sizeof(mark));
     for (guint i = it->open_marks; i < count; i++) {
         mark m = *(mark *)wmem_array_index(it->marks, i);
@@ -181,26 +184,29 @@ static kept *piece_of_stream(const feed *of, tvbuff_t *tvb, packet_info *pinfo, 
 }
 
 // Shows a piece of a TCP stream. A message that is incomplete at its end is left for the piece with the rest, if TCP joins them.
-static void show_piece(const feed *of, const kept *it, tvbuff_t *tvb, packet_info *pinfo, proto_tree *shown) {
+static void show_piece(const feed *of, const kept *it, tvbuff_t *tvb, packet_info *pinfo, proto_tree *tree) {
     gboolean is_left = it->is_open && pinfo->can_desegment > 0;
-    show_marks(of, it->marks, is_left ? it->open_marks : wmem_array_get_count(it->marks), tvb, pinfo, shown);
+    guint count = is_left ? it->open_marks : wmem_array_get_count(it->marks);
     if (is_left) {
         pinfo->desegment_offset = (int)it->open;
         pinfo->desegment_len = DESEGMENT_ONE_MORE_SEGMENT;
     }
+    if (count == 0) return;
+    proto_tree *shown = show_protocol(tvb, pinfo, tree);
+    if (is_left) proto_item_set_len(proto_tree_get_parent(shown), (gint)it->open);
+    show_marks(of, it->marks, count, tvb, pinfo, shown);
 }
 
 static int dissect_tcp(tvbuff_t *tvb, packet_info *pinfo, proto_tree *tree, void *data) {
     const struct tcpinfo *info = data;
     feed *of = feed_of_packet(pinfo, TRANSPORT_TCP);
     if (!of || !info) return 0;
-    proto_tree *shown = show_protocol(tvb, pinfo, tree);
     if (of->reset) {
-        show_packet(of, tvb, pinfo, shown);
+        show_packet(of, tvb, pinfo, show_protocol(tvb, pinfo, tree));
     } else {
         kept *it = kept_of(pinfo, info->seq);
         if (!it) it = piece_of_stream(of, tvb, pinfo, info->seq);
-        show_piece(of, it, tvb, pinfo, shown);
+        show_piece(of, it, tvb, pinfo, tree);
     }
     return (int)tvb_captured_length(tvb);
 }

@@ -4,7 +4,7 @@
 enum { DEEPEST = 256 };
 
 static int hf_preamble = -1, hf_sequence = -1, hf_message = -1, hf_id = -1, hf_map = -1, hf_element = -1, hf_absent = -1, hf_fault = -1,
-    hf_rest = -1;
+    hf_rest = -1, hf_length = -1;
 static gint ett_fast = -1, ett_message = -1, ett_part = -1;
 
 // The trees that are open, from the protocol's on, with their items, and the number of elements of each so far.
@@ -32,6 +32,11 @@ static void go_out(shown *it, const mark *m) {
     if (it->depth == 0) return;
     proto_item_set_end(it->items[it->depth], it->tvb, (gint)m->start);
     it->depth--;
+}
+
+// Ends all trees, in front of a byte.
+static void end_all(shown *it, guint end) {
+    for (; it->depth; it->depth--) proto_item_set_end(it->items[it->depth], it->tvb, (gint)end);
 }
 
 static void show_message(shown *it, const mark *m) {
@@ -66,6 +71,12 @@ static void show_decimal(shown *it, proto_tree *tree, int hf, const mark *m) {
     proto_tree_add_double_format_value(tree, hf, it->tvb, m->start, m->length, value, "%.15g (%s)", value, exact);
 }
 
+// Adds a sequence, and the length within it, which has the bytes.
+static void show_sequence(shown *it, proto_tree *tree, int hf, const mark *m) {
+    go_into(it, proto_tree_add_uint64(tree, hf, it->tvb, m->start, m->length, m->value), ett_part);
+    proto_tree_add_uint64(it->trees[it->depth], hf_length, it->tvb, m->start, m->length, m->value);
+}
+
 static void show_field(shown *it, const mark *m) {
     proto_tree *tree = it->trees[it->depth];
     int hf = it->of->field_of_node[m->node];
@@ -77,7 +88,7 @@ static void show_field(shown *it, const mark *m) {
         proto_tree_add_bytes_with_length(tree, hf, it->tvb, m->start, m->length, (const guint8 *)m->text, (gint)m->text_length);
         break;
     case FAST_GROUP_START: go_into(it, proto_tree_add_item(tree, hf, it->tvb, m->start, m->length, ENC_NA), ett_part); break;
-    case FAST_SEQUENCE_START: go_into(it, proto_tree_add_uint64(tree, hf, it->tvb, m->start, m->length, m->value), ett_part); break;
+    case FAST_SEQUENCE_START: show_sequence(it, tree, hf, m); break;
     default: show_string(it, tree, hf, m);
     }
 }
@@ -93,7 +104,7 @@ void show_note(tvbuff_t *tvb, packet_info *pinfo, proto_tree *tree, const char *
     col_append_sep_fstr(pinfo->cinfo, COL_INFO, ", ", "[%s]", note);
 }
 
-// Adds a fault: the sentence of its status, its offset in the messages, and the field where it is known.
+// Adds a fault, which ends the message: the sentence of its status, its offset in the messages, and the field where it is known.
 static void show_fault(shown *it, const mark *m) {
     uint8_t words[256];
     size_t length = MIN(fast_status_words((uint32_t)m->value, words, sizeof words), sizeof words);
@@ -102,6 +113,7 @@ static void show_fault(shown *it, const mark *m) {
         "%.*s; at byte %d%s%s", (int)length, words, m->exponent, name ? ", " : "", name ? name : "");
     if (m->value == FAST_TRUNCATED) col_append_sep_str(it->pinfo->cinfo, COL_INFO, ", ", "[truncated]");
     else col_append_sep_fstr(it->pinfo->cinfo, COL_INFO, ", ", "[fault %.2s]", words);
+    end_all(it, m->start + m->length);
     g_free(name);
 }
 
@@ -113,7 +125,7 @@ static void show_mark(shown *it, const mark *m) {
     case MARK_ID: show_id(it, m); break;
     case MARK_ABSENT: show_absent(it, m); break;
     case MARK_FAULT: show_fault(it, m); break;
-    case MARK_REST: proto_tree_add_item(it->trees[0], hf_rest, it->tvb, m->start, m->length, ENC_NA); break;
+    case MARK_REST: proto_tree_add_item(tree, hf_rest, it->tvb, m->start, m->length, ENC_NA); break;
     case FAST_ELEMENT_START:
         go_into(it, proto_tree_add_uint64(tree, hf_element, it->tvb, m->start, m->length, ++it->elements[it->depth]), ett_part);
         break;
@@ -138,7 +150,7 @@ void show_preamble(const feed *of, tvbuff_t *tvb, proto_tree *tree) {
 void show_marks(const feed *of, wmem_array_t *marks, guint count, tvbuff_t *tvb, packet_info *pinfo, proto_tree *tree) {
     shown it = {.of = of, .tvb = tvb, .pinfo = pinfo, .trees = {tree}};
     for (guint i = 0; i < count; i++) show_mark(&it, wmem_array_index(marks, i));
-    for (; it.depth; it.depth--) proto_item_set_end(it.items[it.depth], tvb, (gint)tvb_captured_length(tvb));
+    end_all(&it, tvb_captured_length(tvb));
 }
 
 void register_tree(void) {
@@ -148,6 +160,7 @@ void register_tree(void) {
         {&hf_message, {"Message", "fast.message", FT_STRING, BASE_NONE, NULL, 0, NULL, HFILL}},
         {&hf_id, {"Template identifier", "fast.template_id", FT_UINT32, BASE_DEC, NULL, 0, NULL, HFILL}},
         {&hf_map, {"Presence map", "fast.map", FT_BYTES, BASE_NONE, NULL, 0, NULL, HFILL}},
+        {&hf_length, {"Length", "fast.length", FT_UINT64, BASE_DEC, NULL, 0, NULL, HFILL}},
         {&hf_element, {"Element", "fast.element", FT_UINT64, BASE_DEC, NULL, 0, NULL, HFILL}},
         {&hf_absent, {"Absent", "fast.absent", FT_STRING, BASE_NONE, NULL, 0, "A field that is sent as null", HFILL}},
         {&hf_fault, {"Fault", "fast.fault", FT_STRING, BASE_NONE, NULL, 0, NULL, HFILL}},

@@ -1,0 +1,131 @@
+"""The captures of the test, and the feeds that they are of."""
+
+import os
+import random
+import re
+import sys
+from dataclasses import dataclass, field
+
+HERE = os.path.dirname(os.path.realpath(__file__))
+TOP = os.path.dirname(os.path.dirname(HERE))
+sys.path.insert(0, f"{TOP}/tools/packets")
+import making as m
+
+EXAMPLE = f"{TOP}/examples/packets"
+
+# A name with a point, names of the dissector itself, and a name with two types; a sequence without a presence map, with a field that
+# may be null, alone in its element; an optional group; decimals of both forms.
+NAMES = """[[template]]
+name = "first.template"
+id = 1
+fields = [
+    { kind = "uInt32", name = "Order-Side.1" },
+    { kind = "int64", name = "fault", optional = true },
+    { kind = "decimal", name = "Price" },
+    { kind = "group", name = "Header", optional = true, fields = [
+        { kind = "decimal", name = "Yield", exponent = { op = "default", value = "-2" }, mantissa = { op = "copy" }, optional = true },
+        { kind = "group", name = "Inner", fields = [{ kind = "unicode", name = "Text", op = "tail" }] },
+    ] },
+    { kind = "sequence", name = "Legs", optional = true, fields = [{ kind = "uInt32", name = "Leg", optional = true }] },
+]
+
+[[template]]
+name = "second"
+id = 2
+reset = true
+fields = [
+    { kind = "ascii", name = "Price", op = "delta" },
+    { kind = "bytes", name = "Data", op = "tail", value = "0102" },
+    { kind = "uInt64", name = "Big", op = "constant", value = "18446744073709551615" },
+]
+"""
+# Messages of these, whole and damaged.
+NAMED = """c0818781fffc 01 8380 80
+e08182 80 80 fd 83 c0 91 a0 e5 82 80 81
+c08182 81 80 fd 82 84 81 80 83 85 80 80 86
+e08182 80 80 fd 83 a0 83 e1e2 80 80 84 81 80 80
+a0 82 80 4142c3 8101
+c082 80 4142c3 e082 81c3 8103
+c0 82 80 00"""
+
+
+@dataclass
+class Feed:
+    """A feed: its port, its row of the table, the options of tools/packets/run, and its payloads."""
+
+    name: str
+    port: int
+    templates: str
+    payloads: list
+    words: list
+    skip: int = 0
+    sequence: str = ""
+    reset: bool = False
+    fields: str = ""
+    is_stream: bool = False
+    cuts: tuple = ()
+    frames: list = field(default_factory=list)
+
+    def row(self):
+        kind = "TCP" if self.is_stream else "UDP"
+        words = (kind, self.port, self.templates, self.fields, self.sequence, self.skip, "TRUE" if self.reset else "FALSE")
+        return ",".join(f'"{it}"' for it in words)
+
+    def options(self):
+        words = ["--reset", "always" if self.reset else "never", "--skip", str(self.skip), "--port", str(self.port)]
+        return words + (["--sequence", self.sequence] if self.sequence else []) + self.words + [self.templates]
+
+    def packets(self):
+        """Returns the frames of the payloads; a stream is split at its cuts."""
+        to = ("239.1.2.3", self.port)
+        if not self.is_stream:
+            return [m.ethernet(m.ip(m.udp(it, to=to))) for it in self.payloads]
+        stream, at, made = b"".join(self.payloads), 0, []
+        while at < len(stream):
+            size = self.cuts[len(made) % len(self.cuts)]
+            made.append(m.ethernet(m.ip(m.tcp(stream[at : at + size], 1000 + at, to=("10.0.0.2", self.port)))))
+            at += size
+        return made
+
+
+def hexes(path):
+    with open(path, encoding="ascii") as it:
+        return [bytes.fromhex(line) for line in it]
+
+
+def damaged(payloads, chance):
+    """Returns each payload whole, with another byte, truncated, and with the start of a second one after it."""
+    made = []
+    for it in payloads:
+        place = chance.randrange(len(it))
+        made += [it, it[:place] + bytes([chance.randrange(256)]) + it[place + 1 :], it[:place], it + it[:place]]
+    return made
+
+
+def feeds(folder):
+    """Returns the feeds, with the files that they need in a folder."""
+    chance = random.Random(20261129)
+    example, templates = hexes(f"{EXAMPLE}/packets.hex"), f"{EXAMPLE}/templates.toml"
+    made = [Feed("example", 30002, templates, example, [], 5, "be4", True, f"{folder}/fields.tsv")]
+    for number, name in enumerate(("trades", "increments", "snapshots")):
+        path, messages = f"{TOP}/examples/{name}", hexes(f"{TOP}/examples/{name}/stream.hex")
+        numbered = [(7 + at).to_bytes(4, "little") + it for at, it in enumerate(messages)]
+        made.append(Feed(name, 30010 + number, f"{path}/templates.toml", numbered, [], 4, "le4"))
+        cuts = (1, 2, 3, 50, 20, 1, 140, 97, 33)
+        made.append(Feed(f"{name} in a stream", 30020 + number, f"{path}/templates.toml", messages, [], is_stream=True, cuts=cuts))
+        made.append(Feed(f"{name} damaged", 30030 + number, f"{path}/templates.toml", damaged(messages[:30], chance), []))
+    heads = [it[5:] for it in example]
+    made.append(Feed("damaged", 30040, templates, [b"ab" + it for it in damaged(heads * 3, chance)] + [b"a", b"ab"], [], 2, reset=True))
+    made.append(Feed("texts", 30050, templates, [texts()], [], reset=True))
+    with open(f"{folder}/names.toml", "w", encoding="utf-8") as it:
+        it.write(NAMES)
+    messages = [bytes.fromhex(re.sub(r"\s", "", it)) for it in NAMED.splitlines()]
+    made.append(Feed("names", 30060, f"{folder}/names.toml", messages + damaged(messages * 9, chance), [], reset=True))
+    return made
+
+
+def texts():
+    """Returns a message with the characters that can be displayed as they are, some others, and all bytes of a byte vector."""
+    text = bytes(range(32, 127)) + "é€𝄞".encode()
+    length = bytes([len(text) + 1 >> 7, len(text) + 1 & 127 | 128])
+    return b"".join((bytes.fromhex("c09f07f10153bd"), length, text, b"\x02\x81", bytes(range(256))))
