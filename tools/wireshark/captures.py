@@ -2,7 +2,6 @@
 
 import os
 import random
-import re
 import sys
 from dataclasses import dataclass, field
 
@@ -13,8 +12,8 @@ import making as m
 
 EXAMPLE = f"{TOP}/examples/packets"
 
-# A name with a point, names of the dissector itself, and a name with two types; a sequence without a presence map, with a field that
-# may be null, alone in its element; an optional group; decimals of both forms.
+# A name with a point, a name of the dissector itself, and one with two types; a sequence without presence maps, whose one field may be null; an
+# optional group; decimals of both forms.
 NAMES = """[[template]]
 name = "first.template"
 id = 1
@@ -39,14 +38,8 @@ fields = [
     { kind = "uInt64", name = "Big", op = "constant", value = "18446744073709551615" },
 ]
 """
-# Messages of these, whole and damaged.
-NAMED = """c0818781fffc 01 8380 80
-e08182 80 80 fd 83 c0 91 a0 e5 82 80 81
-c08182 81 80 fd 82 84 81 80 83 85 80 80 86
-e08182 80 80 fd 83 a0 83 e1e2 80 80 84 81 80 80
-a0 82 80 4142c3 8101
-c082 80 4142c3 e082 81c3 8103
-c0 82 80 00"""
+# Packets of these.
+NAMED = ("e08181ffff85a081c082414284818086", "e08181ffff85a081c082414284818086808280818380a083808081c0808081", "c0828041c2", "e0828041c282ff01")
 
 
 @dataclass
@@ -119,7 +112,7 @@ def feeds(folder):
     made.append(Feed("texts", 30050, templates, [texts()], [], reset=True))
     with open(f"{folder}/names.toml", "w", encoding="utf-8") as it:
         it.write(NAMES)
-    messages = [bytes.fromhex(re.sub(r"\s", "", it)) for it in NAMED.splitlines()]
+    messages = [bytes.fromhex(it) for it in NAMED]
     made.append(Feed("names", 30060, f"{folder}/names.toml", messages + damaged(messages * 9, chance), [], reset=True))
     return made
 
