@@ -102,18 +102,18 @@ def feeds(folder):
     made = [Feed("example", 30002, templates, example, [], 5, "be4", True, f"{folder}/fields.tsv")]
     for number, name in enumerate(("trades", "increments", "snapshots")):
         path, messages = f"{TOP}/examples/{name}", hexes(f"{TOP}/examples/{name}/stream.hex")
-        numbered = [(7 + at).to_bytes(4, "little") + it for at, it in enumerate(messages)]
+        numbered = [(7 + at).to_bytes(4, "little") + it for at, it in enumerate(messages[:99])]
         made.append(Feed(name, 30010 + number, f"{path}/templates.toml", numbered, [], 4, "le4"))
         cuts = (1, 2, 3, 50, 20, 1, 140, 97, 33)
-        made.append(Feed(f"{name} in a stream", 30020 + number, f"{path}/templates.toml", messages, [], is_stream=True, cuts=cuts))
-        made.append(Feed(f"{name} damaged", 30030 + number, f"{path}/templates.toml", damaged(messages[:30], chance), []))
+        made.append(Feed(f"{name} in a stream", 30020 + number, f"{path}/templates.toml", messages[:200], [], is_stream=True, cuts=cuts))
+        made.append(Feed(f"{name} damaged", 30030 + number, f"{path}/templates.toml", damaged(messages[:16], chance), []))
     heads = [it[5:] for it in example]
-    made.append(Feed("damaged", 30040, templates, [b"ab" + it for it in damaged(heads * 3, chance)] + [b"a", b"ab"], [], 2, reset=True))
+    made.append(Feed("damaged", 30040, templates, [b"ab" + it for it in damaged(heads * 2, chance)] + [b"a", b"ab"], [], 2, reset=True))
     made.append(Feed("texts", 30050, templates, [texts()], [], reset=True))
     with open(f"{folder}/names.toml", "w", encoding="utf-8") as it:
         it.write(NAMES)
     messages = [bytes.fromhex(it) for it in NAMED]
-    made.append(Feed("names", 30060, f"{folder}/names.toml", messages + damaged(messages * 9, chance), [], reset=True))
+    made.append(Feed("names", 30060, f"{folder}/names.toml", messages + damaged(messages * 5, chance), [], reset=True))
     return made
 
 

@@ -91,6 +91,7 @@ typedef struct flow {
     uint32_t next;        // TCP: the sequence number of the next byte to feed
     uint32_t fed;         // TCP: the number of bytes of the incomplete message that are fed
     uint32_t unit;        // TCP: the number of these that belong to an incomplete field or presence map
+    gboolean has_map;     // TCP: whether these have the presence map of a message whose identifier is incomplete
     wmem_array_t *begun;  // TCP: the marks of that message, from its first byte
 } flow;
 
@@ -101,6 +102,7 @@ typedef struct marking {
     wmem_array_t *marks;
     const guint8 *bytes;
     guint first, at, unit, end, open;
+    gboolean has_map;    // whether the presence map of the first message is complete in an earlier piece
     guint open_marks;    // the number of marks before those of the incomplete message
     gboolean is_faulty;  // a fault was found: the decoder has to be reset
 } marking;

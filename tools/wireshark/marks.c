@@ -8,6 +8,7 @@ typedef struct unit {
     fast_due due;
     guint from;
     gboolean is_assigned;
+    gboolean has_map;  // whether the map of a message is complete in an earlier piece
 } unit;
 
 static mark *put(marking *it, uint32_t kind, uint32_t node, guint from, guint to) {
@@ -33,12 +34,18 @@ static const char *copy_of(wmem_allocator_t *scope, const uint8_t *text, uint32_
     return copy;
 }
 
-// Appends the presence map and the identifier of a message: the former ends at the first stop bit.
-static void put_head(marking *it, uint32_t node, guint from, guint to) {
-    guint map = from;
-    while (map < to && !(it->bytes[map] & 0x80)) map++;
-    map = map < to ? map + 1 : to;
-    put(it, MARK_MAP, FAST_NONE, from, map);
+// Returns the end of the first entity of some bytes, after its stop bit; 0 where there is none.
+static guint end_of_entity(const marking *it, guint from, guint to) {
+    for (guint at = from; at < to; at++) {
+        if (it->bytes[at] & 0x80) return at + 1;
+    }
+    return 0;
+}
+
+// Appends the presence map and the identifier of a message.
+static void put_head(marking *it, const unit *of, uint32_t node, guint to) {
+    guint map = of->has_map ? of->from : end_of_entity(it, of->from, to);
+    if (!of->has_map) put(it, MARK_MAP, FAST_NONE, of->from, map);
     if (map < to) put(it, MARK_ID, node, map, to);
 }
 
@@ -71,7 +78,7 @@ static void put_record(marking *it, unit *of, const fast_record *r, const uint8_
         made->text = copy_of(it->scope, texts + r->value, r->length);
         made->text_length = r->length;
     }
-    if (r->kind == FAST_MESSAGE_START) put_head(it, r->node, from, to);
+    if (r->kind == FAST_MESSAGE_START) put_head(it, of, r->node, to);
 }
 
 // Feeds one byte and appends the marks of its events. Returns the decoder's status.
@@ -103,7 +110,7 @@ static void stop(marking *it, fast_decoder *decoder, const unit *of, const fast_
 
 // Feeds the bytes from `at` on. An incomplete message at the end is no fault here.
 void mark_messages(marking *it, fast_decoder *decoder) {
-    unit of = {.due = fast_in_hand(decoder), .from = it->unit};
+    unit of = {.due = fast_in_hand(decoder), .from = it->unit, .has_map = it->has_map};
     while (it->at < it->end) {
         uint64_t records;
         fast_fed fed = feed_byte(it, decoder, &of, &records);
@@ -123,4 +130,5 @@ void mark_messages(marking *it, fast_decoder *decoder) {
         }
     }
     it->unit = of.from;
+    it->has_map = of.has_map || end_of_entity(it, of.from, it->end) > 0;
 }

@@ -132,6 +132,7 @@ static void start_over(flow *way, uint32_t next) {
     way->next = next;
     way->fed = 0;
     way->begun = NULL;
+    way->has_map = FALSE;
 }
 
 // Brings a flow to the first byte of a piece of its stream. Returns the number of bytes of the piece that are fed already: those of the message
@@ -147,6 +148,7 @@ static guint resume(flow *way, marking *it, uint32_t first) {
         it->unit = fed - way->unit;
         return fed;
     }
+    it->has_map = way->has_map;
     return it->unit = MIN(fed, it->end);
 }
 
@@ -155,6 +157,7 @@ static void suspend(flow *way, const marking *it) {
     guint count = wmem_array_get_count(it->marks);
     way->fed = it->end - it->open;
     way->unit = it->end - it->unit;
+    way->has_map = it->has_map;
     way->begun = wmem_array_new(wmem_file_scope(), sizeof(mark));
     for (guint i = it->open_marks; i < count; i++) {
         mark m = *(mark *)wmem_array_index(it->marks, i);
@@ -173,6 +176,7 @@ static kept *piece_of_stream(const feed *of, tvbuff_t *tvb, packet_info *pinfo, 
     way->next = first + it.end;
     way->fed = 0;
     way->begun = NULL;
+    way->has_map = FALSE;
     if (it.is_faulty) fast_reset_decoder(way->decoder);
     if (it.open < it.end) {
         result->is_open = TRUE;
