@@ -3,7 +3,7 @@
 import os
 import random
 import sys
-from dataclasses import dataclass, field
+from dataclasses import dataclass
 
 HERE = os.path.dirname(os.path.realpath(__file__))
 TOP = os.path.dirname(os.path.dirname(HERE))
@@ -57,7 +57,7 @@ class Feed:
     fields: str = ""
     is_stream: bool = False
     cuts: tuple = ()
-    frames: list = field(default_factory=list)
+    is_both_ways: bool = False
 
     def row(self):
         kind = "TCP" if self.is_stream else "UDP"
@@ -66,11 +66,15 @@ class Feed:
 
     def options(self):
         words = ["--reset", "always" if self.reset else "never", "--skip", str(self.skip), "--port", str(self.port)]
+        words += ["--port", str(m.FROM[1])] if self.is_both_ways else []
         return words + (["--sequence", self.sequence] if self.sequence else []) + self.words + [self.templates]
 
     def packets(self):
         """Returns the frames of the payloads; a stream is split at its cuts."""
         to = ("239.1.2.3", self.port)
+        if self.is_both_ways:
+            ways = {"source": m.FROM, "to": to}, {"source": to, "to": m.FROM}
+            return [m.ethernet(m.ip(m.udp(it, **way))) for it in self.payloads for way in ways]
         if not self.is_stream:
             return [m.ethernet(m.ip(m.udp(it, to=to))) for it in self.payloads]
         stream, at, made = b"".join(self.payloads), 0, []
@@ -106,6 +110,8 @@ def feeds(folder):
         made.append(Feed(name, 30010 + number, f"{path}/templates.toml", numbered, [], 4, "le4"))
         cuts = (1, 2, 3, 50, 20, 1, 140, 97, 33)
         made.append(Feed(f"{name} in a stream", 30020 + number, f"{path}/templates.toml", messages[:200], [], is_stream=True, cuts=cuts))
+        if name == "increments":
+            made.append(Feed("both ways", 30070, f"{path}/templates.toml", messages[:20], [], is_both_ways=True))
         made.append(Feed(f"{name} damaged", 30030 + number, f"{path}/templates.toml", damaged(messages[:16], chance), []))
     heads = [it[5:] for it in example]
     made.append(Feed("damaged", 30040, templates, [b"ab" + it for it in damaged(heads * 2, chance)] + [b"a", b"ab"], [], 2, reset=True))
