@@ -39,13 +39,12 @@ typedef struct feed {
 // Incremented at each load: marks of an earlier generation have node numbers of other sets.
 extern guint feed_generation;
 
-void register_feeds(module_t *module, dissector_handle_t udp, dissector_handle_t tcp);
-void load_feeds(void);
+void register_feeds(dissector_handle_t udp, dissector_handle_t tcp);
 
 // Returns the feed of a packet by its destination port, else by its source port; NULL where the table has none.
 feed *feed_of_packet(const packet_info *pinfo, guint transport);
 
-// The limits of decoders.
+// The limits of decoders: preferences.
 extern fast_limits feed_limits;
 
 // Called before sets are closed: closes every decoder that borrows one.

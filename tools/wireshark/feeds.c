@@ -4,13 +4,12 @@
 #include <wsutil/report_message.h>
 
 guint feed_generation;
-fast_limits feed_limits;
+fast_limits feed_limits = {0, 65536, 10000, 10000};
 
 static feed_row *rows;
 static guint row_count;
 static feed *feeds;
 static guint feed_count;
-static guint max_text = 65536, max_elements = 10000, max_total = 10000;
 static dissector_handle_t handles[2];
 static const char *const tables[] = {"udp.port", "tcp.port"};
 static const value_string transports[] = {{TRANSPORT_UDP, "UDP"}, {TRANSPORT_TCP, "TCP"}, {0, NULL}};
@@ -125,7 +124,6 @@ static gboolean read_sequence(const char *form, feed *to) {
 static char *load_row(const feed_row *row, feed *to, char ***tags) {
     *to = (feed){.transport = row->transport, .reset = row->reset, .skip = row->skip};
     *tags = NULL;
-    feed_limits = (fast_limits){0, max_text, max_elements, max_total};
     if (!read_sequence(row->sequence, to)) return g_strdup_printf("%s: none of be1 to be8 and le1 to le8", row->sequence);
     to->skip = MAX(to->skip, to->sequence_size);
     if (row->transport == TRANSPORT_TCP && to->skip) return g_strdup("a stream of TCP has no preamble");
@@ -167,7 +165,7 @@ static void unload_feeds(void) {
 }
 
 // Loads the rows of the table and registers their ports and fields, in place of those loaded before.
-void load_feeds(void) {
+static void load_feeds(void) {
     char ***tags = g_new0(char **, row_count + 1);
     unload_feeds();
     feed_generation++;
@@ -186,6 +184,18 @@ void load_feeds(void) {
     g_free(tags);
 }
 
+// Opens the decoders again, after a change of the limits.
+static void apply_limits(void) {
+    close_flows();
+    feed_generation++;
+    for (guint i = 0; i < feed_count; i++) {
+        fast_close_decoder(&feeds[i].decoder);
+        char *wrong = wrong_with("FAST limits", fast_open_decoder(feeds[i].set, feed_limits, &feeds[i].decoder));
+        if (wrong) report_failure("%s", wrong);
+        g_free(wrong);
+    }
+}
+
 static feed *feed_of_port(guint32 port, guint transport) {
     for (guint i = 0; i < feed_count; i++) {
         if (feeds[i].transport == transport && value_is_in_range(feeds[i].ports, port)) return &feeds[i];
@@ -198,7 +208,7 @@ feed *feed_of_packet(const packet_info *pinfo, guint transport) {
     return of ? of : feed_of_port(pinfo->srcport, transport);
 }
 
-void register_feeds(module_t *module, dissector_handle_t udp, dissector_handle_t tcp) {
+void register_feeds(dissector_handle_t udp, dissector_handle_t tcp) {
     static uat_field_t columns[] = {
         UAT_FLD_VS(row, transport, "Transport", transports, "UDP or TCP"),
         UAT_FLD_RANGE(row, ports, "Ports", 0xffff, "Ports, such as 16001-16060,16101"),
@@ -211,10 +221,11 @@ void register_feeds(module_t *module, dissector_handle_t udp, dissector_handle_t
     };
     uat_t *table = uat_new("FAST feeds", sizeof(feed_row), "fast_feeds", TRUE, &rows, &row_count, UAT_AFFECTS_DISSECTION | UAT_AFFECTS_FIELDS,
         NULL, copy_row, check_row, free_row, load_feeds, NULL, columns);
+    module_t *module = prefs_register_protocol(proto_fast, apply_limits);
     handles[TRANSPORT_UDP] = udp;
     handles[TRANSPORT_TCP] = tcp;
     prefs_register_uat_preference(module, "feeds", "Feeds", "Ports, template files and packets of feeds", table);
-    prefs_register_uint_preference(module, "max_text", "Longest string", "In bytes, 16 to 1048576", 10, &max_text);
-    prefs_register_uint_preference(module, "max_elements", "Elements of one sequence", "The most that are decoded", 10, &max_elements);
-    prefs_register_uint_preference(module, "max_total", "Elements of one message", "The most that are decoded", 10, &max_total);
+    prefs_register_uint_preference(module, "max_text", "Longest string", "In bytes, 16 to 1048576", 10, &feed_limits.max_text);
+    prefs_register_uint_preference(module, "max_elements", "Elements of one sequence", "The most that are decoded", 10, &feed_limits.max_elements);
+    prefs_register_uint_preference(module, "max_total", "Elements of one message", "The most that are decoded", 10, &feed_limits.max_total);
 }

@@ -220,7 +220,7 @@ static void proto_register_fast(void) {
     register_tree();
     udp_handle = register_dissector("fast.udp", dissect_udp, proto_fast);
     tcp_handle = register_dissector("fast.tcp", dissect_tcp, proto_fast);
-    register_feeds(prefs_register_protocol(proto_fast, load_feeds), udp_handle, tcp_handle);
+    register_feeds(udp_handle, tcp_handle);
     register_cleanup_routine(close_flows);
 }
 
