@@ -2,6 +2,7 @@
 
 import os
 import random
+import shutil
 import sys
 from dataclasses import dataclass
 
@@ -102,17 +103,18 @@ def damaged(payloads, chance):
 def feeds(folder):
     """Returns the feeds, with the files that they need in a folder."""
     chance = random.Random(20261129)
-    example, templates = hexes(f"{EXAMPLE}/packets.hex"), f"{EXAMPLE}/templates.toml"
+    example, templates = hexes(f"{EXAMPLE}/packets.hex"), shutil.copy(f"{EXAMPLE}/templates.toml", folder)
     made = [Feed("example", 30002, templates, example, [], 5, "be4", True, f"{folder}/fields.tsv")]
     for number, name in enumerate(("trades", "increments", "snapshots")):
-        path, messages = f"{TOP}/examples/{name}", hexes(f"{TOP}/examples/{name}/stream.hex")
+        messages = hexes(f"{TOP}/examples/{name}/stream.hex")
+        path = shutil.copy(f"{TOP}/examples/{name}/templates.toml", f"{folder}/{name}.toml")
         numbered = [(7 + at).to_bytes(4, "little") + it for at, it in enumerate(messages[:99])]
-        made.append(Feed(name, 30010 + number, f"{path}/templates.toml", numbered, [], 4, "le4"))
+        made.append(Feed(name, 30010 + number, path, numbered, [], 4, "le4"))
         cuts = (1, 2, 3, 50, 20, 1, 140, 97, 33)
-        made.append(Feed(f"{name} in a stream", 30020 + number, f"{path}/templates.toml", messages[:200], [], is_stream=True, cuts=cuts))
+        made.append(Feed(f"{name} in a stream", 30020 + number, path, messages[:200], [], is_stream=True, cuts=cuts))
         if name == "increments":
-            made.append(Feed("both ways", 30070, f"{path}/templates.toml", messages[:20], [], is_both_ways=True))
-        made.append(Feed(f"{name} damaged", 30030 + number, f"{path}/templates.toml", damaged(messages[:16], chance), []))
+            made.append(Feed("both ways", 30070, path, messages[:20], [], is_both_ways=True))
+        made.append(Feed(f"{name} damaged", 30030 + number, path, damaged(messages[:16], chance), []))
     heads = [it[5:] for it in example]
     made.append(Feed("damaged", 30040, templates, [b"ab" + it for it in damaged(heads * 2, chance)] + [b"a", b"ab"], [], 2, reset=True))
     made.append(Feed("texts", 30050, templates, [texts()], [], reset=True))

@@ -79,6 +79,11 @@ def due_line(line):
     return words[0].decode(), b" ".join(words[1:]).decode()
 
 
+def without_offset(depth, what, value):
+    """Returns a line, that of a fault without its offset."""
+    return depth, what, value.partition(" ")[0] if what in ("fault", "truncated") else value
+
+
 def due(lines, is_stream=False):
     """Returns the lines of a packet with their depths. The offsets of faults in a stream are left out: a tree counts from its piece."""
     depth, made = 0, []
@@ -88,7 +93,7 @@ def due(lines, is_stream=False):
             continue
         what, value = due_line(line)
         if what in ("fault", "truncated", "cut", "damaged"):
-            made.append((0, what, value.partition(" ")[0] if is_stream else value))
+            made.append(without_offset(0, what, value) if is_stream else (0, what, value))
         elif what != "gap":
             made.append((depth, what, value))
         if what in ("message", "element", "group", "sequence") or what.startswith(("group ", "sequence ")):

@@ -109,8 +109,9 @@ static void show_fault(shown *it, const mark *m) {
     uint8_t words[256];
     size_t length = MIN(fast_status_words((uint32_t)m->value, words, sizeof words), sizeof words);
     char *name = m->node == FAST_NONE ? NULL : name_of_node(it->of->set, m->node);
-    proto_tree_add_string_format_value(it->trees[it->depth], hf_fault, it->tvb, m->start, m->length, wmem_strndup(it->pinfo->pool, (char *)words, length),
-        "%.*s; at byte %d%s%s", (int)length, words, m->exponent, name ? ", " : "", name ? name : "");
+    const char *sentence = wmem_strndup(it->pinfo->pool, (char *)words, length);
+    proto_tree_add_string_format_value(it->trees[it->depth], hf_fault, it->tvb, m->start, m->length, sentence, "%s; at byte %d%s%s", sentence,
+        m->exponent, name ? ", " : "", name ? name : "");
     if (m->value == FAST_TRUNCATED) col_append_sep_str(it->pinfo->cinfo, COL_INFO, ", ", "[truncated]");
     else col_append_sep_fstr(it->pinfo->cinfo, COL_INFO, ", ", "[fault %.2s]", words);
     end_all(it, m->start + m->length);
