@@ -85,6 +85,7 @@ typedef struct mark {
 
 // A decoder for one direction of a conversation, with the message that a TCP stream has begun.
 typedef struct flow {
+    const feed *of;
     fast_decoder *decoder;
     gboolean has_begun;   // TCP: whether `next` is known
     uint32_t next;        // TCP: the sequence number of the next byte to feed

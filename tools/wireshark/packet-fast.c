@@ -24,6 +24,7 @@ typedef struct talk {
 
 // The marks of a packet that is decoded once; and where in it, after how many marks, a message of a TCP stream is incomplete.
 typedef struct kept {
+    const feed *of;
     guint generation;
     wmem_array_t *marks;
     gboolean is_open;
@@ -50,6 +51,8 @@ static flow *flow_of(const feed *of, packet_info *pinfo) {
     const conversation_element_t *key = conversation->key_ptr;
     gboolean is_first = addresses_equal(&pinfo->src, conversation_key_addr1(key)) && pinfo->srcport == conversation_key_port1(key);
     flow *way = &both->ways[is_first ? 0 : 1];
+    if (way->of != of) fast_close_decoder(&way->decoder);
+    way->of = of;
     if (!way->decoder && fast_open_decoder(of->set, feed_limits, &way->decoder) == FAST_DONE) {
         if (!opened) opened = g_ptr_array_new();
         g_ptr_array_add(opened, &way->decoder);
@@ -76,15 +79,15 @@ static marking marking_of(tvbuff_t *tvb, wmem_allocator_t *scope, guint first) {
     return it;
 }
 
-// Returns the marks kept with a frame under a number; NULL where there are none.
-static kept *kept_of(packet_info *pinfo, guint32 number) {
+// Returns the marks of a feed kept with a frame under a number; NULL where there are none.
+static kept *kept_of(const feed *of, packet_info *pinfo, guint32 number) {
     kept *it = p_get_proto_data(wmem_file_scope(), pinfo, proto_fast, number);
-    return it && it->generation == feed_generation ? it : NULL;
+    return it && it->generation == feed_generation && it->of == of ? it : NULL;
 }
 
-static kept *keep(packet_info *pinfo, guint32 number, wmem_array_t *marks) {
+static kept *keep(const feed *of, packet_info *pinfo, guint32 number, wmem_array_t *marks) {
     kept *it = wmem_new(wmem_file_scope(), kept);
-    *it = (kept){.generation = feed_generation, .marks = marks};
+    *it = (kept){.of = of, .generation = feed_generation, .marks = marks};
     p_remove_proto_data(wmem_file_scope(), pinfo, proto_fast, number);
     p_add_proto_data(wmem_file_scope(), pinfo, proto_fast, number, it);
     return it;
@@ -98,11 +101,11 @@ static wmem_array_t *datagram(feed *of, tvbuff_t *tvb, packet_info *pinfo) {
         mark_packet(&it, of->decoder);
         return it.marks;
     }
-    kept *before = kept_of(pinfo, pinfo->curr_layer_num);
+    kept *before = kept_of(of, pinfo, pinfo->curr_layer_num);
     if (before) return before->marks;
     marking it = marking_of(tvb, wmem_file_scope(), of->skip);
     mark_packet(&it, flow_of(of, pinfo)->decoder);
-    return keep(pinfo, pinfo->curr_layer_num, it.marks)->marks;
+    return keep(of, pinfo, pinfo->curr_layer_num, it.marks)->marks;
 }
 
 static void show_packet(feed *of, tvbuff_t *tvb, packet_info *pinfo, proto_tree *shown) {
@@ -135,8 +138,14 @@ static void start_over(flow *way, uint32_t next) {
     way->has_map = FALSE;
 }
 
+// Returns whether all bytes of a piece are fed already: it is sent again.
+static gboolean is_again(const flow *way, uint32_t first, guint length) {
+    uint32_t fed = way->next - first;
+    return way->has_begun && fed <= G_MAXINT32 && fed >= length;
+}
+
 // Brings a flow to the first byte of a piece of its stream. Returns the number of bytes of the piece that are fed already: those of the message
-// with which it begins, the marks of which are appended; or those of a segment that is sent again. After a gap the flow starts over.
+// with which it begins, the marks of which are appended; or the start of a segment that is sent again. After a gap the flow starts over.
 static guint resume(flow *way, marking *it, uint32_t first) {
     uint32_t fed = way->next - first;
     if (!way->has_begun || fed > G_MAXINT32) {
@@ -149,7 +158,7 @@ static guint resume(flow *way, marking *it, uint32_t first) {
         return fed;
     }
     it->has_map = way->has_map;
-    return it->unit = MIN(fed, it->end);
+    return it->unit = fed;
 }
 
 // Keeps the marks of the message that is incomplete at the end of a piece, as from its first byte.
@@ -170,9 +179,10 @@ static void suspend(flow *way, const marking *it) {
 static kept *piece_of_stream(const feed *of, tvbuff_t *tvb, packet_info *pinfo, uint32_t first) {
     flow *way = flow_of(of, pinfo);
     marking it = marking_of(tvb, wmem_file_scope(), 0);
+    if (is_again(way, first, it.end)) return keep(of, pinfo, first, it.marks);
     it.at = resume(way, &it, first);
     mark_messages(&it, way->decoder);
-    kept *result = keep(pinfo, first, it.marks);
+    kept *result = keep(of, pinfo, first, it.marks);
     way->next = first + it.end;
     way->fed = 0;
     way->begun = NULL;
@@ -208,7 +218,7 @@ static int dissect_tcp(tvbuff_t *tvb, packet_info *pinfo, proto_tree *tree, void
     if (of->reset) {
         show_packet(of, tvb, pinfo, show_protocol(tvb, pinfo, tree));
     } else {
-        kept *it = kept_of(pinfo, info->seq);
+        kept *it = kept_of(of, pinfo, info->seq);
         if (!it) it = piece_of_stream(of, tvb, pinfo, info->seq);
         show_piece(of, it, tvb, pinfo, tree);
     }

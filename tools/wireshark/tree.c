@@ -113,7 +113,7 @@ static void show_fault(shown *it, const mark *m) {
     proto_tree_add_string_format_value(it->trees[it->depth], hf_fault, it->tvb, m->start, m->length, sentence, "%s; at byte %d%s%s", sentence,
         m->exponent, name ? ", " : "", name ? name : "");
     if (m->value == FAST_TRUNCATED) col_append_sep_str(it->pinfo->cinfo, COL_INFO, ", ", "[truncated]");
-    else col_append_sep_fstr(it->pinfo->cinfo, COL_INFO, ", ", "[fault %.2s]", words);
+    else col_append_sep_fstr(it->pinfo->cinfo, COL_INFO, ", ", strcspn(sentence, ":") == 2 ? "[fault %.2s]" : "[fault]", sentence);
     end_all(it, m->start + m->length);
     g_free(name);
 }
