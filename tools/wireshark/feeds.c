@@ -65,17 +65,19 @@ static char *read_set(const feed_row *row, fast_set **set) {
     return wrong_with(row->templates, status);
 }
 
-// Adds the tag of one line of a fields table: node, template, path, name, kind, tag. Returns whether the set has its node.
+// Adds the tag of one line of a fields table: node, template, path, name, kind, tag, length, its tag. That of a sequence is its length's.
+// Returns whether the set has the node.
 static gboolean read_tag(fast_set *set, char **cells, char **tags) {
-    if (g_strv_length(cells) < 6) return FALSE;
+    if (g_strv_length(cells) < 8) return FALSE;
     if (strcmp(cells[4], "template") == 0) return TRUE;
     guint64 node = g_ascii_strtoull(cells[0], NULL, 10);
     if (node >= fast_count_nodes(set)) return FALSE;
     char *name = name_of_node(set, (uint32_t)node);
     gboolean is_same = strcmp(name, cells[3]) == 0;
-    if (is_same && *cells[5]) {
+    const char *tag = strcmp(cells[4], "sequence") == 0 ? cells[7] : cells[5];
+    if (is_same && *tag) {
         g_free(tags[node]);
-        tags[node] = g_strdup(cells[5]);
+        tags[node] = g_strdup(tag);
     }
     g_free(name);
     return is_same;
