@@ -53,8 +53,8 @@ struct seen : fast::visitor {
 static const std::uint8_t first[] = {0xe0, 0x81, 0x85, 0x83, 'a', 'b', 'c'}, second[] = {0x80, 0x80};
 
 static void check_packets() {
-    // With room for one record, so that a packet takes several calls of the library.
-    fast::decoder decoder{fast::set{set_text}, fast_default_limits, 1};
+    // With room for one record, the least, so that a packet takes several calls of the library.
+    fast::decoder decoder{fast::set{set_text}, fast_default_limits, 0};
     seen it;
     std::uint64_t place = 0;
     check(status_of([&] { return decoder.packet(first, sizeof first, it); }) == FAST_DONE && it.messages == 1 && it.last == 5, "a packet");
@@ -102,6 +102,8 @@ static void check_limits() {
     encoder.reset();
     const std::uint8_t abc[] = {'a', 'b', 'c'};
     check(encoder.encode(few, 4, abc, 3, out) == FAST_DONE && out == std::vector<std::uint8_t>(first, first + sizeof first), "the bytes of a message");
+    encoder.reset();
+    check(encoder.encode(few, 4, abc, 3, out) == FAST_DONE && out.size() == 2 * sizeof first && out[sizeof first] == first[0], "bytes are appended");
 #ifdef __cpp_exceptions
     check(place == 3, "the record that is missing");
 #endif

@@ -62,6 +62,7 @@ def check_numbers(of):
     raised(TypeError, "strict", of.decoder, strict=1)
     raised(IndexError, "7", of.node_name, 7)
     raised(ValueError, "the number", of.template_name, -1)
+    assert (of.template_name(0), of.node_name(0), of.template_name(0)) == ("T", "u", "T")
     return due
 
 
@@ -123,6 +124,7 @@ def check_closing(library, due):
     for call in (lambda: decoder.feed(b""), decoder.reset, lambda: encoder.encode(MESSAGE), encoder.reset):
         assert raised(talvrugon.Error, "", call).status == talvrugon.CLOSED
     raised(talvrugon.Error, "S1", library.set, "x")
+    raised(UnicodeError, "surrogate", library.set, f"# \udcff{SET}")
     assert raised(talvrugon.Error, "", library.set(SET).decoder, max_text=15).status == 201
 
 

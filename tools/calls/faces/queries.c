@@ -5,6 +5,14 @@
 
 static fast_set *set;
 
+static int wrong;
+
+static void expect(bool is, const char *words) {
+    if (is) return;
+    wrong = 1;
+    fprintf(stderr, "calls: queries.c: %s\n", words);
+}
+
 static void number(const char *name, uint32_t it) {
     if (it == FAST_NONE) printf(" %s -", name);
     else printf(" %s %u", name, it);
@@ -43,7 +51,7 @@ static void nodes(void) {
 
 static void find(void) {
     static const char *const names[] = {"All", "Nested.One", "Part", "", "al", "All.a", "\xff"};
-    static const char *const paths[] = {"a", "e", "i", "", ".", "x", "x.s", "x.s.t", "x.y.z", "x.s.y", "x.s.y.z", "x.s.y.z.z", "x.", ".x", "x..s", "n"};
+    static const char *const paths[] = {"a", "e", "i", "", ".", "x", "x.s", "x.s.t", "x.y.z", "x.s.y", "x.s.y.z", "x.s.y.z.z", "x.", ".x", "x..s", "n", "x-y.z"};
     for (size_t i = 0; i < sizeof names / sizeof *names; i++) number(names[i][0] == '\xff' ? "?" : names[i], fast_find_template(set, names[i]));
     for (uint32_t id = 0; id < 9; id += 7) number("id", fast_find_template_id(set, id));
     number("id", fast_find_template_id(set, 1));
@@ -64,17 +72,22 @@ static void due(void) {
     for (size_t i = 0; i <= sizeof stream; i++) {
         fast_due it = fast_in_hand(decoder);
         printf("after %zu: %u %u\n", i, it.what, it.node);
+        expect(it.what == (i == 2 ? FAST_AWAITS_MAP : i == 3 ? FAST_AWAITS_NODE : FAST_AWAITS_MESSAGE) || i > 3, "what a decoder waits for");
         if (i < sizeof stream) fast_feed(decoder, stream + i, 1, records, 64, texts, sizeof texts);
     }
     fast_close_decoder(&decoder);
 }
 
-static int wrong;
-
-static void expect(bool is, const char *words) {
-    if (is) return;
-    wrong = 1;
-    fprintf(stderr, "calls: queries.c: %s\n", words);
+// The numbers of the types and the operators.
+static void kinds(void) {
+    static const uint32_t types[] = {FAST_TYPE_UINT32, FAST_TYPE_INT32, FAST_TYPE_UINT64, FAST_TYPE_INT64, FAST_TYPE_DECIMAL, FAST_TYPE_DECIMAL_PARTS,
+                                     FAST_TYPE_ASCII, FAST_TYPE_UNICODE, FAST_TYPE_BYTES, FAST_TYPE_GROUP, FAST_TYPE_UINT32, FAST_TYPE_SEQUENCE};
+    static const uint32_t ops[] = {FAST_OP_COPY, FAST_OP_INCREMENT, FAST_OP_CONSTANT, FAST_OP_DELTA, FAST_OP_DEFAULT, FAST_OP_COPY,
+                                   FAST_OP_TAIL, FAST_OP_NONE, FAST_OP_NONE, FAST_OP_NONE, FAST_OP_NONE, FAST_OP_COPY};
+    for (uint32_t at = 0; at < 12; at++) {
+        fast_node_info it;
+        expect(fast_describe_node(set, at, &it) && it.type == types[at] && it.op == ops[at], "the type and the operator of a node");
+    }
 }
 
 // Queries without a set, a decoder, a name or a place for what they write.
@@ -93,7 +106,10 @@ static void nothing(void) {
     expect(due.what == FAST_AWAITS_MESSAGE && !due.node, "what no decoder waits for");
     expect(fast_find_template(set, NULL) == FAST_NONE && fast_find_node(set, 0, NULL) == FAST_NONE, "a null name");
     expect(!fast_describe_template(set, 0, NULL) && !fast_describe_node(set, 0, NULL), "a null place");
+    expect(fast_body_of_node(set, 9, NULL, 9) == 2 && fast_body_of_node(set, 9, NULL, 0) == 2, "a node's body without room");
+    expect(fast_message_cap(set, (fast_limits){0, 16, UINT32_MAX, UINT32_MAX}) > UINT32_MAX, "more events than 32 bits count");
     expect(fast_body_of_template(set, 0, NULL, 9) == 9 && fast_body_of_template(set, 0, nodes, 1) == 9, "room for one node");
+    expect(!fast_nothing.kind && !fast_nothing.node, "nodes are written where there is no room");
     expect(nodes[0] == 0 && nodes[1] == 99, "one node");
     expect(fast_body_of_template(set, 0, nodes + 1, 0) == 9 && nodes[1] == 99, "room for no node");
 }
@@ -110,6 +126,7 @@ int main(int count, char **words) {
     nodes();
     find();
     due();
+    kinds();
     nothing();
     fast_close_set(&set);
     return wrong;

@@ -49,7 +49,7 @@ static void find(const fast::set &set) {
     std::puts("");
     for (std::uint32_t at = 0; at < 4; at++) {
         std::printf("in %u:", at);
-        for (const char *path : {"a", "e", "i", "", ".", "x", "x.s", "x.s.t", "x.y.z", "x.s.y", "x.s.y.z", "x.s.y.z.z", "x.", ".x", "x..s", "n"})
+        for (const char *path : {"a", "e", "i", "", ".", "x", "x.s", "x.s.t", "x.y.z", "x.s.y", "x.s.y.z", "x.s.y.z.z", "x.", ".x", "x..s", "n", "x-y.z"})
             number(path, set.find_node(at, path));
         std::puts("");
     }

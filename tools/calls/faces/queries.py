@@ -8,7 +8,7 @@ import talvrugon
 from talvrugon import queries
 
 NAMES = ("All", "Nested.One", "Part", "", "al", "All.a", "\udcff")
-PATHS = ("a", "e", "i", "", ".", "x", "x.s", "x.s.t", "x.y.z", "x.s.y", "x.s.y.z", "x.s.y.z.z", "x.", ".x", "x..s", "n")
+PATHS = ("a", "e", "i", "", ".", "x", "x.s", "x.s.t", "x.y.z", "x.s.y", "x.s.y.z", "x.s.y.z.z", "x.", ".x", "x..s", "n", "x-y.z")
 STREAM = bytes((0xE0, 0x80, 0xC0, 0x81, 0x82, 0xC0, 0x81, 0x81, 0x80, 0x80, 0x80, 0xC0, 0x87, 0x80))
 
 
@@ -52,6 +52,27 @@ def due(templates):
             pass
 
 
+def check_words(templates):
+    """Checks the words of types, operators and what a decoder waits for, the names, and what numbers and absence are returned as."""
+    types = [templates.node(at).type for at in (0, 1, 2, 3, 4, 6, 7, 8, 5, 9, 11)]
+    assert types == "uInt32 int32 uInt64 int64 decimal ascii unicode bytes decimalParts group sequence".split(), types
+    operators = [templates.node(at).op for at in (7, 2, 4, 0, 1, 3, 6)]
+    assert operators == "none constant default copy increment delta tail".split(), operators
+    template, node = templates.template(0), templates.node(1)
+    assert (template.name, template.reset, node.name, node.optional, templates.node(0).optional) == ("All", True, "b", True, False)
+    assert template.reset is True and node.optional is True
+    assert templates.message_cap() == templates.message_cap(max_elements=1000, max_total=1000) < templates.message_cap(max_total=1001)
+    assert templates.message_cap() > templates.message_cap(max_elements=400) and templates.find_node(0, "\udcff") is None
+    with templates.decoder() as decoder:
+        assert decoder.in_hand == ("message", None)
+        for piece, due in ((STREAM[:2], ("map", None)), (STREAM[2:3], ("node", 10)), (STREAM[3:11], ("message", None))):
+            decoder.feed(piece)
+            assert decoder.in_hand == due, decoder.in_hand
+        refuses(talvrugon.Error, decoder.feed, STREAM[11:13])
+        assert decoder.in_hand == ("node", 0), decoder.in_hand
+    refuses(talvrugon.Error, lambda: decoder.in_hand)
+
+
 def refuses(error, call, *given):
     """Says where a number out of range is not refused by name."""
     try:
@@ -75,6 +96,7 @@ def main(library, path):
     for at in range(4):
         print(f"in {at}:" + "".join(number(path, it.find_node(at, path)) for path in PATHS))
     due(it)
+    check_words(it)
     for call in (it.message_cap, it.find_template, it.template, it.node):
         refuses(ValueError, call, -1)
         refuses(ValueError, call, 1 << 32)

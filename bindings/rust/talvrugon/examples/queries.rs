@@ -3,8 +3,8 @@ use std::error::Error;
 use talvrugon::{Decoder, InHand, Limits, Set};
 
 const NAMES: [&str; 6] = ["All", "Nested.One", "Part", "", "al", "All.a"];
-const PATHS: [&str; 16] =
-    ["a", "e", "i", "", ".", "x", "x.s", "x.s.t", "x.y.z", "x.s.y", "x.s.y.z", "x.s.y.z.z", "x.", ".x", "x..s", "n"];
+const PATHS: [&str; 17] =
+    ["a", "e", "i", "", ".", "x", "x.s", "x.s.t", "x.y.z", "x.s.y", "x.s.y.z", "x.s.y.z.z", "x.", ".x", "x..s", "n", "x-y.z"];
 const STREAM: [u8; 14] = [0xe0, 0x80, 0xc0, 0x81, 0x82, 0xc0, 0x81, 0x81, 0x80, 0x80, 0x80, 0xc0, 0x87, 0x80];
 
 fn number(name: &str, it: Option<u32>) -> String {
