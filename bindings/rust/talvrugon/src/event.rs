@@ -77,3 +77,16 @@ pub(crate) fn record_of<'a>(event: Event<'a>, place: u64) -> (Record, &'a [u8]) 
         Event::MessageEnd => (mark(14, 0, 0), &[]),
     }
 }
+
+#[cfg(test)]
+mod tests {
+    use super::*;
+
+    /// The length of a text of 4 GiB and more is not that of its low bits. Nothing reads the text, so it has no memory.
+    #[test]
+    fn a_long_text() {
+        let text = vec![0; (1 << 32) + 3];
+        let (record, _) = record_of(Event::Field { node: 0, value: Value::Bytes(&text) }, 0);
+        assert_eq!(record.length, u32::MAX);
+    }
+}
