@@ -82,14 +82,10 @@ impl Set {
     }
 }
 
-/// Returns a name, by a call that writes as much of it as has room, and returns its whole length.
+/// Returns a name, by a call that writes it and returns its length: names have 1 to 64 bytes.
 fn named(write: impl Fn(*mut u8, usize) -> usize) -> Option<String> {
     let mut name = vec![0; 64];
     let length = write(name.as_mut_ptr(), name.len());
-    if length > name.len() {
-        name.resize(length, 0);
-        write(name.as_mut_ptr(), name.len());
-    }
     name.truncate(length);
     String::from_utf8(name).ok().filter(|it| !it.is_empty())
 }
