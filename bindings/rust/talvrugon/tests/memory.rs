@@ -1,4 +1,4 @@
-//! What a thread allocates: decoders, encoders and sets free it when they are dropped, and a decoder allocates its room once.
+//! Tests of memory: decoders, encoders and sets free theirs when they are dropped, and a decoder allocates its room once.
 use std::alloc::{GlobalAlloc, Layout, System};
 use std::cell::Cell;
 use talvrugon::{Decoder, Encoder, Event, Limits, Records, Room, Set, Start, Value};
