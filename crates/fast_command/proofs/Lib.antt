@@ -8,3 +8,4 @@ pub mod Flushed
 pub mod Outcomes
 pub mod Refused
 pub mod SetLines
+pub mod Lists

@@ -1,2 +1,3 @@
 -- Devices of contracts within the crates and of proofs: invariants, models of state, relations in between.
 pub mod Progress
+pub mod Paths

@@ -3,6 +3,7 @@ pub mod Closing
 pub mod Showing
 pub mod Report
 pub mod Checking
+pub mod Listing
 pub mod Texts
 pub mod Sets
 pub mod Unhexing

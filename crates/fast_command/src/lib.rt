@@ -4,6 +4,7 @@
 pub mod check;
 pub mod closing;
 pub mod faults;
+pub mod list;
 pub mod sets;
 pub mod show;
 pub mod texts;

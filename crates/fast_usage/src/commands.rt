@@ -145,10 +145,12 @@ fn with_input<'a>(
 fn check_command<'a>(alloc: Global) -> Result<Command<'a>, AllocError>
     ensures { IfOk result (MakesApp check_app) }
 {
+    let list = "Prints a line for each template and each node too";
     let command = Command::new(alloc, "check")
         .about("Checks a template text, and says how large its set is")
         .after_help("Example: fastcat check templates.toml")
         .arg(templates_arg(alloc));
+    let command = with_arg(command, flag_arg(alloc, "list", list));
     and_options(alloc, command)
 }
 

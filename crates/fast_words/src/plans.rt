@@ -32,6 +32,8 @@ pub struct Plan<'a> {
     pub hex: bool,
     /// True if an encoding that is longer than it needs to be is a fault (strict mode).
     pub strict: bool,
+    /// True if `check` lists the templates and nodes of the set.
+    pub list: bool,
     /// True if a failure is explained.
     pub explain: bool,
     /// The greatest length of a string in bytes.

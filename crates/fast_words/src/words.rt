@@ -46,6 +46,7 @@ fn plan_of<'a>(name: &str, matches: &ArgMatches<'a>) -> Plan<'a>
         input: matches.get_str("input"),
         hex: matches.get_flag("hex"),
         strict: matches.get_flag("strict"),
+        list: matches.get_flag("list"),
         explain: matches.get_flag("explain"),
         max_text: number_or(matches, "max-text", limits.max_text as u32),
         max_elements: number_or(matches, "max-elements", limits.max_elements),

@@ -132,7 +132,7 @@ fn carry_out(rt: &HostRuntime, plan: &Plan<'_>, note: &mut Note) -> Result<ShowE
     match (plan.task, plan.input) {
         (Task::Check, _) => {
             let mut target = Watched::new(rt.stdout());
-            run_check(&templates, plan.limits(), &mut target)?;
+            run_check(&templates, plan.limits(), plan.list, &mut target)?;
             Ok(ShowEnd::Good)
         }
         (_, None) => {

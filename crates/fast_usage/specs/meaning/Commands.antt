@@ -36,7 +36,7 @@ with_input a = with_rule (with_rule (with_rule a templates_rule) input_rule) (fl
 
 -- `fastcat check T`
 abbrev pub check_app : App
-check_app = with_options (with_rule (new_app (codes "check")) templates_rule)
+check_app = with_options (with_rule (with_rule (new_app (codes "check")) templates_rule) (flag_rule (codes "list")))
 
 -- `fastcat show T [F]`
 abbrev pub show_app : App

@@ -40,6 +40,7 @@ pub record IsPlanOf (name : Text) (rows : List Row) (p : Plan) : Type 0 where
   pub input : option_map (λ s. s.now) p.input ≡ first_of (codes "input") rows
   pub hex : IsFlagAt (codes "hex") rows p.hex
   pub strict : IsFlagAt (codes "strict") rows p.strict
+  pub list : IsFlagAt (codes "list") rows p.list
   pub explain : IsFlagAt (codes "explain") rows p.explain
   pub max_text : IsNumberAt (codes "max-text") rows 1024 p.max_text
   pub max_elements : IsNumberAt (codes "max-elements") rows 1000 p.max_elements
