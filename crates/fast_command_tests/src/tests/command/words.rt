@@ -12,6 +12,7 @@ const DEFAULTS: Plan<'static> = Plan {
     input: None,
     hex: false,
     strict: false,
+    list: false,
     explain: false,
     max_text: 1024,
     max_elements: 1000,
@@ -43,6 +44,13 @@ const PLANS: &[(&str, Plan<'static>)] = &[
             strict: true,
             max_text: 16,
             ..DEFAULTS
+        },
+    ),
+    (
+        "fastcat check --list t.toml",
+        Plan {
+            list: true,
+            ..CHECK
         },
     ),
     (
@@ -121,6 +129,7 @@ const REFUSALS: &[(&str, ErrorKind, i32)] = &[
     ("fastcat check", ErrorKind::MissingRequiredArgument, 2),
     ("fastcat check t.toml --strict", ErrorKind::UnknownArgument, 2),
     ("fastcat check t.toml stream", ErrorKind::UnknownArgument, 2),
+    ("fastcat show t.toml --list", ErrorKind::UnknownArgument, 2),
     ("fastcat show t.toml --max-total=4294967296", ErrorKind::ValueValidation, 2),
     ("fastcat convert t.toml --strict", ErrorKind::UnknownArgument, 2),
     ("fastcat show --help", ErrorKind::DisplayHelp, 0),
