@@ -10,5 +10,6 @@ complete -c fastcat -n "__fish_seen_subcommand_from $commands" -l explain -d "Ex
 complete -c fastcat -n "__fish_seen_subcommand_from $commands" -l max-text -x -d "The most bytes of a string"
 complete -c fastcat -n "__fish_seen_subcommand_from $commands" -l max-elements -x -d "The most elements of a sequence"
 complete -c fastcat -n "__fish_seen_subcommand_from $commands" -l max-total -x -d "The most elements of all sequences of a message"
+complete -c fastcat -n "__fish_seen_subcommand_from check" -l list -d "Print each template and each node too"
 complete -c fastcat -n "__fish_seen_subcommand_from show convert" -l hex -d "Hexadecimal digits in place of bytes"
 complete -c fastcat -n "__fish_seen_subcommand_from show" -l strict -d "Refuse what is longer than it needs to be"
