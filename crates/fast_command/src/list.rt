@@ -154,15 +154,10 @@ fn put_words<T: Target>(line: &mut LineWriter<'_, T>, shape: &Shape)
 }
 
 /// Writes the line of a node.
-fn put_node_line<T: Target>(
-    line: &mut LineWriter<'_, T>,
-    path: &Path<'_>,
-    number: u32,
-    node: &Node,
-)
+fn put_node_line<T: Target>(line: &mut LineWriter<'_, T>, path: &Path<'_>, number: u32, node: &Node)
     ensures { (first : ℕ) (is : List Instruction)
         → Writes T.written T.has_failed line.old (node_line (path_text path.now) (label_of number node.now)
-          (instruction_words (instruction_of (label_of number node.now) first is node.now.shape))) line.new }
+        (instruction_words (instruction_of (label_of number node.now) first is node.now.shape))) line.new }
 {
     line.put(b"node ");
     line.put_unsigned(u64::from(number));
@@ -226,15 +221,11 @@ fn put_id<T: Target>(line: &mut LineWriter<'_, T>, id: Option<u32>)
 }
 
 /// Writes the line of a template.
-fn put_template_line<T: Target>(
-    line: &mut LineWriter<'_, T>,
-    templates: &Templates,
-    number: u32,
-)
+fn put_template_line<T: Target>(line: &mut LineWriter<'_, T>, templates: &Templates, number: u32)
     requires { number < length (templates_of templates.now) }
     ensures { (t : Template) → slice_get (templates_of templates.now) number ≡ Some t
         → Writes T.written T.has_failed line.old
-          (template_line number (template_data (instructions_from 0 (nodes_of templates.now)) t)) line.new }
+        (template_line number (template_data (instructions_from 0 (nodes_of templates.now)) t)) line.new }
 {
     let template = templates.template(number);
     line.put(b"template ");
@@ -255,7 +246,7 @@ fn put_template<T: Target>(line: &mut LineWriter<'_, T>, templates: &Templates, 
     requires { number < length (templates_of templates.now) }
     ensures { (t : Template) → slice_get (templates_of templates.now) number ≡ Some t
         → Writes T.written T.has_failed line.old
-          (lines_of_template number (template_data (instructions_from 0 (nodes_of templates.now)) t)) line.new }
+        (lines_of_template number (template_data (instructions_from 0 (nodes_of templates.now)) t)) line.new }
 {
     put_template_line(line, templates, number);
     let template = templates.template(number);
