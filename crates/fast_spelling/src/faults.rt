@@ -4,8 +4,8 @@ use std::alloc::AllocError;
 use std::error::Error;
 use std::fmt;
 
-/// The fault for which a message is not encoded. E1, E2 and E4 are checked in this order, each for the whole message; then E3 and R9, at
-/// the first instruction that has either.
+/// The fault for which a message is not encoded. The whole message is checked for E1, then for E2, then for E4. E3 and R9 come last: of
+/// the two, the one of the earlier instruction is reported.
 #[derive(Clone, Copy, Debug, PartialEq, Eq)]
 pub enum EncodeFault {
     /// The template set has no template of this number, or that template has no identifier.

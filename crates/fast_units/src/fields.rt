@@ -264,7 +264,7 @@ fn increase(slots: &mut Slots, field: &FieldInstruction) -> ValueSource
     }
 }
 
-/// Returns one more than the value; after the greatest value of the type comes the least.
+/// Returns the value plus one, or the least value of the type if it was the greatest.
 #[inline]
 fn next_number(kind: Kind, value: Scalar<'_>) -> Number
     ensures { number_data result

@@ -138,7 +138,7 @@ fn increased<'a>(field: &FieldInstruction, previous: Previous<'a>) -> Outcome<'a
     }
 }
 
-/// Returns one more than the value; after the greatest value of the type comes the least.
+/// Returns the value plus one, or the least value of the type if it was the greatest.
 #[inline(always)]
 pub fn next_integer<'a>(kind: Kind, value: Scalar<'a>) -> Scalar<'a>
     ensures { scalar_data result ≡ value_of_integer kind
