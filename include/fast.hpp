@@ -84,9 +84,15 @@ public:
     std::uint32_t entries() const { return fast_count_entries(get()); }
     std::uint32_t depth() const { return fast_nesting_depth(get()); }
     std::uint64_t message_cap(fast_limits limits) const { return fast_message_cap(get(), limits); }
-    std::optional<std::uint32_t> find_template(const std::string &name) const { return some(fast_find_template(get(), name.c_str())); }
+    // By their lengths: a zero in a name or a path is a byte like any other, and no name has one.
+    std::optional<std::uint32_t> find_template(const std::string &name) const {
+        const auto *bytes = reinterpret_cast<const std::uint8_t *>(name.data());
+        return some(get() ? fast_template_by_name({get()}, bytes, name.size()) : FAST_NONE);
+    }
     std::optional<std::uint32_t> find_template(std::uint32_t id) const { return some(fast_find_template_id(get(), id)); }
-    std::optional<std::uint32_t> find_node(std::uint32_t in, const std::string &path) const { return some(fast_find_node(get(), in, path.c_str())); }
+    std::optional<std::uint32_t> find_node(std::uint32_t in, const std::string &path) const {
+        return some(get() ? fast_find_below({get()}, in, FAST_NONE, path.data(), path.size()) : FAST_NONE);
+    }
     std::optional<std::uint32_t> parent_of_node(std::uint32_t number) const { return some(fast_parent_of_node(get(), number)); }
     std::optional<std::uint32_t> template_of_node(std::uint32_t number) const { return some(fast_template_of_node(get(), number)); }
     std::optional<fast_template_info> template_info(std::uint32_t number) const { return described<fast_template_info>(fast_describe_template, number); }

@@ -78,5 +78,7 @@ int main(int, char **words) {
     templates(set);
     nodes(set);
     find(set);
+    // a zero ends no name and no path
+    if (set.find_template(std::string("All", 4)) || set.find_node(0, std::string("a", 2))) return 1;
     due(set);
 }
