@@ -5,7 +5,8 @@ Make the shared library from the static one:
     cc -shared -o libfast_c.so -Wl,--whole-archive libfast_c.a -Wl,--no-whole-archive include/heap.c
 
     with talvrugon.Library("./libfast_c.so").set(text).decoder() as decoder:
-        for kind, node, value in decoder.feed(piece): ..
+        for message in decoder.messages(piece): ..                # dictionaries: message["message"]["Symbol"]
+        for kind, node, value in decoder.feed(piece): ..          # events
         for records, texts in decoder.feed_records(piece): ..     # NumPy structured arrays if NumPy is installed
 
 A call has decoded its whole piece when it returns. Threads may share a set; use a decoder or an encoder from one thread at a time.
@@ -16,31 +17,36 @@ from __future__ import annotations
 
 import ctypes as c
 import os
-import struct
-from collections.abc import Iterable, Iterator
+from collections.abc import Iterable, Iterator, Mapping
 from ctypes import byref
 from typing import Any
 
+from .calls import ASCII as ASCII
+from .calls import BYTES as BYTES
+from .calls import DECIMAL as DECIMAL
+from .calls import ELEMENT_END as ELEMENT_END
+from .calls import ELEMENT_START as ELEMENT_START
 from .calls import FUNCTIONS, INTERFACE, ROW, Fed, Handle, P, Put, Record, integer, numbers_of
+from .calls import GROUP_END as GROUP_END
+from .calls import GROUP_START as GROUP_START
+from .calls import MESSAGE_END as MESSAGE_END
+from .calls import MESSAGE_START as MESSAGE_START
+from .calls import SEQUENCE_END as SEQUENCE_END
+from .calls import SEQUENCE_START as SEQUENCE_START
+from .calls import SIGNED as SIGNED
+from .calls import UNICODE as UNICODE
+from .calls import UNSIGNED as UNSIGNED
+from .events import Event, Events, packed
+from .messages import Builder, Forms, Message, Packer
+from .messages import json_value as json_value
 from .queries import Node as Node
-from .queries import Queries, in_hand
+from .queries import Queries, in_hand, name_by
 from .queries import Template as Template
-
-try:
-    import numpy
-except ImportError:
-    numpy = None
 
 # The library in a wheel, next to this module.
 BESIDE = os.path.join(os.path.dirname(os.path.abspath(__file__)), "libfast.so.0")
 
-MESSAGE_START, UNSIGNED, SIGNED, DECIMAL, ASCII, UNICODE, BYTES = range(1, 8)
-GROUP_START, GROUP_END, SEQUENCE_START, ELEMENT_START, ELEMENT_END, SEQUENCE_END, MESSAGE_END = range(8, 15)
-
 DONE, MORE, CLOSED = 0, 1, 4
-
-# (kind, node, value); the value of a decimal is (mantissa, exponent), that of a string is bytes
-Event = tuple[int, int, Any]
 
 
 class Error(Exception):
@@ -48,13 +54,14 @@ class Error(Exception):
 
     place: for a fault, the number of bytes of the stream that were consumed; for records that are not those of one message, the number of
     the record that may not come next. template: the number of the template whose message has the fault, None between messages. events: the
-    events of the piece before the fault.
+    events of the piece before the fault. messages: from Decoder.messages and Decoder.packet_messages, the whole messages before it.
     """
 
     def __init__(self, status: int, place: int, words: str, template: int | None = None, events: Events | None = None):
         super().__init__(f"{words} (at {place})")
         self.status, self.place, self.words, self.template = status, place, words, template
         self.events = events if events is not None else Events([])
+        self.messages: list[Message] = []
 
     @property
     def code(self) -> str | None:
@@ -138,18 +145,20 @@ class Set(Queries, Held):
     def __init__(self, library: Library, text: str):
         super().__init__(library, library.calls.fast_set_close)
         self._names: dict[tuple[str, int], str] = {}
+        self._forms: Forms | None = None
         raw = text.encode()
         library.expect(library.calls.fast_set_read(raw, len(raw), byref(self.owned.at)))
 
     def _name(self, call: str, number: int) -> str:
         if (call, number) not in self._names:
-            function, handle = getattr(self.library.calls, call), self.handle
-            room = c.create_string_buffer(function(handle, integer("the number", number, 32), c.create_string_buffer(1), 0) or 1)
-            length = function(handle, number, room, len(room))
-            if not length:
-                raise IndexError(f"the set has no number {number}")
-            self._names[call, number] = room.raw[:length].decode()
+            self._names[call, number] = name_by(self.library, self.handle, call, number)
         return self._names[call, number]
+
+    def _message_forms(self, borrower: Owned) -> Forms:
+        """Returns the form of its messages, by a decoder or an encoder of it, which can still read the set after it is closed."""
+        if self._forms is None:
+            self._forms = Forms(self.library, Handle(borrower.borrows[0].at))
+        return self._forms
 
     @property
     def templates(self) -> int:
@@ -186,42 +195,6 @@ class Room:
             self.texts = c.create_string_buffer(max_text)
 
 
-class Events:
-    """The events of a decoded piece: pairs of records and their strings, as bytes."""
-
-    def __init__(self, parts: list[tuple[bytes, bytes]]):
-        self.parts = parts  # of each call of the library
-
-    def __len__(self) -> int:
-        return sum(len(records) for records, _ in self.parts) // ROW.size
-
-    def __iter__(self) -> Iterator[Event]:
-        for records, texts in self.parts:
-            for kind, node, value, length, exponent in ROW.iter_unpack(records):
-                if kind in (SIGNED, DECIMAL):
-                    value -= (value >> 63) << 64
-                if kind == DECIMAL:
-                    value = value, exponent
-                elif ASCII <= kind <= BYTES:
-                    value = texts[value : value + length]
-                yield kind, node, value
-
-    def arrays(self) -> list[tuple[Any, bytes]]:
-        """Returns pairs of an array of Record (a NumPy structured array if NumPy is installed) and the bytes of their strings."""
-        if numpy:
-            return [(numpy.frombuffer(records, dtype=numpy.dtype(Record)), texts) for records, texts in self.parts]
-        return [((Record * (len(records) // ROW.size)).from_buffer_copy(records), texts) for records, texts in self.parts]
-
-    def template(self) -> tuple[bool, int | None]:
-        """Returns whether a message starts or ends in these events, and the template of the last message that starts and does not end."""
-        for records, _ in reversed(self.parts):
-            for at in range(len(records) - ROW.size, -1, -ROW.size):
-                kind, node = struct.unpack_from("<II", records, at)
-                if kind in (MESSAGE_START, MESSAGE_END):
-                    return True, node if kind == MESSAGE_START else None
-        return False, None
-
-
 class Decoder(Held):
     """A decoder of a stream that comes in pieces, split anywhere. A piece is bytes or an object with the buffer protocol (bytearray,
     memoryview).
@@ -244,6 +217,7 @@ class Decoder(Held):
         self.room.hold(max_text)
         self._fed = Fed(between=1)
         self._template: int | None = None
+        self._builder = Builder()
 
     def _decode(self, piece: Any, call: Any, *how: int) -> Events:
         """Feeds a piece by calls of the library until all of it is consumed."""
@@ -270,6 +244,7 @@ class Decoder(Held):
 
         At a fault of the stream it raises an Error, whose `events` are those before it; so does each further call, until a reset.
         """
+        self._expect_open_by(False)
         return self._decode(piece, self.library.calls.fast_decoder_feed)
 
     def packet(self, packet: Any, afresh: bool = True) -> Events:
@@ -279,7 +254,57 @@ class Decoder(Held):
         If the packet ends inside a message, it raises an Error of status 6; so does each further call, until a reset or a packet that
         starts afresh.
         """
+        self._start_packet(False, afresh)
         return self._decode(packet, self.library.calls.fast_decoder_packet, 1 if afresh else 0)
+
+    def messages(self, piece: Any) -> Iterator[Message]:
+        """Decodes a piece of the stream, and returns an iterator over the messages that end in it, as dictionaries:
+
+            {"template": "Trade", "id": 7, "message": {"symbol": "AB", "price": Decimal("265.06"), "size": 100}}
+
+        Integers are int, decimals decimal.Decimal with the exponent of the stream, strings str, byte vectors bytes, groups dictionaries, and
+        sequences lists of dictionaries. An absent field has no key. Of nodes with one name in a segment, the second has the key NAME#2, the
+        third NAME#3 and so on, by their places in the template.
+
+        A message that does not end in the piece comes with the piece in which it ends; `partial` is what there is of it. At a fault of the
+        stream the iterator yields the messages before it and then raises an Error, whose `messages` they are too; so does each further call,
+        until a reset. It raises a RuntimeError if `feed` or `packet` has returned the start of the message that is open.
+        """
+        self._expect_open_by(True)
+        return self._messages(piece, self.library.calls.fast_decoder_feed)
+
+    def packet_messages(self, packet: Any, afresh: bool = True) -> Iterator[Message]:
+        """Decodes one packet as `packet` does, and returns an iterator over its messages as `messages` does."""
+        self._start_packet(True, afresh)
+        return self._messages(packet, self.library.calls.fast_decoder_packet, 1 if afresh else 0)
+
+    @property
+    def partial(self) -> Message | None:
+        """The message of `messages` that has begun and not ended, or in which the fault is, as far as it has come; None if there is none."""
+        return self._builder.message
+
+    def _expect_open_by(self, messages: bool) -> None:
+        """Raises a RuntimeError if the start of the open message was returned in the other form."""
+        if self._fed.status == DONE and self._template is not None and (self.partial is not None) != messages:
+            raise RuntimeError("the open message has begun in another form: feed and packet return events, messages and packet_messages do not")
+
+    def _start_packet(self, messages: bool, afresh: bool) -> None:
+        if afresh:
+            self._builder.clear()
+        else:
+            self._expect_open_by(messages)
+
+    def _messages(self, piece: Any, call: Any, *how: int) -> Iterator[Message]:
+        forms = self.set._message_forms(self.owned)
+        fault: Error | None = None
+        try:
+            events = self._decode(piece, call, *how)
+        except Error as error:
+            events, fault = error.events, error
+        whole = self._builder.take(forms, events.parts)
+        if fault:
+            fault.messages = whole
+        return yielded(whole, fault)
 
     def feed_records(self, piece: Any) -> list[tuple[Any, bytes]]:
         """Decodes a piece as `feed` does, and returns its events in the form of `Events.arrays`."""
@@ -307,6 +332,14 @@ class Decoder(Held):
         """Resets the decoder: before the first byte, with an empty dictionary."""
         self.library.calls.fast_decoder_reset(self.handle, byref(P()))
         self._fed, self._template = Fed(between=1), None
+        self._builder.clear()
+
+
+def yielded(messages: list[Message], fault: Error | None) -> Iterator[Message]:
+    """Yields messages, and then raises the fault, if there is one."""
+    yield from messages
+    if fault:
+        raise fault
 
 
 class Encoder(Held):
@@ -318,15 +351,23 @@ class Encoder(Held):
         self.set = of
         self.library.expect(self.library.calls.fast_encoder_open(of.handle, *limits, byref(self.owned.at)))
 
-    def encode(self, events: Iterable[Event]) -> bytes:
-        """Returns the bytes of one message, from its events in the form that Decoder.feed returns.
+    def encode(self, message: Mapping[str, Any] | Iterable[Event]) -> bytes:
+        """Returns the bytes of one message, from a dictionary as Decoder.messages yields them, or from its events as Decoder.feed returns them.
 
-        If the message is refused, it raises an Error, and nothing changes: status 5 if the events are not those of one message; from 401
-        the codes E1 to E4 and R9; 406 if an allocation failed. A number out of range is a ValueError, one that is not an integer a
-        TypeError.
+        In a dictionary each mandatory field has a key, constants too; "id" may be missing, and the keys may be in any order. A key that the
+        template does not have, a mandatory field without a key and a value out of range are a ValueError, a value of another type a TypeError;
+        the sentence has the path of the field and what is expected, as in "MDEntries[0].MDEntryPx of Book is 5, and has to be a decimal.Decimal".
+        For numbers of events it has the number of the event.
+
+        If the message is refused, it raises an Error: status 5 if the events are not those of one message; from 401 the codes E1 to E4 and R9;
+        406 if an allocation failed. At every error, nothing changes.
         """
-        texts = bytearray()
-        records = [packed(f"event {number}", event, texts) for number, event in enumerate(events)]
+        if isinstance(message, Mapping):
+            packer = Packer(self.set._message_forms(self.owned), message)
+            records, texts = packer.records, packer.texts
+        else:
+            texts = bytearray()
+            records = [packed(f"event {number}", event, texts) for number, event in enumerate(message)]
         put, calls = Put(), self.library.calls
         calls.fast_encoder_put(self.handle, byref(P()), b"".join(records), len(records), bytes(texts), len(texts), byref(put))
         self.library.expect(put.status, put.record)
@@ -336,21 +377,3 @@ class Encoder(Held):
     def reset(self) -> None:
         """Resets the encoder. The reader's decoder must be reset at the same point of the stream."""
         self.library.calls.fast_encoder_reset(self.handle, byref(P()))
-
-
-def packed(name: str, event: Event, texts: bytearray) -> bytes:
-    """Returns the record of an event, and appends its string to texts."""
-    kind, node, value = event
-    length = exponent = 0
-    if kind == DECIMAL:
-        value, exponent = value
-        exponent = integer(f"the exponent of {name}", exponent, 32, signed=True)
-    if kind in (SIGNED, DECIMAL):
-        value = integer(f"the value of {name}", value, 64, signed=True) & (1 << 64) - 1
-    elif kind in (ASCII, UNICODE, BYTES):
-        text, value = bytes(memoryview(value)), len(texts)
-        texts += text
-        length = len(text)
-    else:
-        value = integer(f"the value of {name}", value, 64)
-    return ROW.pack(integer(f"the kind of {name}", kind, 32), integer(f"the node of {name}", node, 32), value, length, exponent)

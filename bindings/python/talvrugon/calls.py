@@ -10,6 +10,10 @@ from typing import Any
 # What fast_interface has to return: the library and this module are of one build.
 INTERFACE = 2
 
+# The kinds of records (fast_kind).
+MESSAGE_START, UNSIGNED, SIGNED, DECIMAL, ASCII, UNICODE, BYTES = range(1, 8)
+GROUP_START, GROUP_END, SEQUENCE_START, ELEMENT_START, ELEMENT_END, SEQUENCE_END, MESSAGE_END = range(8, 15)
+
 
 class Record(c.Structure):
     """An event of fixed size: fast_record of fast.h. ROW is its layout."""

@@ -46,6 +46,31 @@ class Node(NamedTuple):
     body: list[int]
 
 
+def name_by(library: Any, handle: Any, call: str, number: int) -> str:
+    """Returns a name by a call, such as fast_node_name, and raises an IndexError where the set has no such number."""
+    function = getattr(library.calls, call)
+    room = c.create_string_buffer(function(handle, integer("the number", number, 32), c.create_string_buffer(1), 0) or 1)
+    length = function(handle, number, room, len(room))
+    if not length:
+        raise IndexError(f"the set has no number {number}")
+    return room.raw[:length].decode()
+
+
+def body_by(library: Any, handle: Any, call: str, number: int) -> list[int]:
+    """Returns the nodes of a body by a call, such as fast_node_body."""
+    body = getattr(library.calls, call)
+    nodes = (U * body(handle, number, (U * 1)(), 0))()
+    body(handle, number, nodes, len(nodes))
+    return list(nodes)
+
+
+def described_by(library: Any, handle: Any, call: str, number: int, count: int) -> list[int]:
+    """Returns the numbers of a description by a call, such as fast_node_describe, which writes this many."""
+    raw = (U * count)()
+    getattr(library.calls, call)(handle, number, raw)
+    return list(raw)
+
+
 def some(number: int) -> int | None:
     return None if number == NONE else number
 
@@ -83,19 +108,19 @@ class Queries:
 
     def template(self, number: int) -> Template:
         """Returns a template by its number, and raises an IndexError where the set has none."""
-        name, raw = self.template_name(number), (U * 3)()
-        self.library.calls.fast_template_describe(self.handle, number, raw)
-        has_id, identifier, reset = raw
-        return Template(name, identifier if has_id else None, bool(reset), self._body("fast_template_body", number))
+        name = self.template_name(number)
+        has_id, identifier, reset = described_by(self.library, self.handle, "fast_template_describe", number, 3)
+        body = body_by(self.library, self.handle, "fast_template_body", number)
+        return Template(name, identifier if has_id else None, bool(reset), body)
 
     def node(self, number: int) -> Node:
         """Returns a node by its number, and raises an IndexError where the set has none. Looks through the set: not for each event."""
-        name, raw = self.node_name(number), (U * 6)()
-        self.library.calls.fast_node_describe(self.handle, number, raw)
+        name, raw = self.node_name(number), described_by(self.library, self.handle, "fast_node_describe", number, 6)
         kind, optional, op, entry, mantissa_op, mantissa_entry = raw
         parent = some(self.library.calls.fast_node_parent(self.handle, number))
         uses = OPERATORS[op], some(entry), OPERATORS[mantissa_op], some(mantissa_entry)
-        return Node(name, TYPES[kind], bool(optional), *uses, self._template_of(number), parent, self._body("fast_node_body", number))
+        body = body_by(self.library, self.handle, "fast_node_body", number)
+        return Node(name, TYPES[kind], bool(optional), *uses, self._template_of(number), parent, body)
 
     def find_node(self, template: int, path: str) -> int | None:
         """Returns the node at a path in a template, names with points between them, such as "MDEntries.MDEntryPx"; None where there is none.
@@ -120,12 +145,6 @@ class Queries:
         while (parent := calls.fast_node_parent(self.handle, number)) != NONE:
             number = parent
         return calls.fast_node_template(self.handle, number)
-
-    def _body(self, call: str, number: int) -> list[int]:
-        body = getattr(self.library.calls, call)
-        nodes = (U * body(self.handle, number, (U * 1)(), 0))()
-        body(self.handle, number, nodes, len(nodes))
-        return list(nodes)
 
 
 def in_hand(library: Any, handle: Any) -> tuple[str, int | None]:

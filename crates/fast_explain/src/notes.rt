@@ -1,17 +1,8 @@
-//! The buffer of an explanation, and how it quotes a template file.
+//! Errors in template files, as an explanation describes them.
 
-use arrayvec::ArrayString;
+pub use fast_notes::{NOTE_ROOM, Note, put, put_number, put_path, put_quoted};
 use std::fmt::Write;
 use toml::Value;
-
-/// The greatest length of an explanation in bytes.
-pub const NOTE_ROOM: usize = 4096;
-
-/// The lines of an explanation. Whatever has no room is omitted.
-pub type Note = ArrayString<NOTE_ROOM>;
-
-/// The greatest number of characters that are quoted of a string.
-const QUOTED: usize = 64;
 
 /// The content of a template file at a position.
 #[derive(Clone, Copy)]
@@ -31,8 +22,10 @@ pub(crate) enum Found<'a> {
 pub(crate) enum Right {
     /// One of these words.
     OneOf(&'static [&'static str]),
-    /// This phrase.
+    /// A thing that this phrase describes.
     Said(&'static str),
+    /// No value, as this phrase says.
+    NoValue(&'static str),
 }
 
 /// The part of a field that is at fault.
@@ -70,42 +63,6 @@ pub(crate) struct Misfit<'a> {
     pub(crate) right: Right,
 }
 
-/// Appends strings, up to the first that has no room. Returns whether all had room.
-pub(crate) fn put(note: &mut Note, texts: &[&str]) -> bool {
-    for text in texts {
-        if note.write_str(text).is_err() {
-            return false;
-        }
-    }
-    true
-}
-
-/// Appends a number. Returns whether it had room.
-pub(crate) fn put_number(note: &mut Note, number: u64) -> bool {
-    write!(note, "{number}").is_ok()
-}
-
-/// Appends a string in quotes, without control characters. Returns whether it had room.
-pub(crate) fn put_quoted(note: &mut Note, text: &str) -> bool {
-    let mut count: usize = 0;
-    if !put(note, &["\""]) {
-        return false;
-    }
-    for c in text.chars() {
-        if count == QUOTED {
-            return put(note, &["\".."]);
-        }
-        count = count.saturating_add(1);
-        if note
-            .write_char(if c.is_control() { '?' } else { c })
-            .is_err()
-        {
-            return false;
-        }
-    }
-    put(note, &["\""])
-}
-
 /// Appends a string or a number; of any other value, its type. Returns whether it had room.
 fn put_value(note: &mut Note, value: &Value) -> bool {
     if let Some(text) = value.as_str() {
@@ -129,7 +86,7 @@ pub(crate) fn put_found(note: &mut Note, found: Found<'_>) -> bool {
 
 /// Appends the words of which one would be valid. Returns whether they had room.
 fn put_words(note: &mut Note, words: &[&str]) -> bool {
-    if !put(note, &["one of"]) {
+    if !put(note, &["expected one of"]) {
         return false;
     }
     let mut before = " ";
@@ -145,8 +102,9 @@ fn put_words(note: &mut Note, words: &[&str]) -> bool {
 /// Appends the valid content. Returns whether it had room.
 fn put_right(note: &mut Note, right: Right) -> bool {
     match right {
-        Right::Said(words) => put(note, &[words]),
+        Right::Said(words) => put(note, &["expected ", words]),
         Right::OneOf(words) => put_words(note, words),
+        Right::NoValue(words) => put(note, &[words]),
     }
 }
 

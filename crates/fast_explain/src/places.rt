@@ -74,7 +74,7 @@ fn tells_links(known: Known<'_>, walk: &Walk<'_>, field: &Value, note: &mut Note
         && put_quoted(note, name)
         && put(
             note,
-            &[": a template from which fewer references lead on\n"],
+            &[": expected a template from which fewer references lead on\n"],
         );
     true
 }
@@ -89,7 +89,7 @@ fn tells_depth(known: Known<'_>, walk: &Walk<'_>, field: &Value, note: &mut Note
         return false;
     }
     walk.tell_way(note);
-    let words = " groups and sequences, one in another: at most ";
+    let words = " groups and sequences, one in another, expected at most ";
     tell_most(note, depth, words, NESTING_LIMIT as u64);
     true
 }
@@ -101,7 +101,7 @@ fn tells_bits(known: Known<'_>, walk: &Walk<'_>, field: &Value, note: &mut Note)
         return false;
     }
     walk.tell_way(note);
-    tell_most(note, bits, " bits: at most ", SEGMENT_LIMIT as u64);
+    tell_most(note, bits, " bits, expected at most ", SEGMENT_LIMIT as u64);
     true
 }
 
@@ -160,10 +160,7 @@ fn tell_field(
     if !tell_first(alloc, known, template, code, note)? {
         let _ = put(note, &["\n"]);
         if matches!(code, StaticCode::C5) {
-            let _ = put(
-                note,
-                &["  it stands in a template that this one refers to\n"],
-            );
+            let _ = put(note, &["  it is in a template that this one refers to\n"]);
         }
     }
     Ok(())
@@ -226,7 +223,7 @@ fn tell_nodes(known: Known<'_>, number: usize, note: &mut Note) {
     tell_most(
         note,
         nodes,
-        " nodes up to its end: at most ",
+        " nodes up to its end, expected at most ",
         NODE_LIMIT as u64,
     );
 }
@@ -240,7 +237,7 @@ fn tell_bits(
 ) -> Result<(), AllocError> {
     let own = segment_bits(known, items_of(template, "fields")).saturating_add(1);
     if own > SEGMENT_LIMIT as u64 {
-        let words = " bits, with that of the identifier: at most ";
+        let words = " bits with that of the identifier, expected at most ";
         tell_most(note, own, words, SEGMENT_LIMIT as u64);
         return Ok(());
     }

@@ -137,6 +137,10 @@ fn right_of(form: Form) -> Right {
     match form {
         Form::Kind => Right::OneOf(&KINDS),
         Form::Operator => Right::OneOf(&OPERATORS),
+        Form::NoValue => Right::NoValue("not allowed without an operator"),
+        Form::NoKey => Right::NoValue(
+            "not allowed unless the operator is copy, increment, delta or tail",
+        ),
         _ => Right::Said(words_of(form)),
     }
 }
@@ -149,9 +153,8 @@ fn words_of(form: Form) -> &'static str {
         Form::Flag => "true or false",
         Form::Fields => "an array of tables",
         Form::Id => "a number of 0 to 4294967295",
-        Form::Kind | Form::Operator | Form::Text => "a text between quotes",
-        Form::NoValue => "nothing, since there is no operator",
-        Form::NoKey => "nothing, since the operator is not copy, increment, delta or tail",
+        Form::Kind | Form::Operator | Form::Text | Form::NoValue | Form::NoKey =>
+            "a text between quotes",
     }
 }
 

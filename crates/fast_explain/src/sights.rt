@@ -19,6 +19,8 @@ struct Hearer {
     template: Option<u32>,
     /// The nodes of the open groups and sequences, the outermost first.
     open: ArrayVec<u32, DEPTH>,
+    /// True if a message has ended.
+    is_past_first: bool,
 }
 
 impl Sink for Hearer {
@@ -29,7 +31,10 @@ impl Sink for Hearer {
     fn take(&mut self, event: Event<'_>) -> Result<(), Stop> {
         match event {
             Event::MessageStart { template } => self.template = Some(template),
-            Event::MessageEnd => self.template = None,
+            Event::MessageEnd => {
+                self.template = None;
+                self.is_past_first = true;
+            }
             Event::GroupStart { node } | Event::SequenceStart { node, .. } => {
                 let _ = self.open.try_push(node);
             }
@@ -124,6 +129,7 @@ impl<'t> Shadow<'t> {
                 hearer: Hearer {
                     template: None,
                     open: ArrayVec::new(),
+                    is_past_first: false,
                 },
                 half: None,
             }),
@@ -234,5 +240,10 @@ impl<'t> Shadow<'t> {
             }
         }
         let _ = put(note, &["\n"]);
+    }
+
+    /// Returns whether no message has ended.
+    pub(crate) fn is_in_first(&self) -> bool {
+        !self.hearer.is_past_first
     }
 }

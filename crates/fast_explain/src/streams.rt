@@ -15,8 +15,8 @@ fn tell_code(code: Option<FaultCode>, note: &mut Note) {
     };
 }
 
-/// Explains the fault of a stream after `consumed` bytes: the sentence of the code, the field of the message, and the bytes there. Without
-/// a code, the stream ends inside a message.
+/// Explains the fault of a stream after `consumed` bytes: the sentence of the code, the field of the message, the bytes there, and in the
+/// first message a hint. Without a code, the stream ends inside a message, and there is no hint.
 pub fn explain_stream<S>(code: Option<FaultCode>, consumed: u64, reader: &Kept<'_, S>) -> Note
     ensures { length result.bytes ≤ NOTE_ROOM }
 {
@@ -24,6 +24,9 @@ pub fn explain_stream<S>(code: Option<FaultCode>, consumed: u64, reader: &Kept<'
     tell_code(code, &mut note);
     reader.tell_place(code, &mut note);
     reader.tell_bytes(consumed, &mut note);
+    if code.is_some() {
+        reader.tell_hint(&mut note);
+    }
     prove!(note.len() <= NOTE_ROOM);
     note
 }

@@ -17,6 +17,11 @@ const KEPT: usize = 8192;
 /// The number of bytes of the stream that are printed before the byte in question, and after it.
 const AROUND: u64 = 8;
 
+/// The hint for a fault in the first message of a stream.
+const HINT: &str = "  hint: many feeds put a preamble or a packet header before the messages;
+  tools/packets/run --skip N removes it from the packets of a capture
+";
+
 /// The hexadecimal digits.
 const DIGITS: &[u8; 16] = b"0123456789ABCDEF";
 
@@ -155,6 +160,15 @@ impl<'t, S> Kept<'t, S> {
     pub fn tell_place(&self, code: Option<FaultCode>, note: &mut Note) {
         if let Some(shadow) = &self.shadow {
             shadow.tell_place(code, note);
+        }
+    }
+
+    /// Writes a hint about a fault in the first message of a stream.
+    pub fn tell_hint(&self, note: &mut Note) {
+        if let Some(shadow) = &self.shadow {
+            if shadow.is_in_first() {
+                let _ = put(note, &[HINT]);
+            }
         }
     }
 

@@ -11,6 +11,19 @@ use std::alloc::{AllocError, Global};
 use std::fmt::Write;
 use toml::{Table, Value};
 
+/// The start of the parser's message for arrays and inline tables that nest too deep.
+const TOO_DEEP: &str = "cannot recurse";
+
+/// The cure for them.
+const REFERENCES: &str =
+    "arrays and tables nest to 80 levels; a field of kind = \"ref\" takes in a template without nesting";
+
+/// The cure for a file in XML.
+const CONVERTER: &str = "this is XML; tools/from_xml/run FILE >feed.toml converts XML templates";
+
+/// The byte order mark of UTF-8.
+const BYTE_ORDER_MARK: [u8; 3] = [0xEF, 0xBB, 0xBF];
+
 /// Returns the templates of a document.
 fn templates_of(document: &Table) -> &[Value] {
     let Some(value) = value_at(document, "template") else {
@@ -62,10 +75,23 @@ fn tell_read(
                 let bytes = text.as_bytes();
                 tell_place(note, &bytes[..span.start.min(bytes.len())]);
                 let _ = put(note, &["  ", error.message(), "\n"]);
+                if error.message().starts_with(TOO_DEEP) {
+                    let _ = put(note, &["  ", REFERENCES, "\n"]);
+                }
             }
             Ok(())
         }
     }
+}
+
+/// Returns whether a file begins as XML does and TOML does not: with `<`, after blanks and a byte order mark, if there are any.
+fn is_xml(bytes: &[u8]) -> bool {
+    let text = if bytes.starts_with(&BYTE_ORDER_MARK) {
+        &bytes[BYTE_ORDER_MARK.len()..]
+    } else {
+        bytes
+    };
+    matches!(text.trim_ascii_start().first(), Some(b'<'))
 }
 
 /// Writes the position of a fault in a file.
@@ -75,6 +101,10 @@ fn tell_text(
     fault: StaticFault,
     note: &mut Note,
 ) -> Result<(), AllocError> {
+    if is_xml(bytes) {
+        let _ = put(note, &["  ", CONVERTER, "\n"]);
+        return Ok(());
+    }
     match str::from_utf8(bytes) {
         Ok(text) => tell_read(alloc, text, fault, note),
         Err(error) => {

@@ -54,11 +54,11 @@ fn initial_of(kind: Kind) -> &'static str {
     match kind {
         Kind::UInt32 => "1 to 20 digits, for a number of 0 to 4294967295",
         Kind::Int32 =>
-            "1 to 20 digits, perhaps behind a -, for a number of -2147483648 to 2147483647",
+            "1 to 20 digits, perhaps after a -, for a number of -2147483648 to 2147483647",
         Kind::UInt64 => "1 to 20 digits, for a number of 0 to 18446744073709551615",
         Kind::Int64 =>
-            "1 to 20 digits, perhaps behind a -, for a number of -9223372036854775808 to 9223372036854775807",
-        Kind::Decimal => "an int64 in digits, and perhaps e and an exponent of -63 to 63 behind it",
+            "1 to 20 digits, perhaps after a -, for a number of -9223372036854775808 to 9223372036854775807",
+        Kind::Decimal => "an int64 in digits, and perhaps e and an exponent of -63 to 63 after it",
         Kind::Ascii => "characters below U+0080",
         Kind::Unicode => "a text",
         Kind::Bytes => "hexadecimal digits in pairs",
@@ -87,7 +87,7 @@ fn right_default(used: Use<'_>) -> &'static str {
 /// Returns the phrase for the form of an initial value of a use.
 fn right_initial(used: Use<'_>) -> &'static str {
     match used.part {
-        Part::Exponent => "1 to 20 digits, perhaps behind a -, for a number of -63 to 63",
+        Part::Exponent => "1 to 20 digits, perhaps after a -, for a number of -63 to 63",
         _ => initial_of(used.kind),
     }
 }
@@ -105,9 +105,7 @@ fn other_initial(alloc: Global, used: Use<'_>, text: &str, code: StaticCode) -> 
 /// Returns what would be valid for a missing initial value, if the code is about that.
 fn missing_initial(used: Use<'_>, operator: &str, code: StaticCode) -> Option<Right> {
     match code {
-        StaticCode::S4 if operator == "constant" => Some(Right::Said(
-            "the value that the constant has",
-        )),
+        StaticCode::S4 if operator == "constant" => Some(Right::Said("the value of the constant")),
         StaticCode::S5 if operator == "default" && !used.optional => Some(Right::Said(right_default(
             used,
         ))),

@@ -17,6 +17,8 @@ pub enum Task {
     Show,
     /// Converts lines to a stream.
     Convert,
+    /// Lists the codes of faults and refusals. The rest of the plan has no meaning.
+    Codes,
 }
 
 /// The plan of a call: its subcommand, paths and options.
@@ -34,8 +36,22 @@ pub struct Plan<'a> {
     pub strict: bool,
     /// True if `check` lists the templates and nodes of the set.
     pub list: bool,
+    /// True if `show` shows the offset and the bytes before each line.
+    pub bytes: bool,
+    /// True if `show` shows each message as a line of JSON.
+    pub json: bool,
+    /// The number of the first message that `show` shows; messages are counted from 0.
+    pub from: u32,
+    /// The greatest number of messages that `show` shows; `None` for all.
+    pub limit: Option<u32>,
+    /// The templates whose messages `show` shows, by name or identifier, separated by commas; `None` for all.
+    pub only: Option<&'a str>,
+    /// When `show` colors its lines, as given; `None` if not given.
+    pub color: Option<&'a str>,
     /// True if a failure is explained.
     pub explain: bool,
+    /// True if no failure is explained.
+    pub no_explain: bool,
     /// The greatest length of a string in bytes.
     pub max_text: u32,
     /// The greatest number of elements of a sequence.

@@ -7,7 +7,7 @@ ghost use Rattle.clap.specs.Faults.{fault_of};
 ghost use Rattle.clap.specs.Kinds.{FailsBy};
 ghost use Rattle.clap.specs.Matches.{found_of};
 ghost use Rattle.fast_usage.specs.meaning.Commands.{fastcat_app};
-ghost use Rattle.fast_words.specs.meaning.Words.{task_named, IsPlanOf, IsNumberAt};
+ghost use Rattle.fast_words.specs.meaning.Words.{task_named, IsPlanOf, IsNumberAt, IsNumberIfAt};
 
 use crate::plans::{BUILT_IN, Plan, Task};
 use clap::{ArgMatches, Error};
@@ -23,6 +23,8 @@ fn task_named(name: &str) -> Task
         Task::Check
     } else if name == "convert" {
         Task::Convert
+    } else if name == "codes" {
+        Task::Codes
     } else {
         Task::Show
     }
@@ -33,6 +35,13 @@ fn number_or(matches: &ArgMatches<'_>, name: &str, otherwise: u32) -> u32
     ensures { IsNumberAt name.now (rows_of (found_of matches.now)) otherwise result }
 {
     matches.get_one::<u32>(name).unwrap_or(otherwise)
+}
+
+/// Returns the number of an option, if it was given.
+fn number_if(matches: &ArgMatches<'_>, name: &str) -> Option<u32>
+    ensures { IsNumberIfAt name.now (rows_of (found_of matches.now)) result }
+{
+    matches.get_one::<u32>(name)
 }
 
 /// Returns the plan of a subcommand with its matches.
@@ -47,7 +56,14 @@ fn plan_of<'a>(name: &str, matches: &ArgMatches<'a>) -> Plan<'a>
         hex: matches.get_flag("hex"),
         strict: matches.get_flag("strict"),
         list: matches.get_flag("list"),
+        bytes: matches.get_flag("bytes"),
+        json: matches.get_flag("json"),
+        from: number_or(matches, "from", 0),
+        limit: number_if(matches, "limit"),
+        only: matches.get_str("only"),
+        color: matches.get_str("color"),
         explain: matches.get_flag("explain"),
+        no_explain: matches.get_flag("no-explain"),
         max_text: number_or(matches, "max-text", limits.max_text as u32),
         max_elements: number_or(matches, "max-elements", limits.max_elements),
         max_total: number_or(matches, "max-total", limits.max_total),

@@ -68,7 +68,7 @@ static OF_MESSAGES: [EncodeFault; 5] = [
 /// Returns the list of all codes, a line for each, with its sentence.
 pub(crate) fn all_codes() -> Note {
     let mut note = Note::new();
-    let _ = writeln!(note, "\nCodes of template texts:");
+    let _ = writeln!(note, "Codes of template texts:");
     for code in &OF_TEMPLATES {
         let _ = writeln!(note, "  {}  {code}", code.name());
     }

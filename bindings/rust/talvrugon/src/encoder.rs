@@ -1,5 +1,6 @@
 use crate::error::{expect, Error};
 use crate::event::{record_of, Event};
+use crate::message::{EncodeError, Message};
 use crate::set::{Limits, Set};
 use std::ptr::{null_mut, NonNull};
 use talvrugon_sys::{Handle, Put, Record};
@@ -25,7 +26,7 @@ impl Records {
 pub struct Encoder {
     at: NonNull<talvrugon_sys::Encoder>,
     // Borrowed by `at`, so dropped after it.
-    _set: Set,
+    set: Set,
 }
 
 impl Encoder {
@@ -40,7 +41,7 @@ impl Encoder {
         expect(unsafe {
             talvrugon_sys::fast_encoder_open(set.handle(), limits.max_text, limits.max_elements, limits.max_total, &mut at)
         })?;
-        Ok(Encoder { at: NonNull::new(at).expect("an encoder was made"), _set: set.clone() })
+        Ok(Encoder { at: NonNull::new(at).expect("an encoder was made"), set: set.clone() })
     }
 
     /// Encodes one message, from its start to its end, and appends its bytes to `out`. The message is read only during the call. On an
@@ -75,6 +76,18 @@ impl Encoder {
         // SAFETY: the encoder is open, and no other call uses it.
         unsafe { talvrugon_sys::fast_encoder_take(Handle(back), &mut back, room.as_mut_ptr(), room.len()) };
         Ok(())
+    }
+
+    /// Encodes one message by name, and appends its bytes to `out`. Each mandatory field needs a value, constants too. The fields may be in any
+    /// order, and integers signed or unsigned. On an error, the encoder and `out` are unchanged.
+    ///
+    /// # Errors
+    ///
+    /// [`EncodeError::Invalid`] if the message does not suit its template, with the path of the field and what is expected; otherwise those of
+    /// [`Encoder::encode`].
+    pub fn encode_message(&mut self, message: &Message, out: &mut Vec<u8>) -> Result<(), EncodeError> {
+        let records = self.set.forms().records(message)?;
+        Ok(self.encode(&records, out)?)
     }
 
     /// Resets the encoder to the state in which it was made. The reader's decoder must be reset at the same point of the stream.

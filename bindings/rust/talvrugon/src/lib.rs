@@ -10,6 +10,17 @@
 //! # Ok::<(), talvrugon::Error>(())
 //! ```
 //!
+//! [`MessageDecoder`] makes a [`Message`] of each message, whose fields are found by name:
+//!
+//! ```no_run
+//! # let set = talvrugon::Set::read("")?;
+//! use talvrugon::{Limits, MessageDecoder};
+//!
+//! let mut decoder = MessageDecoder::new(&set, Limits::default())?;
+//! decoder.feed(b"..", |book| println!("{:?}", book["MDEntries"][0]["MDEntryPx"].as_decimal()))?;
+//! # Ok::<(), talvrugon::Error>(())
+//! ```
+//!
 //! The library is proved; this crate is not. Its `unsafe` is in calls of `talvrugon-sys`, and in `Send` and `Sync`, each with the reason
 //! why it is sound. Threads may share a [`Set`]; a [`Decoder`] or an [`Encoder`] may move between threads.
 
@@ -17,6 +28,9 @@ mod decoder;
 mod encoder;
 mod error;
 mod event;
+mod forms;
+pub mod message;
+mod messages;
 mod query;
 mod set;
 
@@ -24,5 +38,7 @@ pub use decoder::{Decoder, InHand, Room, Start};
 pub use encoder::{Encoder, Records};
 pub use error::Error;
 pub use event::{Event, Value};
+pub use message::{EncodeError, Message};
+pub use messages::MessageDecoder;
 pub use query::{Node, Operator, Template, Type, Use};
 pub use set::{Limits, Set};

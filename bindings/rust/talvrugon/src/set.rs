@@ -1,6 +1,7 @@
 use crate::error::{expect, Error};
+use crate::forms::Forms;
 use std::ptr::{null_mut, NonNull};
-use std::sync::Arc;
+use std::sync::{Arc, OnceLock};
 use talvrugon_sys::Handle;
 
 /// The limits of a decoder or an encoder.
@@ -24,7 +25,7 @@ impl Default for Limits {
 
 /// A template set, which threads may share. Clones share one set, which is closed with the last of them and of the decoders and encoders made from it.
 #[derive(Clone, Debug)]
-pub struct Set(Arc<Owned>);
+pub struct Set(Arc<Owned>, Arc<OnceLock<Arc<Forms>>>);
 
 #[derive(Debug)]
 struct Owned(NonNull<talvrugon_sys::Set>);
@@ -50,11 +51,16 @@ impl Set {
         let mut set = null_mut();
         // SAFETY: a slice, and a pointer that is valid for a write.
         expect(unsafe { talvrugon_sys::fast_set_read(text.as_ptr(), text.len(), &mut set) })?;
-        Ok(Set(Arc::new(Owned(NonNull::new(set).expect("a set was made")))))
+        Ok(Set(Arc::new(Owned(NonNull::new(set).expect("a set was made"))), Arc::default()))
     }
 
     pub(crate) fn handle(&self) -> Handle<talvrugon_sys::Set> {
         Handle(self.0 .0.as_ptr())
+    }
+
+    /// Returns the form of its messages, which is made at the first call.
+    pub(crate) fn forms(&self) -> Arc<Forms> {
+        self.1.get_or_init(|| Arc::new(Forms::new(self))).clone()
     }
 
     /// Returns the number of templates.

@@ -1,5 +1,6 @@
 //! Tests of the commands over readers and writers.
 
+mod bytes;
 mod check;
 mod devices;
 mod faults;

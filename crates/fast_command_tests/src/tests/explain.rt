@@ -1,4 +1,5 @@
-//! Tests of the explanations of template files and streams.
+//! Tests of the explanations of template files, streams and lines.
 
+mod lines;
 mod streams;
 mod templates;

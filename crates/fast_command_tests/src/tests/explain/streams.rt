@@ -139,6 +139,8 @@ fn faults_are_told_with_the_bytes_around(rt: HostRuntime) {
     let wanted = "  an integer lies outside its type, or has ten bytes and no stop bit
   template \"T\", field 0 \"a\"
   offset 0x6: E0 81 10 00 00 00 [80] 01 02 03 04 05 06 07 08
+  hint: many feeds put a preamble or a packet header before the messages;
+  tools/packets/run --skip N removes it from the packets of a capture
 ";
     expect(&rt, note.as_str() == wanted, note.as_str(), wanted.len());
 }

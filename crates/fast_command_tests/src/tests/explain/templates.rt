@@ -14,19 +14,19 @@ const ROWS: &[(&str, &str)] = &[
 "),
     ("[[templates]]\n", "  the text is not TOML, or not of the form of a template set
   key \"templates\"
-  no such key: one of template
+  no such key: expected one of template
 "),
     ("[[template]]\nname = \"T\"\nfields = [{ kind = \"uInt32\", name = \"size\", op = \"copyy\" }]\n", "  the text is not TOML, or not of the form of a template set
   template \"T\", field 0 \"size\", key \"op\"
-  \"copyy\": one of none, constant, default, copy, increment, delta, tail
+  \"copyy\": expected one of none, constant, default, copy, increment, delta, tail
 "),
     ("[[template]]\nname = \"T\"\nfields = [{ kind = \"uInt32\", name = \"size\", op = \"tail\" }]\n", "  the operator does not suit the type
   template \"T\", field 0 \"size\", key \"op\"
-  \"tail\": one of none, constant, default, copy, increment, delta
+  \"tail\": expected one of none, constant, default, copy, increment, delta
 "),
     ("[[template]]\nname = \"T\"\nfields = [{ kind = \"ref\", name = \"U\" }]\n", "  a reference names no template
   template \"T\", field 0 \"U\", key \"name\"
-  \"U\": the name of a template of this text
+  \"U\": expected the name of a template of this text
 "),
     ("[[template]]\nname = \"T\"\n[[template]]\nname = \"T\"\n", "  an earlier template has the name
   template \"T\", key \"name\"

@@ -1,0 +1,2 @@
+pub mod meaning
+pub mod device

@@ -1,0 +1,2 @@
+-- What is meant: the contracts of public functions rest on these definitions.
+pub mod Reading

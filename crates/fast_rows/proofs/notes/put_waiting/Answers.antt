@@ -1,0 +1,5 @@
+use Rattle.fast_text.proofs.Writing.{writes_both}
+use Rattle.fast_rows.proofs.notes.put_waiting.Goals as goal
+
+pub returns : goal.returns
+returns g c = writes_both c.put.ensures c.put_part.ensures

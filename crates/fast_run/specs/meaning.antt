@@ -1,0 +1,3 @@
+-- What is meant: the contracts of public functions rest on these definitions.
+pub mod Outputs
+pub mod Runs

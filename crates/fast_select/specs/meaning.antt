@@ -1,0 +1,5 @@
+-- What is meant: the contracts of public functions rest on these definitions.
+pub mod Choosing
+pub mod Selecting
+pub mod Naming
+pub mod Messages
