@@ -1,5 +1,6 @@
 -- From the rows that are written to what a page has written.
-use Rattle.std.proofs.Common.{◌≡◌, ◌∙◌, ℕ, ◌+◌, Bool, List, [], ◌∷◌, ◌++◌, Option, Result, Ok, Err, OnOk, ap, sym, refl, length, length-append, append-nil, append_assoc, zero-add}
+use Rattle.std.proofs.Common.{◌≡◌, ◌∙◌, ℕ, ◌+◌, Bool, List, [], ◌∷◌, ◌++◌, Option, Result, Ok, Err, OnOk, OnErr, ap, sym, refl, length, length-append, append-nil, append_assoc, zero-add}
+use Rattle.std.specs.Prelude.{IsTrue}
 use Rattle.fast_tree.specs.meaning.Tree.{Tree}
 use Rattle.fast_template.specs.meaning.Flat.{tree_of}
 use Rattle.fast_stream.specs.meaning.Events.{EventData}
@@ -140,8 +141,20 @@ page_stays written failed held had t old new b ls h none same bytes set fronts =
   place_is = ap place bytes ∙ h.place_is;
 }
 
--- so it is after a flush
+-- so it is after a flush, or the target has failed
 pub flush_keeps : {T : Type 0} (written : T → Option (List ℕ)) (failed : T → Bool) (old new : Page T) (r : Result (Unit {0}) Failed)
-    → Appends (written old.target) (written new.target) [] → OnOk r (failed new.target ≡ failed old.target) → new.kept ≡ old.kept → new.templates ≡ old.templates → new.fronts ≡ old.fronts → OnOk r (Keeps written failed old new r)
-flush_keeps written failed old new (Ok x) none same bytes set fronts = λ held had t b ls h. page_stays written failed held had t old new b ls h none same bytes set fronts
-flush_keeps written failed old new (Err e) none same bytes set fronts = tt
+    → Appends (written old.target) (written new.target) [] → OnOk r (failed new.target ≡ failed old.target) → OnErr r (IsTrue (failed new.target)) → new.kept ≡ old.kept → new.templates ≡ old.templates → new.fronts ≡ old.fronts → Keeps written failed old new r
+flush_keeps written failed old new (Ok x) none same fails bytes set fronts = λ held had t b ls h. page_stays written failed held had t old new b ls h none same bytes set fronts
+flush_keeps written failed old new (Err e) none same fails bytes set fronts = λ held had t b ls h. record {
+  before = h.before;
+  rest = kept old.kept;
+  why = e;
+  rows = record {
+    rows = h.rows.rows;
+    bytes_are = h.rows.bytes_are;
+    lines_are = h.rows.lines_are;
+    written = is_same (append-nil (rows_text t 0 h.rows.rows))
+        (is_both held (written old.target) (written new.target) had (failed old.target) (failed new.target) (rows_text t 0 h.rows.rows) [] (Err e) h.rows.written (record { whole = tt; part = (record { front = []; rest = []; is = refl; added = none }, fails) }));
+  };
+  bytes_are = h.bytes_are;
+}

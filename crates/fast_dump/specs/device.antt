@@ -1,2 +1,2 @@
 -- Devices of contracts within the crates and of proofs: invariants, models of state, relations in between.
-pub mod Taken
+pub mod Progress

@@ -1,7 +1,19 @@
 //! The command `show --bytes`.
 
-ghost use Rattle.std.specs.Prelude.{◌≡◌, ◌+◌, ◌<◌, ◌≤◌, ◌^◌, length};
-ghost use Rattle.fast_dump.specs.device.Taken.{taken};
+ghost use Rattle.std.specs.Prelude.{◌≡◌, ◌⊎◌, ℕ, ◌+◌, ◌<◌, ◌≤◌, ◌^◌, List, [], ◌∷◌, ◌++◌, Result, Ok, IfErr, IsTrue, OnOk, OnErr, length, is_some};
+ghost use Rattle.std.specs.Io.KnownBytes.{IsAtEnd};
+ghost use Rattle.fast_value.specs.declared.settings.Limits.{Limits};
+ghost use Rattle.fast_tree.specs.meaning.Tree.{Tree};
+ghost use Rattle.fast_template.specs.meaning.Flat.{tree_of};
+ghost use Rattle.fast_stream.specs.meaning.Events.{EventData};
+ghost use Rattle.fast_decoder.specs.meaning.Decoding.{tree};
+ghost use Rattle.fast_text.specs.declared.streams.Failed.{Failed};
+ghost use Rattle.fast_text.specs.meaning.Streams.{Reads};
+ghost use Rattle.fast_rows.specs.meaning.Written.{AreWritten};
+ghost use Rattle.fast_command.specs.meaning.Showing.{StandsFor, IsRefusal};
+ghost use Rattle.fast_command.specs.device.Progress.{HasRoom, IsTaken};
+ghost use Rattle.fast_dump.specs.meaning.Dumping.{IsDumped};
+ghost use Rattle.fast_dump.specs.device.Progress.{Start, Progress, Rows, Goes, IsStopped, IsFinished, ClosesAt, start_at};
 
 use crate::kept_bytes::KeptBytes;
 use crate::page::Page;
@@ -9,8 +21,9 @@ use fast_command::show::refusal;
 use fast_command::unhexer::Unhexer;
 use fast_command::{RunFault, ShowEnd};
 use fast_decoder::{Decoder, Due, Fault, FaultCode};
+use fast_run::digits::{bad_character, bad_end, bytes_of, unhexer_of};
 use fast_template::Templates;
-use fast_text::{Fronts, Source, Target};
+use fast_text::{Failed, Fronts, Source, Target};
 use fast_value::Limits;
 use std::alloc::Global;
 
@@ -19,13 +32,6 @@ const READ_SIZE: usize = 4096;
 
 /// The room for the bytes of an instruction besides those of its string.
 const MORE_ROOM: usize = 64;
-
-/// Returns the converter of a hexadecimal input, or `None` for a binary one.
-fn unhexer_of(hex: bool) -> Option<Unhexer>
-    ensures { taken result ≡ 0 }
-{
-    if hex { Some(Unhexer::new()) } else { None }
-}
 
 /// A run that shows a stream with its bytes.
 #[derive(Drop)]
@@ -36,14 +42,16 @@ struct Dump<'a, T> {
 
 impl<T: Target> Dump<'_, T> {
     /// Reads a byte of the stream, and writes the rows that it completes. Returns how the run ends, if it ends here.
-    fn push(&mut self, byte: u8) -> Option<Result<ShowEnd, RunFault>> {
+    fn push(&mut self, byte: u8) -> Option<Result<ShowEnd, RunFault>>
+        ensures { (first : Start) (t : Tree) (l : Limits) (b : List ℕ) (es : List EventData)
+            → Progress T.written T.has_failed first t l self.old b es → length b + 1 < 2 ^ 64
+            → Goes T.written T.has_failed first t l (b ++ byte ∷ []) es self.new result }
+    {
         let before = self.decoder.in_hand();
-        if self
-            .page
-            .keep(byte, self.decoder.between(), before)
-            .is_err()
-        {
-            return Some(Err(RunFault::Write));
+        let between = self.decoder.between();
+        match self.page.keep(byte, between, before) {
+            Ok(()) => {}
+            Err(_) => return Some(Err(RunFault::Write)),
         }
         let fed = self.decoder.push(byte, &mut self.page);
         let due = self.decoder.in_hand();
@@ -52,12 +60,15 @@ impl<T: Target> Dump<'_, T> {
                 Ok(()) => None,
                 Err(_) => Some(Err(RunFault::Write)),
             },
-            Err(fault) => Some(self.fault(fault, before, due)),
+            Err(fault) => Some(self.close(fault, before, due)),
         }
     }
 
-    /// Writes the rows of a fault.
-    fn fault(&mut self, fault: Fault, before: Due, due: Due) -> Result<ShowEnd, RunFault> {
+    /// Writes the rows of a fault, unless it is that of the target. Returns how the run ends.
+    fn close(&mut self, fault: Fault, before: Due, due: Due) -> Result<ShowEnd, RunFault>
+        ensures closes { ClosesAt T.written T.has_failed fault fault.code self.old.page self.new.page result }
+        ensures decoder { self.new.decoder ≡ self.old.decoder }
+    {
         match fault.code {
             FaultCode::SinkStopped => Err(RunFault::Write),
             FaultCode::Stream(_) | FaultCode::L4 => match self.page.fault(fault, before, due) {
@@ -68,105 +79,114 @@ impl<T: Target> Dump<'_, T> {
     }
 
     /// Reads bytes of the stream. Returns how the run ends, if it ends here.
-    fn take_bytes(&mut self, bytes: &[u8]) -> Option<Result<ShowEnd, RunFault>> {
-        for byte in bytes {
-            if let Some(ending) = self.push(*byte) {
+    fn take(&mut self, bytes: &[u8]) -> Option<Result<ShowEnd, RunFault>>
+        ensures { (first : Start) (t : Tree) (l : Limits) (b : List ℕ) (es : List EventData)
+            → Progress T.written T.has_failed first t l self.old b es → length b + length bytes.now < 2 ^ 64
+            → Goes T.written T.has_failed first t l (b ++ bytes.now) es self.new result }
+    {
+        for k in 0..bytes.len() {
+            if let Some(ending) = self.push(bytes[k]) {
                 return Some(ending);
             }
         }
         None
     }
 
-    /// Reads a piece of the input. Returns how the run ends, if it ends here.
-    fn take(
-        &mut self,
-        unhexer: &mut Option<Unhexer>,
-        piece: &[u8],
-    ) -> Option<Result<ShowEnd, RunFault>>
-        requires few { length piece.now ≤ READ_SIZE }
-        requires room { taken unhexer.old + length piece.now < 2 ^ 64 }
-        ensures { taken unhexer.new ≤ taken unhexer.old + length piece.now }
+    /// Writes the rows of the bytes that are left, and returns an ending of the run, or that the target has failed.
+    fn stop(&mut self, ending: Result<ShowEnd, RunFault>) -> Result<ShowEnd, RunFault>
+        ensures { (first : Start) (t : Tree) (l : Limits) (b : List ℕ) (es : List EventData)
+            → Progress T.written T.has_failed first t l self.old b es
+            → IsStopped T.written T.has_failed first t b es self.new.page ending result }
     {
-        match unhexer {
-            None => self.take_bytes(piece),
-            Some(unhexer) => {
-                let mut room = [0; READ_SIZE];
-                let count = unhexer.take(piece, &mut room);
-                if let Some(ending) = self.take_bytes(&room[..count]) {
-                    return Some(ending);
-                }
-                match unhexer.bad_character() {
-                    None => None,
-                    Some(place) => Some(self.stop(RunFault::BadHex(place))),
-                }
-            }
-        }
-    }
-
-    /// Writes the rows of the bytes that are left, and returns the error of the run.
-    fn stop(&mut self, error: RunFault) -> Result<ShowEnd, RunFault> {
-        match self
-            .page
-            .leave(self.decoder.between(), self.decoder.in_hand())
-        {
-            Ok(()) => Err(error),
+        let between = self.decoder.between();
+        let due = self.decoder.in_hand();
+        match self.page.leave(between, due) {
+            Ok(()) => ending,
             Err(_) => Err(RunFault::Write),
         }
     }
 
     /// Returns how the run ends at the end of the input.
-    fn end(&mut self, unhexer: &Option<Unhexer>) -> Result<ShowEnd, RunFault> {
-        if let Some(unhexer) = unhexer {
-            if let Some(place) = unhexer.bad_end() {
-                return self.stop(RunFault::BadHex(place));
-            }
+    fn end(&mut self, unhexer: &Option<Unhexer>) -> Result<ShowEnd, RunFault>
+        ensures { (first : Start) (t : Tree) (l : Limits) (text b : List ℕ) (es : List EventData)
+            → Progress T.written T.has_failed first t l self.old b es → IsTaken unhexer.now text b
+            → IsDumped t l (is_some unhexer.now) (λ _. ⊥) ⊥ (Unit {0}) ⊥
+            (Rows T.written T.has_failed first t self.new.page.target) text result }
+    {
+        if let Some(place) = bad_end(unhexer) {
+            return self.stop(Err(RunFault::BadHex(place)));
         }
-        let between = self.decoder.between();
-        if between {
-            return match self.page.leave(true, self.decoder.in_hand()) {
-                Ok(()) => Ok(ShowEnd::Good),
-                Err(_) => Err(RunFault::Write),
-            };
+        if self.decoder.between() {
+            return self.stop(Ok(ShowEnd::Good));
         }
         let consumed = self.decoder.consumed();
-        match self.page.truncated(consumed, self.decoder.in_hand()) {
+        let due = self.decoder.in_hand();
+        match self.page.truncated(consumed, due) {
             Ok(()) => Ok(ShowEnd::Truncated(consumed)),
             Err(_) => Err(RunFault::Write),
         }
     }
+
+    /// Reads and shows, up to the end of the input or of the run. The target is flushed before each read.
+    fn read<S: Source>(
+        &mut self,
+        unhexer: &mut Option<Unhexer>,
+        max_reads: u64,
+        reader: &mut S,
+    ) -> Result<ShowEnd, RunFault>
+        requires begun { Progress T.written T.has_failed
+            (start_at T.written T.has_failed self.old.page.target) (tree self.old.decoder) self.old.decoder.limits
+            self.old [] [] }
+        requires taken { IsTaken unhexer.old [] [] }
+        requires few { max_reads ≤ 2 ^ 40 }
+        ensures { (text : List ℕ) × Reads (S.left reader.old) (S.left reader.new) text
+            × IsDumped (tree self.old.decoder) self.old.decoder.limits (is_some unhexer.old) (λ _. ⊥) ⊥
+            (IsAtEnd (S.left reader.new)) (IsTrue (S.has_failed reader.new) ⊎ (max_reads ≤ length text))
+            (Rows T.written T.has_failed (start_at T.written T.has_failed self.old.page.target) (tree self.old.decoder)
+            self.new.page.target) text result }
+    {
+        let mut buffer = [0; READ_SIZE];
+        for _read in 0..max_reads {
+            match self.page.flush() {
+                Ok(()) => {}
+                Err(_) => return Err(RunFault::Write),
+            }
+            let count = match reader.read(&mut buffer) {
+                Ok(count) => count,
+                Err(_) => return self.stop(Err(RunFault::Read)),
+            };
+            if count == 0 {
+                return self.end(&*unhexer);
+            }
+            let mut room = [0; READ_SIZE];
+            let bytes = bytes_of(unhexer, &buffer[..count], &mut room);
+            if let Some(ending) = self.take(bytes) {
+                return ending;
+            }
+            if let Some(place) = bad_character(&*unhexer) {
+                return self.stop(Err(RunFault::BadHex(place)));
+            }
+        }
+        self.stop(Err(RunFault::Read))
+    }
 }
 
-/// Reads and shows, up to the end of the input or of the run.
-fn dump_reads<S: Source, T: Target>(
-    dump: &mut Dump<'_, T>,
-    unhexer: &mut Option<Unhexer>,
-    max_reads: u64,
-    reader: &mut S,
-) -> Result<ShowEnd, RunFault>
-    requires few { max_reads ≤ 2 ^ 40 }
-    requires start { taken unhexer.old ≡ 0 }
+/// Flushes the writer after a run, which has failed if that fails.
+fn finish<T: Target>(ending: Result<ShowEnd, RunFault>, writer: &mut T) -> Result<ShowEnd, RunFault>
+    ensures { IsFinished (T.written writer.old) (T.written writer.new) (T.has_failed writer.old)
+        (T.has_failed writer.new) ending result }
 {
-    let mut buffer = [0; READ_SIZE];
-    for _read in 0..max_reads {
-        if dump.page.flush().is_err() {
-            return Err(RunFault::Write);
-        }
-        let count = match reader.read(&mut buffer) {
-            Ok(count) => count,
-            Err(_) => return dump.stop(RunFault::Read),
-        };
-        if count == 0 {
-            return dump.end(&*unhexer);
-        }
-        if let Some(ending) = dump.take(unhexer, &buffer[..count]) {
-            return ending;
-        }
+    match writer.flush() {
+        Ok(()) => ending,
+        Err(_) => Err(RunFault::Write),
     }
-    dump.stop(RunFault::Read)
 }
 
 /// Shows a stream as `show_all` of fast_command does, each line after the offset and the bytes that led to it, and flushes the writer at
-/// the end. Returns how the run ends, and the writer if there was a decoder.
+/// the end. Returns how the run ends, and the writer.
+///
+/// The rows have the bytes that were read, each once and in their order, up to a fault of the stream; their lines are those of `show_all`.
+/// If the writer fails, it has a front of these rows.
 pub fn dump_all<S: Source, T: Target>(
     alloc: Global,
     templates: &Templates,
@@ -177,6 +197,11 @@ pub fn dump_all<S: Source, T: Target>(
     writer: T,
 ) -> (Result<ShowEnd, RunFault>, T)
     requires { max_reads ≤ 2 ^ 40 }
+    ensures { (text : List ℕ) × Reads (S.left reader.old) (S.left reader.new) text
+        × IsDumped (tree_of templates.now) limits hex (IsRefusal templates.now limits) (Unit {0})
+        (IsAtEnd (S.left reader.new)) (IsTrue (S.has_failed reader.new) ⊎ (max_reads ≤ length text))
+        (λ b ls r. AreWritten (tree_of templates.now) 0 b ls (T.written writer) (T.written result.1)
+        (T.has_failed writer) (T.has_failed result.1) r) text result.0 }
 {
     let decoder = match Decoder::new(alloc, templates, limits) {
         Ok(decoder) => decoder,
@@ -191,11 +216,9 @@ pub fn dump_all<S: Source, T: Target>(
     let mut unhexer = unhexer_of(hex);
     let page = Page::new(templates, &fronts, kept, writer);
     let mut dump = Dump { decoder, page };
-    let ending = dump_reads(&mut dump, &mut unhexer, max_reads, reader);
+    let ending = dump.read(&mut unhexer, max_reads, reader);
     let Dump { page, .. } = dump;
     let mut writer = page.into_target();
-    match writer.flush() {
-        Ok(()) => (ending, writer),
-        Err(_) => (Err(RunFault::Write), writer),
-    }
+    let ending = finish(ending, &mut writer);
+    (ending, writer)
 }

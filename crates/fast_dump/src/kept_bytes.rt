@@ -1,6 +1,6 @@
 //! The bytes that have been read and are not in a row yet, with their offset.
 
-ghost use Rattle.std.specs.Prelude.{◌≡◌, ◌+◌, ◌<◌, ◌≤◌, ◌^◌, [], ◌∷◌, ◌++◌, IfOk, IsTrue, length};
+ghost use Rattle.std.specs.Prelude.{◌≡◌, ◌+◌, ◌<◌, ◌≤◌, ◌^◌, [], ◌∷◌, ◌++◌, IfOk, IsTrue, false, length};
 
 use std::alloc::{AllocError, Global};
 
@@ -10,6 +10,7 @@ pub struct KeptBytes {
     cells: Vec<u8>,
     len: usize,
     at: u64,
+    ghost some: { 0 < length cells.items },
     ghost within: { len ≤ length cells.items },
     ghost few: { at + len < 2 ^ 64 },
 }
@@ -19,6 +20,7 @@ impl KeptBytes {
 
     /// Makes an empty buffer with room for this many bytes, at offset 0.
     pub fn new(alloc: Global, room: usize) -> Result<KeptBytes, AllocError>
+        requires { 0 < room }
         ensures { IfOk result (λ k. (kept k ≡ []) × (place k ≡ 0)) }
     {
         Ok(KeptBytes {
@@ -28,11 +30,19 @@ impl KeptBytes {
         })
     }
 
-    /// Returns whether another byte can be kept.
+    /// Returns whether the buffer has room for another byte.
     pub fn has_room(&self) -> bool
-        ensures { IsTrue result → (self.now.len < length self.now.cells.items) × (end self.now + 1 < 2 ^ 64) }
+        ensures room { IsTrue result → self.now.len < length self.now.cells.items }
+        ensures full { result ≡ false → 0 < self.now.len }
     {
-        self.len < self.cells.len() && self.at + (self.len as u64) < u64::MAX
+        self.len < self.cells.len()
+    }
+
+    /// Returns the offset after the last byte.
+    pub fn end(&self) -> u64
+        ensures { result ≡ end self.now }
+    {
+        self.at + self.len as u64
     }
 
     /// Keeps another byte.
@@ -63,6 +73,7 @@ impl KeptBytes {
 
     /// Keeps none of the bytes any more, since they are in a row.
     pub fn clear(&mut self)
+        ensures room { self.new.len ≡ 0 }
         ensures kept { kept self.new ≡ [] }
         ensures place { place self.new ≡ place self.old + length (kept self.old) }
     {

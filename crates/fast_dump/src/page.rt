@@ -1,12 +1,14 @@
 //! A sink that writes a row for each event: an offset, the bytes that led to it, and its line.
 
-ghost use Rattle.std.specs.Prelude.{◌≡◌, [], ◌∷◌, OnOk};
+ghost use Rattle.std.specs.Prelude.{◌≡◌, ℕ, ◌+◌, ◌<◌, ◌^◌, List, [], ◌∷◌, Bool, Option, OnOk, OnErr, length};
+ghost use Rattle.fast_tree.specs.meaning.Tree.{Tree};
 ghost use Rattle.fast_template.specs.meaning.Flat.{tree_of};
 ghost use Rattle.fast_stream.specs.meaning.Handed.{event_data};
 ghost use Rattle.fast_lines.specs.meaning.Values.{HoldsBytes};
 ghost use Rattle.fast_text.specs.meaning.Fronts.{set_of};
 ghost use Rattle.fast_dump.specs.meaning.Kept.{kept, place};
-ghost use Rattle.fast_dump.specs.meaning.Pages.{IsPage, Gains, Keeps, Shows, TakesRow, StopsInRow};
+ghost use Rattle.fast_command.specs.meaning.Closing.{fault_line, truncated_line};
+ghost use Rattle.fast_dump.specs.meaning.Pages.{IsPage, IsTorn, Gains, Keeps, Shows, Closes, TakesRow, StopsInRow};
 
 use crate::kept_bytes::KeptBytes;
 use crate::tracks::Track;
@@ -40,7 +42,8 @@ impl<'a, T: Target> Page<'a, T> {
         target: T,
     ) -> Page<'a, T>
         requires { (kept empty ≡ []) × (place empty ≡ 0) }
-        ensures { tree_of (set_of fronts.entry.now).now ≡ tree_of templates.entry.now
+        ensures target { result.target ≡ target }
+        ensures page { tree_of (set_of fronts.entry.now).now ≡ tree_of templates.entry.now
             → IsPage T.written T.has_failed (T.written target) (T.has_failed target)
             (tree_of templates.entry.now) result [] [] }
     {
@@ -57,7 +60,7 @@ impl<'a, T: Target> Page<'a, T> {
 
     /// Flushes the target.
     pub fn flush(&mut self) -> Result<(), Failed>
-        ensures { OnOk result (Keeps T.written T.has_failed self.old self.new result) }
+        ensures { Keeps T.written T.has_failed self.old self.new result }
     {
         self.target.flush()
     }
@@ -71,7 +74,8 @@ impl<'a, T: Target> Page<'a, T> {
 
     /// Writes the row of the part that is waited for if the buffer is full.
     fn make_room(&mut self, due: Due) -> Result<(), Failed>
-        ensures { Keeps T.written T.has_failed self.old self.new result }
+        ensures room { OnOk result (self.new.kept.len < length self.new.kept.cells.items) }
+        ensures rows { Keeps T.written T.has_failed self.old self.new result }
     {
         if self.kept.has_room() {
             return Ok(());
@@ -82,10 +86,13 @@ impl<'a, T: Target> Page<'a, T> {
     /// Keeps the next byte of the stream, before a decoder reads it that is between two messages, or waits for a part. Fails if the target
     /// does, or if the offsets are at an end.
     pub fn keep(&mut self, byte: u8, between: bool, due: Due) -> Result<(), Failed>
-        ensures { OnOk result (Gains T.written T.has_failed self.old (byte ∷ []) self.new result) }
+        ensures gains { OnOk result (Gains T.written T.has_failed self.old (byte ∷ []) self.new result) }
+        ensures torn { (held : Option (List ℕ)) (had_failed : Bool) (t : Tree) (b ls : List ℕ)
+            → IsPage T.written T.has_failed held had_failed t self.old b ls → length b + 1 < 2 ^ 64
+            → OnErr result (IsTorn T.written T.has_failed held had_failed t self.new b ls) }
     {
         self.make_room(due)?;
-        if !self.kept.has_room() {
+        if self.kept.end() == u64::MAX {
             return Err(Failed);
         }
         self.in_map = self.in_map || between || due == Due::SegmentMap;
@@ -107,7 +114,7 @@ impl<'a, T: Target> Page<'a, T> {
 
     /// Writes the rows of a note, with the bytes that are kept.
     fn note(&mut self, note: Note) -> Result<(), Failed>
-        ensures empty { OnOk result (kept self.new.kept ≡ []) }
+        ensures empty { OnOk result (self.new.kept.len ≡ 0) }
         ensures rows { Keeps T.written T.has_failed self.old self.new result }
     {
         write_note(
@@ -228,7 +235,7 @@ impl<'a, T: Target> Page<'a, T> {
 
     /// Writes the row of the part that is waited for, with the bytes that are kept.
     fn wait(&mut self, due: Due) -> Result<(), Failed>
-        ensures empty { OnOk result (kept self.new.kept ≡ []) }
+        ensures empty { OnOk result (self.new.kept.len ≡ 0) }
         ensures rows { Keeps T.written T.has_failed self.old self.new result }
     {
         let part = self.part(due);
@@ -237,7 +244,8 @@ impl<'a, T: Target> Page<'a, T> {
 
     /// Writes the row of the part that is waited for, unless the stream is between two messages and no bytes are kept.
     pub fn leave(&mut self, between: bool, due: Due) -> Result<(), Failed>
-        ensures { Keeps T.written T.has_failed self.old self.new result }
+        ensures empty { OnOk result (kept self.new.kept ≡ []) }
+        ensures rows { Keeps T.written T.has_failed self.old self.new result }
     {
         if between && self.kept.bytes().is_empty() {
             return Ok(());
@@ -265,14 +273,18 @@ impl<'a, T: Target> Page<'a, T> {
     }
 
     /// Writes the rows of the bytes that are left at a fault, and its line. `before` was waited for before the last byte, `due` is now.
-    pub fn fault(&mut self, fault: Fault, before: Due, due: Due) -> Result<(), Failed> {
+    pub fn fault(&mut self, fault: Fault, before: Due, due: Due) -> Result<(), Failed>
+        ensures { Closes T.written T.has_failed self.old (fault_line fault.code fault.place) self.new result }
+    {
         self.rest(before, due)?;
         write_closing_columns(&mut self.target, self.kept.place())?;
         write_fault(fault, &mut self.target)
     }
 
     /// Writes the row of the part that is waited for, and the line of a stream that is truncated.
-    pub fn truncated(&mut self, consumed: u64, due: Due) -> Result<(), Failed> {
+    pub fn truncated(&mut self, consumed: u64, due: Due) -> Result<(), Failed>
+        ensures { Closes T.written T.has_failed self.old (truncated_line consumed) self.new result }
+    {
         self.wait(due)?;
         write_closing_columns(&mut self.target, self.kept.place())?;
         write_truncated(consumed, &mut self.target)

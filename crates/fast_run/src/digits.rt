@@ -8,7 +8,7 @@ ghost use Rattle.fast_command.specs.device.Progress.{HasRoom, IsTaken, IsBadPlac
 use fast_command::unhexer::Unhexer;
 
 /// Returns the converter of a hexadecimal input, or `None` for a binary one.
-pub(crate) fn unhexer_of(hex: bool) -> Option<Unhexer>
+pub fn unhexer_of(hex: bool) -> Option<Unhexer>
     ensures there { is_some result ≡ hex }
     ensures taken { IsTaken result [] [] }
 {
@@ -16,11 +16,7 @@ pub(crate) fn unhexer_of(hex: bool) -> Option<Unhexer>
 }
 
 /// Returns the bytes of a piece of the input: those of its digits, or the piece itself if the input is not hexadecimal.
-pub(crate) fn bytes_of<'b>(
-    unhexer: &mut Option<Unhexer>,
-    piece: &'b [u8],
-    room: &'b mut [u8],
-) -> &'b [u8]
+pub fn bytes_of<'b>(unhexer: &mut Option<Unhexer>, piece: &'b [u8], room: &'b mut [u8]) -> &'b [u8]
     requires counted { HasRoom unhexer.old (length piece.now) }
     requires room { length piece.now ≤ length room.old }
     ensures taken { (text b : List ℕ) → IsTaken unhexer.old text b
@@ -38,7 +34,7 @@ pub(crate) fn bytes_of<'b>(
 }
 
 /// Returns the offset of the first invalid character of a hexadecimal input, if there was one.
-pub(crate) fn bad_character(unhexer: &Option<Unhexer>) -> Option<u64>
+pub fn bad_character(unhexer: &Option<Unhexer>) -> Option<u64>
     ensures found { IfSome result (IsBadPlace unhexer.now) }
     ensures none { IfNone result
         ((text b : List ℕ) → IsTrue (is_some unhexer.now) → IsTaken unhexer.now text b → All IsHexOrBlank text) }
@@ -50,7 +46,7 @@ pub(crate) fn bad_character(unhexer: &Option<Unhexer>) -> Option<u64>
 }
 
 /// Returns the first invalid offset of a hexadecimal input that ends here, if there is one.
-pub(crate) fn bad_end(unhexer: &Option<Unhexer>) -> Option<u64>
+pub fn bad_end(unhexer: &Option<Unhexer>) -> Option<u64>
     ensures { (text b : List ℕ) → IsTaken unhexer.now text b → StandsFor (is_some unhexer.now) text b result }
 {
     match unhexer {

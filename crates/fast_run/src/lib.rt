@@ -1,7 +1,7 @@
 //! A run that shows the chosen messages of a stream by a sink that writes them.
 #![tactic(auto)]
 
-mod digits;
+pub mod digits;
 pub mod outputs;
 pub mod runs;
 

@@ -52,3 +52,7 @@ TakesRow written failed old e new = Shows written failed old e new (Ok tt) × Ho
 
 abbrev pub StopsInRow : {T : Type 0} → (T → Option (List ℕ)) → (T → Bool) → Page T → EventData → Page T → Type 0
 StopsInRow written failed old e new = (held : Option (List ℕ)) (had_failed : Bool) (t : Tree) (b ls : List ℕ) → IsPage written failed held had_failed t old b ls → IsTorn written failed held had_failed t new b (ls ++ (line_of t e ++ 0x0A ∷ []))
+
+-- All rows were written, and one without bytes that closes the stream, or a front of them.
+abbrev pub Closes : {T : Type 0} → (T → Option (List ℕ)) → (T → Bool) → Page T → List ℕ → Page T → Result (Unit {0}) Failed → Type 0
+Closes written failed old line new r = (held : Option (List ℕ)) (had_failed : Bool) (t : Tree) (b ls : List ℕ) → IsPage written failed held had_failed t old b ls → AreWritten t 0 b (ls ++ line) held (written new.target) had_failed (failed new.target) r

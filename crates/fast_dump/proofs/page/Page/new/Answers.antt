@@ -1,10 +1,10 @@
-use Rattle.std.proofs.Common.{◌≡◌, [], refl}
+use Rattle.std.proofs.Common.{[], refl}
 use Rattle.fast_template.specs.meaning.Flat.{tree_of}
 use Rattle.fast_rows.proofs.InRows.{are_none}
 use Rattle.fast_dump.proofs.page.Page.new.Goals as goal
 
-pub returns : goal.returns
-returns g c same = record {
+pub returns-clause-page : goal.returns-clause-page
+returns-clause-page g c same = record {
   names = refl;
   front_names = same;
   before = [];

@@ -1,4 +1,4 @@
-use Rattle.std.proofs.Common.{◌≡◌, ◌∙◌, refl, rules}
+use Rattle.std.proofs.Common.{refl}
 use Rattle.std.proofs.lemmas.Result.{err_from_is_err_and}
 use Rattle.fast_dump.proofs.Paging.{page_aside, torn_aside}
 use Rattle.fast_dump.proofs.page.Page.note.Goals as goal

@@ -1,4 +1,4 @@
-use Rattle.std.proofs.Common.{◌≡◌, ◌∙◌, refl, rules, Ok}
+use Rattle.std.proofs.Common.{refl}
 use Rattle.std.proofs.lemmas.Result.{err_from_is_err_and}
 use Rattle.fast_dump.proofs.Paging.{torn_more, page_same}
 use Rattle.fast_dump.proofs.page.Page.show.Goals as goal
