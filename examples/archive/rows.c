@@ -35,8 +35,8 @@ typedef struct {
 
 static uint64_t number_at(const uint8_t *at, uint32_t size, bool is_little) {
     uint64_t number = 0;
-    for (uint32_t i = 0; i < size; i++) number = number << 8 | at[is_little ? size - 1 - i : i];
-    return number;
+    memcpy(&number, at, size);
+    return is_little ? number : __builtin_bswap64(number) >> ((64 - 8 * size) & 63);
 }
 
 // Finds the UDP payload of an Ethernet frame of IPv4, with or without VLAN tags. Returns false if there is none to the port.
@@ -93,25 +93,25 @@ void cut_packets(const uint8_t *file, uint64_t len, const form *of, packet *pack
 
 // Where the value of a node goes, in the row of the message or element that it is in. It is put by two stores, whatever its type: eight bytes
 // at `at`, and a decimal's exponent and the flag that it is present at `after`. They may go beyond its columns, with zeros. That is harmless:
-// fields come in the order of their columns, so what comes after is still zero, be it in this row or in the next one.
+// fields come in the order of their columns, and a row is set to zero when it is added.
 typedef struct {
     uint64_t mask;  // the bits of the value that are kept
     uint32_t at, after;
-    uint32_t width;     // of a string, in bytes
-    uint32_t flag;      // 1, or 1 << 8 after an exponent, if the node has a flag, else 0
-    uint32_t elements;  // of a sequence, the table of its elements
-    uint32_t unused;
+    uint32_t flag;  // 1, or 1 << 8 after an exponent, if the node has a flag, else 0
+    uint32_t more;  // of a string, its width in bytes; of a sequence, the table of its elements
 } column;
 
-// How far the stores of a value go beyond the end of its row, at most, and the reading of a string beyond its end.
-#define BEYOND 16
+// How far the stores of a row go beyond its end, at most, and the reading of a string beyond its end.
+#define BEYOND 32
 
 // The rows of a template's messages, or of a sequence's elements. A message's row begins with the time and the number of its packet and the
 // number of its capture, that of an element with the number of the row that it belongs to, in the table `parent`.
 typedef struct {
-    uint8_t *rows;
-    uint64_t used, room;  // in rows
-    uint64_t earlier;     // the number of rows that were taken before
+    uint8_t *rows, *end;  // those that are not written yet, from the last multiple of PIECE on, which may be within a row
+    uint8_t *limit;       // how far they go before `grow` is called
+    uint64_t room;        // in bytes
+    uint64_t used;        // the number of all rows
+    uint64_t owner;       // of elements, the number of the row that they belong to
     uint32_t size, parent;
 } table;
 
@@ -126,106 +126,86 @@ enum fault_code { CUT = 1001, SHORT, GAP, SKIPPED };
 
 enum trouble { FINE, OUT_OF_MEMORY, TEXT_TOO_LONG, NOT_WRITTEN };
 
-// The packets whose rows are written at once.
-#define PACKETS_OF_WRITE 96
+// Rows are written in pieces of this many bytes, at multiples of it in their file, while they are in the cache. The kernel keeps such a piece
+// in few folios, and writes to each once. From the start of a page it copies faster.
+#define PIECE (1 << 17)
+#define PAGE 4096
 
 typedef struct {
     fast_decoder *decoder;
     fast_record *records;
     uint8_t *texts;
-    uint64_t records_len, texts_len;
-    const column *columns;  // by node, and as many as templates
-    const uint8_t *resets;  // by template: whether its messages reset the dictionary
-    uint8_t **last;         // the last row of each table
-    table *tables;          // those of the templates, then those of the sequences, each after that which it is in
-    const int32_t *files;   // the file of each table
+    uint64_t records_len, texts_len;  // the room for records is larger by one
+    const column *columns;            // by node, and as many as templates
+    const uint8_t *resets;            // by template: whether its messages reset the dictionary
+    table *tables;                    // those of the templates, then those of the sequences, each after that which it is in
+    const int32_t *files;             // the file of each table
     uint32_t tables_len, capture;
     uint32_t is_afresh, skip;  // whether each packet begins with a new dictionary, and the number of bytes before its messages
 
     fault *faults;  // FAULTS_OF_PACKET for each packet of a call
     uint64_t faults_len;
-    uint64_t expected;          // the next sequence number; 0: any
-    uint32_t is_lost;           // the dictionary is not the sender's
-    uint32_t message, current;  // the tables of the message and the element that rows are added to
-    uint32_t trouble, node;     // a call that cannot go on, and the node of a text that is too long
-    uint32_t error;             // of a file that cannot be written
+    uint64_t expected;       // the next sequence number; 0: any
+    table *current;          // the table of the message or the element that values are put into
+    uint8_t *row;            // its last row
+    uint32_t message;        // the table of the message
+    uint32_t is_lost;        // the dictionary is not the sender's
+    uint32_t is_full;        // a table has a piece to be written
+    uint32_t trouble, node;  // a call that cannot go on, and the node of a text that is too long
+    uint32_t error;          // of a file that cannot be written
 } work;
 
-// Returns the number of the row after the last one.
-static uint64_t end_of(const table *of) { return of->earlier + of->used; }
-
-// Makes room for more rows. Returns false if there is no memory.
+// Makes room for a row: a table may have more than a piece until the rows of a packet are all there. Returns false if there is no memory.
 static bool grow(work *w, table *of) {
-    uint64_t room = of->room ? 2 * of->room : 1024;
-    uint8_t *moved = realloc(of->rows, room * of->size + BEYOND);
-    if (!moved) {
-        w->trouble = OUT_OF_MEMORY;
-        return false;
+    size_t used = (size_t)(of->end - of->rows), room = of->room ? of->room : 2 * PIECE;
+    while (room < used + of->size) room *= 2;
+    if (room > of->room) {
+        uint8_t *moved = aligned_alloc(PAGE, room + PAGE);
+        if (!moved) {
+            w->trouble = OUT_OF_MEMORY;
+            return false;
+        }
+        if (used) memcpy(moved, of->rows, used);
+        free(of->rows);
+        of->rows = moved, of->end = moved + used, of->room = room;
     }
-    memset(moved + of->used * of->size, 0, (room - of->used) * of->size);
-    of->rows = moved, of->room = room;
+    of->limit = of->rows + room;
+    w->is_full = 1;
     return true;
 }
 
 // Adds a row of zeros. Returns null if there is no memory.
-static inline uint8_t *add_row(work *w, uint32_t which) {
-    table *of = &w->tables[which];
-    if (of->used == of->room && !grow(w, of)) return NULL;
-    return w->last[which] = of->rows + of->used++ * of->size;
-}
-
-// Returns the row of a new message, or null.
-static uint8_t *start_message(work *w, uint32_t number, const packet *it, uint32_t template) {
-    uint8_t *row = add_row(w, template);
-    if (!row) return NULL;
-    memcpy(row, &it->time, 8);
-    memcpy(row + 8, &number, 4);
-    memcpy(row + 12, &w->capture, 4);
-    w->message = w->current = template;
+static inline uint8_t *add_row(work *w, table *of) {
+    if ((size_t)(of->limit - of->end) < of->size && !grow(w, of)) return NULL;
+    uint8_t *row = of->end, *end = row + of->size;
+    for (uint8_t *at = row; at < end; at += BEYOND) memset(at, 0, BEYOND);
+    // The next row, so that it is in the cache when it is added.
+    __builtin_prefetch(end + 64, 1);
+    of->end = end, of->used++;
     return row;
 }
 
-// Returns the row of a new element, or null.
-static uint8_t *start_element(work *w) {
-    uint8_t *row = add_row(w, w->current);
-    uint64_t parent = end_of(&w->tables[w->tables[w->current].parent]) - 1;
-    return row ? memcpy(row, &parent, 8) : NULL;
+// Puts what a message's row begins with.
+static void start_message(const work *w, uint8_t *row, uint32_t number, const packet *it) {
+    memcpy(row, &it->time, 8);
+    memcpy(row + 8, &number, 4);
+    memcpy(row + 12, &w->capture, 4);
 }
 
-// Removes the last row of a table. The rows after the last one are all zero.
-static void drop_row(table *of) {
-    of->used--;
-    memset(of->rows + of->used * of->size, 0, of->size);
-}
+// Removes the last row of a table.
+static void drop_row(table *of) { of->end -= of->size, of->used--; }
 
-// Removes the rows of a message without an end.
+// Removes the rows of a message without an end. None of them is written.
 static void drop_message(work *w) {
     drop_row(&w->tables[w->message]);
     for (uint32_t i = 0; i < w->tables_len; i++) {
         table *of = &w->tables[i];
-        for (uint64_t parent; of->parent != NONE && of->used; drop_row(of)) {
-            memcpy(&parent, of->rows + (of->used - 1) * of->size, 8);
-            if (parent < end_of(&w->tables[of->parent])) break;
+        for (uint64_t parent; of->parent != NONE && of->end - of->rows >= of->size; drop_row(of)) {
+            memcpy(&parent, of->end - of->size, 8);
+            if (parent < w->tables[of->parent].used) break;
         }
     }
     w->message = NONE;
-}
-
-// Returns the first eight bytes of a string, with zeros after its end, and puts the others into its row. It is a trouble if the string does not
-// fit: NumPy drops zero bytes at its end.
-static inline uint64_t put_text(work *w, const fast_record *it, const column *to, uint8_t *row) {
-    const uint8_t *text = w->texts + it->value;
-    uint32_t len = it->length;
-    uint64_t first;
-    if (!len) return 0;
-    if (len > to->width || !text[len - 1]) {
-        w->trouble = TEXT_TOO_LONG, w->node = it->node;
-        return 0;
-    }
-    memcpy(&first, text, 8);
-    if (len < 8) return first & (((uint64_t)1 << 8 * len) - 1);
-    memcpy(row + to->at + 8, text + 8, len - 8);
-    return first;
 }
 
 // Puts a value into its row, and a decimal's exponent.
@@ -236,40 +216,64 @@ static inline void put_value(const column *to, uint8_t *row, uint64_t value, int
     memcpy(row + to->after, &after, 2);
 }
 
-// Puts records into rows, up to a trouble.
+// Puts a string into its row. It is a trouble, and false is returned, if it does not fit: NumPy drops zero bytes at its end.
+static inline bool put_text(work *w, const fast_record *it, const column *to, uint8_t *row) {
+    const uint8_t *text = w->texts + it->value;
+    uint32_t len = it->length;
+    uint64_t first = 0;
+    if (len) {
+        if (len > to->more || !text[len - 1]) {
+            w->trouble = TEXT_TOO_LONG, w->node = it->node;
+            return false;
+        }
+        memcpy(&first, text, 8);
+        if (len < 8) {
+            first &= ((uint64_t)1 << 8 * len) - 1;
+        } else {
+            memcpy(row + to->at + 8, text + 8, len - 8);
+        }
+    }
+    put_value(to, row, first, 0);
+    return true;
+}
+
+// Puts records into rows, up to a trouble. There is room for a record after them.
 static void put_records(work *w, uint32_t number, const packet *of, uint64_t records) {
     const column *columns = w->columns;
-    uint8_t *row = w->last[w->current];
-    for (const fast_record *it = w->records, *end = it + records; it < end; it++) {
-        // One load, of two members.
-        uint64_t head;
-        memcpy(&head, it, 8);
-        uint32_t kind = (uint32_t)head, node = (uint32_t)(head >> 32);
-        const column *to = &columns[node];
+    table *current = w->current;
+    uint8_t *row = w->row;
+    // No record is of this kind: it ends the loops.
+    w->records[records].kind = 0;
+    for (const fast_record *it = w->records;; it++) {
         // Most records are numbers.
-        if (kind - FAST_UNSIGNED <= FAST_DECIMAL - FAST_UNSIGNED) {
-            put_value(to, row, it->value, it->exponent);
-            continue;
-        }
-        switch (kind) {
+        for (; it->kind - FAST_UNSIGNED <= FAST_DECIMAL - FAST_UNSIGNED; it++) put_value(&columns[it->node], row, it->value, it->exponent);
+        // No number follows the end of an element.
+        if (it->kind == FAST_ELEMENT_END) it++;
+        const column *to = &columns[it->node];
+        switch (it->kind) {
         case FAST_MESSAGE_START:
-            if (!(row = start_message(w, number, of, node))) return;
+            w->message = it->node, current = &w->tables[it->node];
+            if (!(row = add_row(w, current))) return;
+            start_message(w, row, number, of);
             break;
         case FAST_ELEMENT_START:
-            if (!(row = start_element(w))) return;
+            if (!(row = add_row(w, current))) return;
+            memcpy(row, &current->owner, 8);
             break;
-        case FAST_SEQUENCE_START: w->current = to->elements;  // fall through
-        case FAST_GROUP_START: put_value(to, row, it->value, 0); break;
+        case FAST_SEQUENCE_START:
+            put_value(to, row, it->value, 0);
+            w->tables[to->more].owner = current->used - 1, current = &w->tables[to->more];
+            break;
         case FAST_SEQUENCE_END:
-            w->current = w->tables[w->current].parent;
-            row = w->last[w->current];
+            current = &w->tables[current->parent];
+            row = current->end - current->size;
             break;
+        case FAST_GROUP_START: put_value(to, row, 0, 0); break;
         case FAST_MESSAGE_END: w->message = NONE; break;
-        case FAST_ELEMENT_END:
         case FAST_GROUP_END: break;
+        case 0: w->current = current, w->row = row; return;
         default:
-            put_value(to, row, put_text(w, it, to, row), 0);
-            if (w->trouble) return;
+            if (!put_text(w, it, to, row)) return;
         }
     }
 }
@@ -300,11 +304,12 @@ static void decode_messages(work *w, const uint8_t *file, uint32_t number, const
     w->is_lost = !w->is_afresh;
 }
 
-// Writes the rows of each table to its file, and empties it.
-static void write_rows(work *w) {
+// Writes the pieces of each table to its file, and what is left after the last packet. The rest comes before the next rows.
+static void write_rows(work *w, bool is_last) {
     for (uint32_t i = 0; i < w->tables_len; i++) {
         table *of = &w->tables[i];
-        const uint8_t *at = of->rows, *end = at + of->used * of->size;
+        size_t used = (size_t)(of->end - of->rows), rest = is_last ? 0 : used % PIECE;
+        const uint8_t *at = of->rows, *end = of->end - rest;
         for (ssize_t written; at < end; at += written) {
             written = write(w->files[i], at, (size_t)(end - at));
             if (written < 0) {
@@ -312,15 +317,16 @@ static void write_rows(work *w) {
                 return;
             }
         }
-        if (of->used) memset(of->rows, 0, of->used * of->size);
-        of->earlier += of->used;
-        of->used = 0;
+        if (used == rest) continue;
+        memmove(of->rows, end, rest);
+        of->end = of->rows + rest, of->limit = of->rows + PIECE;
     }
+    w->is_full = 0;
 }
 
-// Decodes packets, which have the numbers from `first` on, and writes the rows of their messages to the files of the tables, while they are in
-// the cache. It ends early with a trouble.
-void decode_packets(work *w, const uint8_t *file, const packet *packets, uint32_t first, uint32_t many) {
+// Decodes packets, which have the numbers from `first` on, and writes the rows of their messages to the files of the tables, those of the last
+// call all of them. It ends early with a trouble.
+void decode_packets(work *w, const uint8_t *file, const packet *packets, uint32_t first, uint32_t many, uint32_t is_last) {
     for (uint32_t number = first; number < first + many && !w->trouble; number++) {
         const packet *it = &packets[number];
         if (!w->is_afresh && w->expected && it->number != w->expected) {
@@ -332,8 +338,9 @@ void decode_packets(work *w, const uint8_t *file, const packet *packets, uint32_
         if (it->len) decode_messages(w, file, number, it);
         if (it->missing) add_fault(w, number, CUT, it->skipped + it->len);
         if (it->missing || it->skipped < w->skip) w->is_lost = !w->is_afresh;
-        if (!w->trouble && (number % PACKETS_OF_WRITE == 0 || number + 1 == first + many)) write_rows(w);
+        if (w->is_full && !w->trouble) write_rows(w, false);
     }
+    if (is_last && !w->trouble) write_rows(w, true);
 }
 
 // Frees the rows of each table.
