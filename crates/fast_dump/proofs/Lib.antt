@@ -1,3 +1,5 @@
 pub mod Paging
 pub mod Closing
 pub mod Dumping
+pub mod Rounds
+pub mod Ending

@@ -7,7 +7,7 @@ use Rattle.fast_text.proofs.Writing.{reads_none}
 use Rattle.fast_command.specs.meaning.Showing.{IsRefusal}
 use Rattle.fast_run.proofs.Running.{cause_of}
 use Rattle.fast_dump.specs.meaning.Pages.{IsPage}
-use Rattle.fast_dump.proofs.Dumping.{finished, not_made, begun}
+use Rattle.fast_dump.proofs.Ending.{finished, not_made, begun}
 use Rattle.fast_dump.proofs.dump.dump_all.Goals as goal
 
 pub returns-in-Err : goal.returns-in-Err

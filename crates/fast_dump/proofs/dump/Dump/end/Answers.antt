@@ -1,5 +1,5 @@
 use Rattle.std.proofs.Common.{sym, ◌∙◌}
-use Rattle.fast_dump.proofs.Dumping.{stopped_bad, stopped_between, ends_cut, ends_torn}
+use Rattle.fast_dump.proofs.Rounds.{stopped_bad, stopped_between, ends_cut, ends_torn}
 use Rattle.fast_dump.proofs.dump.Dump.end.Goals as goal
 
 pub returns-in-Some : goal.returns-in-Some

@@ -5,7 +5,7 @@ use Rattle.fast_decoder.specs.meaning.Decoding.{tree}
 use Rattle.fast_text.proofs.Writing.{reads_both, reads_no_more}
 use Rattle.fast_dump.specs.declared.dump.Dump.{Dump}
 use Rattle.fast_dump.specs.device.Progress.{Rows, start_at}
-use Rattle.fast_dump.proofs.Dumping.{no_round, round_flushed, round_more, round_counts, stopped_read, stopped_bad, bad_stands, ends_inside_piece, flush_cut, dumped_more}
+use Rattle.fast_dump.proofs.Rounds.{no_round, round_flushed, round_more, round_counts, stopped_read, stopped_bad, bad_stands, ends_inside_piece, flush_cut, dumped_more}
 use Rattle.fast_dump.proofs.dump.Dump.read.Goals as goal
 
 pub loop-read-init : goal.loop-read-init

@@ -1,7 +1,7 @@
 use Rattle.std.specs.Prelude.{is_some}
 use Rattle.fast_decoder.specs.meaning.Decoding.{tree}
 use Rattle.fast_dump.specs.device.Progress.{start_at}
-use Rattle.fast_dump.proofs.Dumping.{Round}
+use Rattle.fast_dump.proofs.Rounds.{Round}
 use Rattle.fast_dump.proofs.dump.Dump.read.Given as goal
 
 abbrev pub invariant-loop-read : goal.invariant-loop-read
