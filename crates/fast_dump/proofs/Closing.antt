@@ -113,7 +113,7 @@ truncated_text n = (codes "truncated at " ++ decimal n, sym (append_assoc (codes
 any_error : (t : Tree) (b ls : List ℕ) (held last : Option (List ℕ)) (had has : Bool) (why e : Failed) → AreWritten t 0 b ls held last had has (Err why) → AreWritten t 0 b ls held last had has (Err e)
 any_error t b ls held last had has why e rows = record { rows = rows.rows; bytes_are = rows.bytes_are; lines_are = rows.lines_are; written = record { whole = tt; part = rows.written.part } }
 
--- where a page stands after its bytes
+-- the offset of a page after its bytes
 place_of : {T : Type 0} (written : T → Option (List ℕ)) (failed : T → Bool) (held : Option (List ℕ)) (had : Bool) (t : Tree) (p : Page T) (b ls : List ℕ)
     → IsPage written failed held had t p b ls → kept p.kept ≡ [] → place p.kept ≡ length b
 place_of written failed held had t p b ls h none =

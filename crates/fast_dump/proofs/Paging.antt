@@ -16,7 +16,7 @@ use Rattle.fast_dump.specs.declared.page.Page.{Page}
 use Rattle.fast_dump.specs.meaning.Kept.{kept, place}
 use Rattle.fast_dump.specs.meaning.Pages.{IsPage, IsTorn, Keeps}
 
--- Rows with all bytes that were kept were written behind those of the page.
+-- Rows with all bytes that were kept were written after those of the page.
 page_rows : {T : Type 0} (written : T → Option (List ℕ)) (failed : T → Bool) (held : Option (List ℕ)) (had : Bool) (t t0 : Tree) (old : Page T) (target : T) (b ls more at_bytes : List ℕ) (at : ℕ) (r : Result (Unit {0}) Failed)
     → (h : IsPage written failed held had t old b ls) → t0 ≡ t → at ≡ place old.kept → at_bytes ≡ kept old.kept → AreWritten t0 at at_bytes more (written old.target) (written target) (failed old.target) (failed target) r
     → AreWritten t 0 (h.before ++ kept old.kept) (ls ++ more) held (written target) had (failed target) r
@@ -62,7 +62,7 @@ pub torn_aside : {T : Type 0} (written : T → Option (List ℕ)) (failed : T �
 torn_aside written failed held had t t0 old new b ls at_bytes at e h names there same rows =
     rw (sym (append-nil ls)) (page_torn written failed held had t t0 old new b ls [] at_bytes at e h names there same rows)
 
--- A front of rows is a front of them with the row of a line behind them.
+-- A front of rows is a front of them with the row of a line after them.
 pub torn_more : {T : Type 0} (written : T → Option (List ℕ)) (failed : T → Bool) (held : Option (List ℕ)) (had : Bool) (t : Tree) (p : Page T) (b ls text : List ℕ)
     → IsTorn written failed held had t p b ls → IsTorn written failed held had t p b (ls ++ (text ++ 0x0A ∷ []))
 torn_more written failed held had t p b ls text h = record {

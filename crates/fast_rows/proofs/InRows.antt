@@ -11,7 +11,7 @@ use Rattle.fast_text.specs.meaning.LineWriter.{Writes}
 use Rattle.fast_text.proofs.Writing.{writes_both, writes_same}
 use Rattle.fast_rows.proofs.Texts.{is_none, is_both, is_cut, is_same}
 
--- rows, and rows behind them
+-- rows, and rows after them
 pub rows_append : (t : Tree) (at : ℕ) (xs ys : List Row) → rows_text t at (xs ++ ys) ≡ rows_text t at xs ++ rows_text t (at + length (bytes_in xs)) ys
 rows_append t at [] ys = ap (λ (n : ℕ). rows_text t n ys) (sym (add-zero at))
 rows_append t at (x ∷ xs) ys =
@@ -39,7 +39,7 @@ are_both t at there bs cs ks ls held mid new had mid_had has r first place secon
           (is_both held mid new had mid_had has (rows_text t at xs) (rows_text t there ys) r first.written second.written);
     }
 
--- Rows of which a front was written, with rows behind them.
+-- Rows of which a front was written, with rows after them.
 pub are_cut : (t : Tree) (at : ℕ) (bs cs ks ls : List ℕ) (held new : Option (List ℕ)) (had has : Bool) (e : Failed) (ys : List Row)
     → AreWritten t at bs ks held new had has (Err e) → bytes_in ys ≡ cs → lines_in ys ≡ ls → AreWritten t at (bs ++ cs) (ks ++ ls) held new had has (Err e)
 are_cut t at bs cs ks ls held new had has e ys h bytes lines =
@@ -101,7 +101,7 @@ more_bytes rows row others rest bytes first all =
 pub more_lines : (rows : List Row) (row : List ℕ) → lines_in rows ≡ [] → lines_in (rows ++ More row ∷ []) ≡ []
 more_lines rows row none = flat_map-append row_line rows (More row ∷ []) ∙ ap (λ (xs : List ℕ). xs ++ []) none
 
--- the place behind it
+-- the place after it
 pub more_place : (rows : List Row) (row : List ℕ) (start at : ℕ) → at ≡ start + length (bytes_in rows) → at + length row ≡ start + length (bytes_in (rows ++ More row ∷ []))
 more_place rows row start at place =
     let all : length (bytes_in (rows ++ More row ∷ [])) ≡ length (bytes_in rows) + length row =

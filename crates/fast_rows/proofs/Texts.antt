@@ -41,7 +41,7 @@ pub is_both : (held mid new : Option (List ℕ)) (had mid_had has : Bool) (a b :
 is_both held mid new had mid_had has a b (Ok x) first second = record { whole = (appends_both held mid new a b first.whole.0 second.whole.0, second.whole.1 ∙ first.whole.1); part = tt }
 is_both held mid new had mid_had has a b (Err e) first second = record { whole = tt; part = (front_of_second held mid new a b first.whole.0 second.part.0, second.part.1) }
 
--- a front of a text is a front of the text with more behind it
+-- a front of a text is a front of the text with more after it
 pub is_cut : (held new : Option (List ℕ)) (had has : Bool) (a b : List ℕ) (e : Failed) → IsWritten held new had has a (Err e) → IsWritten held new had has (a ++ b) (Err e)
 is_cut held new had has a b e h =
     let f = h.part.0 in

@@ -10,6 +10,6 @@ kept k = take k.len k.cells.items
 abbrev pub place : KeptBytes → ℕ
 place k = k.at
 
--- the offset behind them
+-- the offset after them
 abbrev pub end : KeptBytes → ℕ
 end k = k.at + k.len

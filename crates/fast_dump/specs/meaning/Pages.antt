@@ -34,7 +34,7 @@ abbrev pub IsLeft : {T : Type 0} → (T → Option (List ℕ)) → (T → Bool) 
 IsLeft written failed held had_failed t p b ls (Ok u) = IsPage written failed held had_failed t p b ls
 IsLeft written failed held had_failed t p b ls (Err e) = IsTorn written failed held had_failed t p b ls
 
--- The bytes that a page stands for become more by these.
+-- The bytes of a page become more by these.
 abbrev pub Gains : {T : Type 0} → (T → Option (List ℕ)) → (T → Bool) → Page T → List ℕ → Page T → Result (Unit {0}) Failed → Type 0
 Gains written failed old more new r = (held : Option (List ℕ)) (had_failed : Bool) (t : Tree) (b ls : List ℕ) → IsPage written failed held had_failed t old b ls → IsLeft written failed held had_failed t new (b ++ more) ls r
 

@@ -45,7 +45,7 @@ after_event s MessageEnd = ended s
 
 -- ---- values
 
--- A quote and a backslash are behind a backslash, and control characters are written as \u00 and two digits.
+-- A quote and a backslash come after a backslash, and control characters are written as \u00 and two digits.
 abbrev pub json_escaped : ℕ → List ℕ
 json_escaped c =
     if nat_eq c 0x22 || nat_eq c 0x5C then 0x5C ∷ c ∷ []

@@ -22,7 +22,7 @@ last_four is_shown at = mark is_shown (at / 2 ^ 12 % 16) ∷ mark is_shown (at /
 abbrev pub offset : Bool → ℕ → List ℕ
 offset is_shown at = four is_shown at 48 ++ four is_shown at 32 ++ four is_shown at 16 ++ last_four is_shown at
 
--- a byte as two digits, behind a space
+-- a byte as two digits, after a space
 abbrev pub spaced : ℕ → List ℕ
 spaced c = 0x20 ∷ hex_byte c
 

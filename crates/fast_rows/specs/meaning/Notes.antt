@@ -13,7 +13,7 @@ use Rattle.fast_rows.specs.declared.notes.Note.TheVariants.{Bits, Absent, Waitin
 abbrev pub bit : ℕ → ℕ → ℕ
 bit byte weight = 0x30 + byte / weight % 2
 
--- The seven bits of a byte of a presence map that are not its stop bit, behind a space.
+-- The seven bits of a byte of a presence map that are not its stop bit, after a space.
 abbrev pub bits : ℕ → List ℕ
 bits c = 0x20 ∷ bit c 64 ∷ bit c 32 ∷ bit c 16 ∷ bit c 8 ∷ bit c 4 ∷ bit c 2 ∷ bit c 1 ∷ []
 

@@ -30,7 +30,7 @@ row_text t at (Line bytes text) = columns at bytes ++ text ++ 0x0A ∷ []
 row_text t at (Aside bytes note) = columns at bytes ++ note_text t bytes note ++ 0x0A ∷ []
 row_text t at (More bytes) = cells at bytes ++ 0x0A ∷ []
 
--- What is written of rows, each at the offset behind the bytes before.
+-- What is written of rows, each at the offset after the bytes before.
 abbrev pub rows_text : Tree → ℕ → List Row → List ℕ
 rows_text t at [] = []
 rows_text t at (row ∷ rows) = row_text t at row ++ rows_text t (at + length (row_bytes row)) rows
