@@ -54,13 +54,13 @@ enum fast_kind {
     FAST_ELEMENT_START,
     FAST_ELEMENT_END,
     FAST_SEQUENCE_END,
-    FAST_MESSAGE_END
+    FAST_MESSAGE_END         // value: the number of bytes of the stream up to its end, since the decoder was made or reset
 };
 
 typedef struct fast_record {
     uint32_t kind;     // one of fast_kind
     uint32_t node;     // the number of the field, group or sequence in the set, or of the template; 0 at all others
-    uint64_t value;    // an integer, a mantissa, a number of elements, or the offset of a string in the buffer of texts
+    uint64_t value;    // an integer, a mantissa, a number of elements, the offset of a string in the buffer of texts, or that of a message's end
     uint32_t length;   // of a string, in bytes
     int32_t exponent;  // of a decimal
 } fast_record;

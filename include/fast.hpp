@@ -158,6 +158,9 @@ struct fault {
 //
 // A value is passed as its own type and no other, so that a signed one never arrives as an unsigned one; a `field` of another type does not
 // compile.
+//
+// A visitor with `void message_end(std::uint64_t consumed)` in place of `void message_end()` gets the number of bytes of the stream up to the
+// end of the message, since the decoder was made or reset.
 struct visitor {
     void message_start(std::uint32_t) {}
     void group_start(std::uint32_t) {}
@@ -206,6 +209,17 @@ template <class V, class T> void show_field(V &sees, std::uint32_t node, T value
     }
 }
 
+template <class V, class = void> constexpr bool takes_end = false;
+template <class V> constexpr bool takes_end<V, std::void_t<decltype(std::declval<V &>().message_end(exactly<std::uint64_t>{}))>> = true;
+
+template <class V> void show_end(V &sees, std::uint64_t consumed) {
+    if constexpr (takes_end<V>) {
+        sees.message_end(exactly<std::uint64_t>{consumed});
+    } else {
+        sees.message_end();
+    }
+}
+
 inline std::string_view text_of(const fast_record &it, const std::uint8_t *texts) {
     return {reinterpret_cast<const char *>(texts + it.value), it.length};
 }
@@ -229,7 +243,7 @@ template <class V> void visit(const fast_record &it, const std::uint8_t *texts, 
     case FAST_ELEMENT_START: return sees.element_start();
     case FAST_ELEMENT_END: return sees.element_end();
     case FAST_SEQUENCE_END: return sees.sequence_end();
-    case FAST_MESSAGE_END: return sees.message_end();
+    case FAST_MESSAGE_END: return show_end(sees, it.value);
     }
 }
 

@@ -10,6 +10,7 @@ ghost use Rattle.fast_tree.specs.meaning.Tree.{FieldData, uses_bit};
 ghost use Rattle.fast_dict.specs.meaning.Dictionary.{Dictionary};
 ghost use Rattle.fast_dict.specs.meaning.Slots.{slots_dictionary};
 ghost use Rattle.fast_cursor.specs.device.Cursors.{resting, bits_left};
+ghost use Rattle.fast_stream.specs.meaning.Events.{MessageEnd};
 ghost use Rattle.fast_stream.specs.meaning.Handed.{event_data};
 ghost use Rattle.fast_stream.specs.device.GrammarReaders.{reader_of};
 ghost use Rattle.fast_stream.specs.device.Readers.{Reader};
@@ -34,6 +35,18 @@ pub fn hand<S: Sink>(sink: &mut S, event: Event<'_>) -> Result<(), FaultCode>
         (λ code. (code ≡ FaultCode.SinkStopped) × S.stops sink.old (event_data event.entry) sink.new) }
 {
     match sink.take(event) {
+        Ok(()) => Ok(()),
+        Err(_) => Err(FaultCode::SinkStopped),
+    }
+}
+
+/// Emits the end of a message, after which `left` bytes of the piece follow.
+#[inline(always)]
+pub fn hand_end<S: Sink>(sink: &mut S, left: usize) -> Result<(), FaultCode>
+    ensures { MatchResult result (λ _. S.takes sink.old MessageEnd sink.new)
+        (λ code. (code ≡ FaultCode.SinkStopped) × S.stops sink.old MessageEnd sink.new) }
+{
+    match sink.end_message(left) {
         Ok(()) => Ok(()),
         Err(_) => Err(FaultCode::SinkStopped),
     }

@@ -116,7 +116,7 @@ impl<'t> Machine<'t> {
             self.new }
         ensures waits { (t : Turn) → result.turn ≡ Ok t → t ≢ Turn.Waits → self.new.waiting ≡ Waiting.Field }
     {
-        let turn = self.turn(templates, limits, sink);
+        let turn = self.turn(templates, limits, rest.len(), sink);
         match turn {
             Err(code) => UnitTaken {
                 bytes: 0,

@@ -13,9 +13,9 @@ ghost use Rattle.fast_machine.specs.device.Opening.{opened_result, opened_by};
 ghost use Rattle.fast_machine.specs.device.Positions.{set_of, run_in, IsBodyOf, IsAtField, IsAtGroup, CanTurn, IsTurn, turning};
 
 use crate::machine::{Machine, Turn, Waiting};
-use crate::settling::hand;
+use crate::settling::hand_end;
 use crate::turns::Turns;
-use fast_stream::{Event, FaultCode, Sink};
+use fast_stream::{FaultCode, Sink};
 use fast_template::{FieldInstruction, Operator, Shape, Templates};
 use fast_units::fields::{needs_bytes, unsent};
 use fast_value::{Kind, Limits};
@@ -122,12 +122,13 @@ impl<'t> Machine<'t> {
         }
     }
 
-    /// Ends the innermost segment: a group, an element or the message.
+    /// Ends the innermost segment: a group, an element or the message, after which `left` bytes of the piece follow.
     #[inline(always)]
     fn close<S: Sink>(
         &mut self,
         templates: &'t Templates,
         limits: Limits,
+        left: usize,
         sink: &mut S,
     ) -> Result<Turn, FaultCode>
         requires turn { CanTurn (set_of templates.now) limits self.old }
@@ -139,7 +140,7 @@ impl<'t> Machine<'t> {
             → HasTurnsBehind result way (set_of templates.now) limits n self.new }
     {
         if self.cursor.is_outermost() {
-            hand(sink, Event::MessageEnd)?;
+            hand_end(sink, left)?;
             self.cursor.clear_map();
             self.waiting = Waiting::Map;
             return Ok(Turn::Waits);
@@ -149,12 +150,13 @@ impl<'t> Machine<'t> {
         self.open_segment(begun)
     }
 
-    /// Makes a turn: the next step needs no byte, or the machine waits.
+    /// Makes a turn, where `left` bytes of the piece follow: the next step needs no byte, or the machine waits.
     #[inline(always)]
     pub fn turn<S: Sink>(
         &mut self,
         templates: &'t Templates,
         limits: Limits,
+        left: usize,
         sink: &mut S,
     ) -> Result<Turn, FaultCode>
         requires turn { CanTurn (set_of templates.now) limits self.old }
@@ -166,7 +168,7 @@ impl<'t> Machine<'t> {
             → HasTurnsBehind result way (set_of templates.now) limits n self.new }
     {
         self.turns = Turns::after(&self.turns);
-        self.begin(templates, limits, sink)
+        self.begin(templates, limits, left, sink)
     }
 
     /// Makes a turn, after it was counted.
@@ -175,6 +177,7 @@ impl<'t> Machine<'t> {
         &mut self,
         templates: &'t Templates,
         limits: Limits,
+        left: usize,
         sink: &mut S,
     ) -> Result<Turn, FaultCode>
         requires turn { CanTurn (set_of templates.now) limits self.old }
@@ -186,7 +189,7 @@ impl<'t> Machine<'t> {
             → HasTurnsBehind result way (set_of templates.now) limits n self.new }
     {
         let Some(number) = self.cursor.next() else {
-            return self.close(templates, limits, sink);
+            return self.close(templates, limits, left, sink);
         };
         match &templates.node(number).shape {
             Shape::Field(field) => self.begin_field(templates, limits, number, field, sink),

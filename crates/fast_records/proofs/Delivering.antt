@@ -1,9 +1,9 @@
 -- What a decoder says of a sink of records, said of lists of events.
-use Rattle.std.proofs.Common.{◌≡◌, ◌≢◌, ◌⊎◌, inl, inr, ℕ, zero, suc, ◌+◌, ◌-◌, ◌<◌, ◌≤◌, Bool, nat_lt, List, [], ◌∷◌, ◌++◌, length, take, refl, sym, ap, subst, ◌∙◌, append_assoc, append-nil, length-append, arith, Result, Ok, Err}
+use Rattle.std.proofs.Common.{◌≡◌, ◌≢◌, ◌⊎◌, inl, inr, ℕ, zero, suc, ◌+◌, ◌-◌, ◌<◌, ◌≤◌, Bool, nat_lt, List, [], ◌∷◌, ◌++◌, length, map, take, refl, sym, ap, subst, ◌∙◌, append_assoc, append-nil, length-append, arith, Result, Ok, Err}
 use Rattle.std.specs.Prelude.{Option, Some, None, is_some, IsSome, true, false, ◌==◌, ◌&&◌}
 use Rattle.std.proofs.lemmas.Bool.{ltb-false}
 use Rattle.std.proofs.lemmas.Bool.Decides.{eqb_tells}
-use Rattle.std.proofs.lemmas.List.{length-take-le}
+use Rattle.std.proofs.lemmas.List.{length-take-le, length-map}
 use Rattle.fast_value.specs.declared.settings.Limits.{Limits}
 use Rattle.fast_tree.specs.meaning.Tree.{Tree}
 use Rattle.fast_stream.specs.declared.faults.Fault.{Fault}
@@ -20,7 +20,7 @@ use Rattle.fast_records.specs.declared.feeding.Outcome.{Outcome}
 use Rattle.fast_records.specs.declared.feeding.Outcome.TheVariants as Came
 use Rattle.fast_records.specs.declared.waiting.Waiting.{Waiting}
 use Rattle.fast_records.specs.declared.sink.RecordSink.{RecordSink}
-use Rattle.fast_records.specs.meaning.Records.{event_text, texts_of, records_of}
+use Rattle.fast_records.specs.meaning.Records.{unplaced, event_text, texts_of, records_of}
 use Rattle.fast_records.specs.meaning.Waiting.{pending}
 use Rattle.fast_records.specs.meaning.Sink.{Shows, IsSameSink, TakesRecord, RefusesRecord}
 use Rattle.fast_records.specs.meaning.Feeding.{Appends, Stays, Gives, OnStream, Delivers, HasNoRoom, outcome_of}
@@ -131,7 +131,7 @@ pub gives_by : (s : RecordSink) (es : List EventData) (records : List Record) (t
 gives_by s es records texts waits filled used shown records_is texts_is waits_is filled_is used_is = record {
   given = shown.given;
   are_records = record {
-    records_are = ap (λ (n : ℕ). take n records) filled_is ∙ ap (λ (rs : List Record). take s.filled rs) records_is ∙ shown.filled.records_are;
+    records_are = ap (map unplaced) (ap (λ (n : ℕ). take n records) filled_is ∙ ap (λ (rs : List Record). take s.filled rs) records_is) ∙ shown.filled.records_are;
     texts_are = ap (λ (n : ℕ). take n texts) used_is ∙ ap (λ (ts : List ℕ). take s.used ts) texts_is ∙ shown.filled.texts_are;
   };
   all = shown.all ∙ ap (λ (v : Waiting). shown.given ++ pending v) (sym waits_is);
@@ -155,7 +155,7 @@ long_records place (e ∷ es) = ap suc (long_records (place + length (event_text
 given_long : (s : RecordSink) (es : List EventData) (h : Shows s es) → length h.given ≡ s.filled
 given_long s es h =
     let taken = length-take-le s.filled s.records.now (let a = s.filled_within in let b = s.limit_within in omega (arith, a, b)) in
-    sym (long_records 0 h.given) ∙ ap length (sym h.filled.records_are) ∙ taken
+    sym (long_records 0 h.given) ∙ ap length (sym h.filled.records_are) ∙ length-map (take s.filled s.records.now) unplaced ∙ taken
 
 -- While there is room for a record, all that waited is given: what waits then has come since.
 pub late_by : (s s' : RecordSink) (waited more : List EventData) → Shows s waited → Shows s' (waited ++ more) → s.filled ≤ s'.filled → s.filled < s.limit → (front : List EventData) × (more ≡ front ++ pending s'.waiting.now)

@@ -1,11 +1,11 @@
 -- What a sink of records shows.
-use Rattle.std.proofs.Common.{◌≡◌, ◌≢◌, inl, inr, ℕ, ◌-◌, ◌<◌, List, [], ◌∷◌, ◌++◌, length, take, refl, sym, ap, subst, ◌∙◌, append-nil, append_assoc, arith, Result, Ok, Err, OnOk, OnErr}
+use Rattle.std.proofs.Common.{◌≡◌, ◌≢◌, inl, inr, ℕ, ◌-◌, ◌<◌, List, [], ◌∷◌, ◌++◌, length, map, take, refl, sym, ap, subst, ◌∙◌, append-nil, append_assoc, arith, Result, Ok, Err, OnOk, OnErr}
 use Rattle.fast_stream.specs.declared.events.Stop.{Stop}
 use Rattle.fast_stream.specs.meaning.Events.{EventData}
 use Rattle.fast_records.specs.declared.records.Record.{Record}
 use Rattle.fast_records.specs.declared.room.Room.{Room}
 use Rattle.fast_records.specs.declared.sink.RecordSink.{RecordSink}
-use Rattle.fast_records.specs.meaning.Records.{record_of, event_text}
+use Rattle.fast_records.specs.meaning.Records.{record_of, unplaced, event_text}
 use Rattle.fast_records.specs.meaning.Feeding.{HasNoRoom}
 use Rattle.fast_records.specs.device.Room.{records_in, texts_in, IsOpen, LacksRoom, IsFull, Adds, IsAsFilled, IsUnchanged}
 use Rattle.fast_records.specs.device.Waiting.{Moves}
@@ -30,7 +30,7 @@ full_more r [] e unclosed full (inr long) some = inr long
 full_more r (x ∷ xs) e unclosed full lacks some = full (λ none. cc none)
 
 -- its record was added
-pub shows_put : (s s' : RecordSink) (e : EventData) (p : ℕ) (next : Record) (t : List ℕ) → p ≡ length (texts_in (room_of s)) → next ≡ record_of p e → t ≡ event_text e → Adds next t (room_of s) (room_of s') → s'.waiting.now ≡ s.waiting.now
+pub shows_put : (s s' : RecordSink) (e : EventData) (p : ℕ) (next : Record) (t : List ℕ) → p ≡ length (texts_in (room_of s)) → unplaced next ≡ record_of p e → t ≡ event_text e → Adds next t (room_of s) (room_of s') → s'.waiting.now ≡ s.waiting.now
     → (es : List EventData) → Shows s es → Shows s' (es ++ e ∷ [])
 shows_put s s' e p next t at is text adds same es h =
     let none : pending s'.waiting.now ≡ [] = ap (λ (v : Waiting). pending v) same ∙ h.in_order adds.had_room in
@@ -89,7 +89,7 @@ refuses_after s s' e new (Err x) same as_it_was waits h = record { same = same_a
 pub shows_new : (s : RecordSink) (r₀ r : Room) (waited waits : Waiting) → Moves r₀ waited r waits → records_in r₀ ≡ [] → texts_in r₀ ≡ [] → (r.filled < r.limit → pending waits ≡ []) → (pending waits ≡ [] → IsOpen r) → IsFull r (pending waits)
     → s.records.now ≡ r.records.now → s.texts.now ≡ r.texts.now → s.waiting.now ≡ waits → s.filled ≡ r.filled → s.limit ≡ r.limit → s.used ≡ r.used → Shows s (pending waited)
 shows_new s r₀ r waited waits moves no_record no_text in_order unclosed full records_is texts_is waits_is filled_is limit_is used_is =
-    let m = moves [] (record { records_are = no_record; texts_are = no_text }) in
+    let m = moves [] (record { records_are = ap (map unplaced) no_record; texts_are = no_text }) in
     let here : pending s.waiting.now ≡ pending waits = ap (λ (v : Waiting). pending v) waits_is in
     let same : IsAsFilled r (room_of s) = record {
       records = ap (λ (n : ℕ). take n s.records.now) filled_is ∙ ap (λ (rs : List Record). take r.filled rs) records_is;

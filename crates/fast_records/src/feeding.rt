@@ -8,7 +8,7 @@ ghost use Rattle.fast_records.specs.meaning.Waiting.{pending};
 ghost use Rattle.fast_records.specs.meaning.Feeding.{Delivers, HandsOver, HasNoRoom, unfinished, outcome_of};
 
 use crate::records::Record;
-use crate::sink::RecordSink;
+use crate::sink::{RecordSink, fed_at_once};
 use crate::waiting::Waiting;
 use fast_decoder::{Decoder, Fault, FaultCode};
 
@@ -114,9 +114,8 @@ pub fn feed_records(
     ensures stopped { IsSome decoder.old.fault → account decoder.new ≡ account decoder.old }
 {
     let before = decoder.consumed();
-    let mut sink = RecordSink::new(records, texts, waiting);
-    let left = sink.left();
-    let front = &piece[..piece.len().min(left - left / 2)];
+    let mut sink = RecordSink::new(records, texts, waiting, before, piece.len());
+    let front = &piece[..fed_at_once(piece.len(), sink.left())];
     let answer = decoder.feed(front, &mut sink);
     let taken = (decoder.consumed() - before) as usize;
     let filled = sink.filled();

@@ -13,7 +13,8 @@ ghost use Rattle.fast_records.specs.device.Lent.{event_back, IsOf, HasNoEvent};
 use crate::putting::{PutFault, push};
 use crate::records::{
     ASCII, BYTES, DECIMAL, ELEMENT_END, ELEMENT_START, GROUP_END, GROUP_START, MESSAGE_END,
-    MESSAGE_START, Record, SEQUENCE_END, SEQUENCE_START, SIGNED, UNICODE, UNSIGNED, record_of,
+    MESSAGE_START, Record, SEQUENCE_END, SEQUENCE_START, SIGNED, UNICODE, UNSIGNED, ending_at,
+    record_of,
 };
 use fast_stream::Event;
 use fast_value::Scalar;
@@ -107,13 +108,14 @@ fn text_in(record: Record, texts: &[u8]) -> Option<&[u8]>
         .get(..record.length as usize)
 }
 
-/// Returns the event of a record; `None` if the record is not one of an event. Fields that its `kind` does not use must be 0.
+/// Returns the event of a record; `None` if the record is not one of an event. Fields that its `kind` does not use must be 0. The offset at
+/// which a message ends may be any.
 fn lent(record: Record, texts: &[u8]) -> Option<Event<'_>>
     ensures some { IfSome result (λ e. Tells texts.now «record» (event_data e)) }
     ensures none { IfNone result ((e : EventData) → ¬ (Tells texts.now «record» e)) }
 {
     let event = event_with(record, text_in(record, texts)?)?;
-    if record_of(event, record.value) == record {
+    if record_of(event, record.value) == ending_at(0, record) {
         Some(event)
     } else {
         None

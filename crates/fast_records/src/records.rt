@@ -4,7 +4,7 @@ ghost use Rattle.std.specs.Prelude.{◌≡◌};
 ghost use Rattle.fast_value.specs.meaning.Values.{scalar_data};
 ghost use Rattle.fast_stream.specs.meaning.Handed.{event_data};
 ghost use Rattle.fast_records.specs.device.Lent.{content};
-ghost use Rattle.fast_records.specs.meaning.Records.{mark, text_record, field_record, record_of, event_text};
+ghost use Rattle.fast_records.specs.meaning.Records.{mark, text_record, field_record, record_of, ending_at, event_text};
 
 use fast_stream::Event;
 use fast_value::Scalar;
@@ -17,7 +17,8 @@ pub struct Record {
     pub kind: u32,
     /// The number of the template (`MESSAGE_START`), or of the field, group or sequence; 0 for all other events.
     pub node: u32,
-    /// An unsigned integer; a signed integer or a mantissa, in two's complement; the number of elements; or the offset of a string.
+    /// An unsigned integer; a signed integer or a mantissa, in two's complement; the number of elements; the offset of a string; or the
+    /// offset in the stream at which a message ends.
     pub value: u64,
     /// The length of a string in bytes, else 0.
     pub length: u32,
@@ -51,7 +52,7 @@ pub const ELEMENT_START: u32 = 11;
 pub const ELEMENT_END: u32 = 12;
 /// The innermost sequence ends.
 pub const SEQUENCE_END: u32 = 13;
-/// The message ends.
+/// The message ends; `value` is the number of bytes of the stream up to its end, as a decoder writes it. An encoder takes any.
 pub const MESSAGE_END: u32 = 14;
 
 /// The greatest string length that a record can hold. The limits of a decoder keep strings below 2^21 bytes.
@@ -126,6 +127,18 @@ pub(crate) fn record_of(event: Event<'_>, place: u64) -> Record
         Event::ElementEnd => mark(ELEMENT_END, 0, 0),
         Event::SequenceEnd => mark(SEQUENCE_END, 0, 0),
         Event::MessageEnd => mark(MESSAGE_END, 0, 0),
+    }
+}
+
+/// Returns the record with this value, if it is of the end of a message, else the record as it is.
+#[inline(always)]
+pub(crate) fn ending_at(value: u64, record: Record) -> Record
+    ensures { result ≡ ending_at value «record» }
+{
+    if record.kind == MESSAGE_END {
+        Record { value, ..record }
+    } else {
+        record
     }
 }
 

@@ -1,6 +1,6 @@
 //! A sink that writes records into the caller's buffers.
 
-ghost use Rattle.std.specs.Prelude.{◌≤◌, length};
+ghost use Rattle.std.specs.Prelude.{◌+◌, ◌*◌, ◌<◌, ◌≤◌, length};
 
 use crate::lent::event_with;
 use crate::records::{
@@ -26,13 +26,24 @@ pub(crate) struct RecordSink<'a> {
     limit: usize,
     /// The number of bytes of `texts` that are filled.
     used: usize,
+    /// The number of bytes of the stream up to the end of those that are fed.
+    until: u64,
     ghost filled_within: { filled ≤ limit },
     ghost limit_within: { limit ≤ length records.now },
     ghost used_within: { used ≤ length texts.now },
 }
 
+/// Returns how many of `len` bytes are fed at once where so many records are free: at most half as many, rounded up.
+pub(crate) fn fed_at_once(len: usize, free: usize) -> usize
+    ensures within { result ≤ len }
+    ensures half { 2 * result ≤ free + 1 }
+    ensures all { result < len → free ≤ 2 * result }
+{
+    len.min(free - free / 2)
+}
+
 impl<'a> RecordSink<'a> {
-    ghost use Rattle.std.specs.Prelude.{◌≡◌, ℕ, nat_lt, ◌+◌, ◌-◌, ◌≤◌, [], ◌++◌, length, take, OnOk, OnErr};
+    ghost use Rattle.std.specs.Prelude.{◌≡◌, ℕ, nat_lt, ◌+◌, ◌-◌, ◌<◌, ◌≤◌, [], ◌++◌, length, take, OnOk, OnErr};
     ghost use Rattle.fast_stream.specs.meaning.Events.{EventData};
     ghost use Rattle.fast_records.specs.meaning.Records.{event_text};
     ghost use Rattle.fast_records.specs.device.Lent.{IsMark, IsTextOf, event_back, content};
@@ -42,11 +53,14 @@ impl<'a> RecordSink<'a> {
     ghost use Rattle.fast_records.specs.device.Room.{Adds, IsUnchanged, LacksRoom};
     ghost use Rattle.fast_records.specs.meaning.Sink.{room_of, Shows, IsSameSink, TakesRecord, RefusesRecord};
 
-    /// Makes a sink over empty buffers, and first moves the events that wait into them, as far as they have room.
+    /// Makes a sink over empty buffers, and first moves the events that wait into them, as far as they have room. The sink is for the bytes
+    /// that are fed at once of `len`, after `consumed` bytes of the stream.
     pub(crate) fn new(
         records: &'a mut [Record],
         texts: &'a mut [u8],
         waiting: &'a mut Waiting,
+        consumed: u64,
+        len: usize,
     ) -> RecordSink<'a>
         ensures records { result.records.ghost_name ≡ records.entry.ghost_name }
         ensures texts { result.texts.ghost_name ≡ texts.entry.ghost_name }
@@ -65,6 +79,7 @@ impl<'a> RecordSink<'a> {
             filled,
             limit,
             used,
+            until: consumed.wrapping_add(fed_at_once(len, limit - filled) as u64),
         }
     }
 
@@ -85,6 +100,21 @@ impl<'a> RecordSink<'a> {
         self.records[self.filled] = next;
         self.filled += 1;
         true
+    }
+
+    /// Adds a record without a string at `at`, which is the next and has room.
+    #[inline(always)]
+    fn add(&mut self, at: usize, next: Record)
+        requires next { at ≡ self.old.filled }
+        requires room { at < self.old.limit }
+        ensures same { IsSameSink self.old self.new }
+        ensures waiting { self.new.waiting.now ≡ self.old.waiting.now }
+        ensures filled { self.new.filled ≡ at + 1 }
+        ensures limit { self.new.limit ≡ self.old.limit }
+        ensures adds { Adds next [] (room_of self.old) (room_of self.new) }
+    {
+        self.records[at] = next;
+        self.filled = at + 1;
     }
 
     /// Adds a record and its string. Returns false, with nothing changed, if there is no room for both.
@@ -201,19 +231,19 @@ impl<'a> RecordSink<'a> {
         ensures err { OnErr result (RefusesRecord self.old (event_back next text.now) self.new) }
     {
         match event_with(next, text) {
-            Some(event) => self.wait(event),
+            Some(event) => self.wait(event, next.value),
             None => Err(Stop),
         }
     }
 
-    /// Keeps an event that has no room, and lets no later one overtake it.
+    /// Keeps an event that has no room, with the value of its record if it is the end of a message, and lets no later one overtake it.
     #[inline(never)]
-    fn wait(&mut self, event: Event<'_>) -> Result<(), Stop>
+    fn wait(&mut self, event: Event<'_>, value: u64) -> Result<(), Stop>
         requires lacks { LacksRoom (event_text (event_data event)) (room_of self.old) }
         ensures ok { OnOk result (TakesRecord self.old (event_data event.entry) self.new) }
         ensures err { OnErr result (RefusesRecord self.old (event_data event.entry) self.new) }
     {
-        match self.waiting.add(event) {
+        match self.waiting.add(event, value) {
             Ok(()) => {
                 self.limit = self.filled;
                 Ok(())
@@ -253,5 +283,22 @@ impl Sink for RecordSink<'_> {
             Event::MessageEnd => (MESSAGE_END, 0, 0, 0),
         };
         self.keep(kind, node, value, exponent)
+    }
+
+    #[inline(always)]
+    fn end_message(&mut self, left: usize) -> Result<(), Stop> {
+        self.keep(MESSAGE_END, 0, self.until.wrapping_sub(left as u64), 0)
+    }
+
+    #[inline(always)]
+    fn turn_message(&mut self, left: usize, template: u32) -> bool {
+        let at = self.filled;
+        if self.limit - at < 2 {
+            return false;
+        }
+        let end = self.until.wrapping_sub(left as u64);
+        self.add(at, content(MESSAGE_END, 0, end, 0));
+        self.add(at + 1, content(MESSAGE_START, template, 0, 0));
+        true
     }
 }

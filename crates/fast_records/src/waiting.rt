@@ -3,22 +3,28 @@
 ghost use Rattle.std.specs.Prelude.{◌≡◌, [], ◌∷◌, ◌++◌, ◌==◌, ◌<◌, ◌+◌, length, OnOk, OnErr};
 ghost use Rattle.std.specs.Bool.{OnTrue, OnFalse};
 ghost use Rattle.fast_stream.specs.meaning.Handed.{event_data};
-ghost use Rattle.fast_decoder.specs.meaning.Recorded.{recorded_data};
 ghost use Rattle.fast_records.specs.device.Room.{SameBuffers, IsOpen, IsFull};
 ghost use Rattle.fast_records.specs.device.Waiting.{Moves};
-ghost use Rattle.fast_records.specs.meaning.Waiting.{pending};
+ghost use Rattle.fast_records.specs.meaning.Waiting.{pending, kept_data};
 
-use crate::records::{record_of, text_of};
+use crate::records::{ending_at, record_of, text_of};
 use crate::room::Room;
 use fast_decoder::{Event, Recorded, Stop};
 use std::alloc::Global;
 use std::collections::VecDeque;
 
+/// An event that was kept, and the value of its record if it is the end of a message.
+#[derive(Drop)]
+struct Kept {
+    event: Recorded,
+    value: u64,
+}
+
 /// Events for whose records a call had no room. The next call writes them first.
 #[derive(Drop)]
 pub struct Waiting {
     alloc: Global,
-    events: VecDeque<Recorded>,
+    events: VecDeque<Kept>,
 }
 
 impl Waiting {
@@ -46,15 +52,15 @@ impl Waiting {
         self.events.clear();
     }
 
-    /// Appends an event.
-    pub(crate) fn add(&mut self, event: Event<'_>) -> Result<(), Stop>
+    /// Appends an event, with the value of its record if it is the end of a message.
+    pub(crate) fn add(&mut self, event: Event<'_>, value: u64) -> Result<(), Stop>
         ensures ok { OnOk result (pending self.new ≡ pending self.old ++ event_data event.entry ∷ []) }
         ensures err { OnErr result (pending self.new ≡ pending self.old) }
     {
-        let Ok(kept) = Recorded::copy_of(self.alloc, event) else {
+        let Ok(event) = Recorded::copy_of(self.alloc, event) else {
             return Err(Stop);
         };
-        match self.events.push_back(kept) {
+        match self.events.push_back(Kept { event, value }) {
             Ok(()) => Ok(()),
             Err(_) => Err(Stop),
         }
@@ -62,10 +68,10 @@ impl Waiting {
 }
 
 /// Returns an event that was kept, with its string borrowed.
-fn lent(kept: &Recorded) -> Event<'_>
-    ensures { event_data result ≡ recorded_data kept.now }
+fn lent(kept: &Kept) -> Event<'_>
+    ensures { event_data result ≡ kept_data kept.now }
 {
-    match kept {
+    match &kept.event {
         Recorded::MessageStart { template } => Event::MessageStart {
             template: *template,
         },
@@ -98,7 +104,8 @@ fn hand_next(room: &mut Room<'_>, waiting: &mut Waiting) -> bool
         return false;
     };
     let event = lent(first);
-    if !room.put(record_of(event, room.used() as u64), text_of(event)) {
+    let next = ending_at(first.value, record_of(event, room.used() as u64));
+    if !room.put(next, text_of(event)) {
         return false;
     }
     let _ = waiting.events.pop_front();

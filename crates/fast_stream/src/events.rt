@@ -1,6 +1,7 @@
 //! The events that a decoder emits, and the sink that receives them.
 
-ghost use Rattle.std.specs.Prelude.{OnOk, OnErr};
+ghost use Rattle.std.specs.Prelude.{◌≡◌, OnOk, OnErr};
+ghost use Rattle.std.specs.Bool.{OnTrue, OnFalse};
 ghost use Rattle.fast_stream.specs.meaning.Handed.{event_data};
 
 use fast_value::Scalar;
@@ -60,7 +61,7 @@ impl Error for Stop {}
 
 /// Receives events, one after the other.
 pub trait Sink {
-    ghost use Rattle.fast_stream.specs.meaning.Events.{EventData};
+    ghost use Rattle.fast_stream.specs.meaning.Events.{EventData, MessageStart, MessageEnd};
 
     // Relates the old sink, an event and the new sink: `takes` if the sink accepts the event, `stops` if it stops at it.
     ghost takes: { Self → EventData → Self → Type 0 };
@@ -71,4 +72,27 @@ pub trait Sink {
     fn take(&mut self, event: Event<'_>) -> Result<(), Stop>
         ensures takes { OnOk result (takes self.old (event_data event.entry) self.new) }
         ensures stops { OnErr result (stops self.old (event_data event.entry) self.new) };
+
+    /// Receives the end of a message, as `take` does. `left` is the number of bytes of the piece after the message, for sinks that store
+    /// where messages end.
+    #[inline(always)]
+    fn end_message(&mut self, left: usize) -> Result<(), Stop>
+        ensures takes { OnOk result (takes self.old MessageEnd self.new) }
+        ensures stops { OnErr result (stops self.old MessageEnd self.new) }
+    {
+        let _ = left;
+        self.take(Event::MessageEnd)
+    }
+
+    /// Receives the end of a message and the start of the next in one call, or neither: `false` asks for a call for each.
+    #[inline(always)]
+    fn turn_message(&mut self, left: usize, template: u32) -> bool
+        ensures both { OnTrue result
+            ((between : Self) × takes self.old MessageEnd between × takes between (MessageStart template) self.new) }
+        ensures none { OnFalse result (self.new ≡ self.old) }
+    {
+        let _ = left;
+        let _ = template;
+        false
+    }
 }

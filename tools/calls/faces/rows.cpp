@@ -12,7 +12,7 @@
 
 // The checksum that docs/PERFORMANCE.md defines.
 struct sums : fast::visitor {
-    std::uint64_t events = 0, sum = 0xcbf29ce484222325, abandoned_at = UINT64_MAX;
+    std::uint64_t events = 0, sum = 0xcbf29ce484222325, abandoned_at = UINT64_MAX, end = 0;
 
     void add(std::uint64_t word) { sum = (sum ^ word) * 0x100000001b3; }
     void mark(std::uint32_t kind, std::uint32_t node = 0, std::uint64_t value = 0) {
@@ -43,7 +43,10 @@ struct sums : fast::visitor {
     void element_start() { mark(FAST_ELEMENT_START); }
     void element_end() { mark(FAST_ELEMENT_END); }
     void sequence_end() { mark(FAST_SEQUENCE_END); }
-    void message_end() { mark(FAST_MESSAGE_END); }
+    void message_end(std::uint64_t consumed) {
+        mark(FAST_MESSAGE_END);
+        end = consumed;
+    }
     void abandoned(fast::fault why) { abandoned_at = abandoned_at == UINT64_MAX ? why.place : 0; }
 };
 
@@ -64,6 +67,9 @@ static void run(fast::decoder &decoder, const std::vector<std::uint8_t> &bytes, 
     std::uint32_t status = FAST_DONE;
     for (std::size_t at = 0; at < bytes.size() && status == FAST_DONE; at += piece) {
         status = decode(decoder, bytes, at, std::min(piece, bytes.size() - at), to);
+        // A message ends at its last byte.
+        if (piece == 1 && to.end && to.end != decoder.consumed()) status = 1;
+        to.end = 0;
     }
     if (status != FAST_DONE && (decode(decoder, bytes, 0, 0, to) != status || to.abandoned_at != decoder.consumed())) status = 1;
     std::printf("%u %d %" PRIu64 " %" PRIu64 " %016" PRIx64 " %s\n", status, decoder.between(), decoder.consumed(), to.events, to.sum,

@@ -16,18 +16,20 @@ def words_of(kind, node, value):
         return [key + value[0], value[1]]
     if kind in (talvrugon.ASCII, talvrugon.UNICODE, talvrugon.BYTES):
         return [key + len(value), *(int.from_bytes(value[at : at + 8], "little") for at in range(0, len(value), 8))]
-    return [key + value]
+    return [key] if kind == talvrugon.MESSAGE_END else [key + value]
 
 
 class Sums:
-    """The number of events, and their checksum."""
+    """The number of events, their checksum, and the offset of the last end of a message."""
 
     def __init__(self):
-        self.events, self.sum = 0, BASIS
+        self.events, self.sum, self.end = 0, BASIS, 0
 
     def add(self, events):
         for event in events:
             self.events += 1
+            if event[0] == talvrugon.MESSAGE_END:
+                self.end = event[2]
             for word in words_of(*event):
                 self.sum = (self.sum ^ word & MASK) * PRIME & MASK
 
@@ -46,6 +48,10 @@ def run(decoder, stream, piece):
     to, status = Sums(), talvrugon.DONE
     for at in range(0, len(stream), piece):
         status = status or status_of(decoder, memoryview(stream)[at : at + piece], to)
+        # A message ends at its last byte.
+        if piece == 1 and to.end not in (0, decoder.consumed):
+            status = 1
+        to.end = 0
     if status and status_of(decoder, b"", to) != status:
         status = 1
     print(status, int(decoder.between), decoder.consumed, to.events, f"{to.sum:016x}", decoder.library.words(status) if status else "-")

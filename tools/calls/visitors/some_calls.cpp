@@ -16,6 +16,9 @@ struct all_by_a_template : fast::visitor {
     template <class T> void field(std::uint32_t node, T it) { std::printf("some %u %zu\n", node, sizeof it); }
     void field(std::uint32_t node, std::int64_t it) { std::printf("other %u %lld\n", node, static_cast<long long>(it)); }
 };
+struct ends_alone : fast::visitor {
+    void message_end(std::uint64_t consumed) { std::printf("end at %llu\n", static_cast<unsigned long long>(consumed)); }
+};
 struct not_derived {
     void message_start(std::uint32_t number) { std::printf("message %u\n", number); }
     void group_start(std::uint32_t) {}
@@ -30,7 +33,7 @@ struct not_derived {
 template <class V> static void show(V sees) {
     const std::uint64_t minus_five = static_cast<std::uint64_t>(-5);
     const fast_record records[] = {{FAST_MESSAGE_START, 2, 0, 0, 0}, {FAST_SIGNED, 3, minus_five, 0, 0}, {FAST_UNSIGNED, 4, 7, 0, 0},
-                                   {FAST_DECIMAL, 5, minus_five, 0, -2}, {FAST_MESSAGE_END, 0, 0, 0, 0}};
+                                   {FAST_DECIMAL, 5, minus_five, 0, -2}, {FAST_MESSAGE_END, 0, UINT64_C(1) << 32, 0, 0}};
     for (const auto &it : records) fast::visit(it, nullptr, sees);
 }
 
@@ -40,5 +43,6 @@ int main() {
     show(unsigned_alone{});
     show(signed_by_reference{});
     show(all_by_a_template{});
+    show(ends_alone{});
     show(not_derived{});
 }

@@ -53,7 +53,7 @@ fn line(set: &Set, event: Event<'_>, out: &mut Vec<u8>) -> io::Result<()> {
         Event::ElementStart => out.extend(b"element"),
         Event::ElementEnd => out.extend(b"end element"),
         Event::SequenceEnd => out.extend(b"end sequence"),
-        Event::MessageEnd => out.extend(b"end message"),
+        Event::MessageEnd { .. } => out.extend(b"end message"),
     }
     out.push(b'\n');
     Ok(())
@@ -84,7 +84,7 @@ fn again(set: &Set, stream: &[u8]) -> Result<ExitCode, Box<dyn Error>> {
     let (mut messages, mut open) = (Vec::new(), Records::default());
     decoder.feed(stream, |event| {
         open.push(event);
-        if event == Event::MessageEnd {
+        if matches!(event, Event::MessageEnd { .. }) {
             messages.push(std::mem::take(&mut open));
         }
     })?;

@@ -25,7 +25,8 @@ pub enum Event<'a> {
     ElementStart,
     ElementEnd,
     SequenceEnd,
-    MessageEnd,
+    /// The message ends after this number of bytes of the stream, counted since the decoder was made or reset. An encoder takes any.
+    MessageEnd { consumed: u64 },
 }
 
 /// Returns the event of a record.
@@ -48,7 +49,7 @@ pub(crate) fn event_of<'a>(record: &Record, texts: &'a [u8]) -> Event<'a> {
         11 => Event::ElementStart,
         12 => Event::ElementEnd,
         13 => Event::SequenceEnd,
-        _ => Event::MessageEnd,
+        _ => Event::MessageEnd { consumed: record.value },
     }
 }
 
@@ -74,7 +75,7 @@ pub(crate) fn record_of<'a>(event: Event<'a>, place: u64) -> (Record, &'a [u8]) 
         Event::ElementStart => (mark(11, 0, 0), &[]),
         Event::ElementEnd => (mark(12, 0, 0), &[]),
         Event::SequenceEnd => (mark(13, 0, 0), &[]),
-        Event::MessageEnd => (mark(14, 0, 0), &[]),
+        Event::MessageEnd { consumed } => (mark(14, 0, consumed), &[]),
     }
 }
 

@@ -80,7 +80,7 @@ impl Forms {
         let mut packer = Packer { forms: self, template: &message.template, above: Vec::new(), records: Records::default() };
         packer.records.push(Event::MessageStart { template: number as u32 });
         packer.fields(&self.templates[number].body, &message.fields)?;
-        packer.records.push(Event::MessageEnd);
+        packer.records.push(Event::MessageEnd { consumed: 0 });
         Ok(packer.records)
     }
 }

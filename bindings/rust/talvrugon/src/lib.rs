@@ -6,7 +6,7 @@
 //! let set = Set::read("[[template]] ..")?;
 //! let mut decoder = Decoder::new(&set, Limits::default())?;
 //! let mut messages = 0;
-//! decoder.feed(b"..", |event| messages += u64::from(event == Event::MessageEnd))?;
+//! decoder.feed(b"..", |event| messages += u64::from(matches!(event, Event::MessageEnd { .. })))?;
 //! # Ok::<(), talvrugon::Error>(())
 //! ```
 //!

@@ -109,7 +109,7 @@ impl Builder {
             Event::GroupEnd | Event::ElementEnd | Event::SequenceEnd => {
                 close(&self.forms, &mut self.open);
             }
-            Event::MessageEnd => {
+            Event::MessageEnd { .. } => {
                 if let Some(whole) = close(&self.forms, &mut self.open) {
                     give(whole);
                 }

@@ -81,7 +81,7 @@ fn limits() {
         message.push(Event::ElementEnd);
     }
     message.push(Event::SequenceEnd);
-    message.push(Event::MessageEnd);
+    message.push(Event::MessageEnd { consumed: 0 });
     for (max_elements, end) in [(299, Err(404)), (300, Ok(&elements))] {
         let mut encoder = Encoder::new(&set, Limits { max_elements, max_total: 301, ..Limits::default() }).unwrap();
         let mut out = Vec::new();
@@ -98,7 +98,7 @@ fn limits() {
         message.push(Event::ElementEnd);
         message.push(Event::SequenceEnd);
     }
-    message.push(Event::MessageEnd);
+    message.push(Event::MessageEnd { consumed: 0 });
     let one_each = Limits { max_elements: 1, max_total: 2, ..Limits::default() };
     Encoder::new(&pair.unwrap(), one_each).unwrap().encode(&message, &mut Vec::new()).unwrap();
     let most = 1 << 20;
@@ -109,7 +109,7 @@ fn limits() {
         Event::MessageStart { template: 0 },
         Event::Field { node: 0, value: Value::Unsigned(5) },
         Event::Field { node: 1, value: Value::Bytes(&text) },
-        Event::MessageEnd,
+        Event::MessageEnd { consumed: 0 },
     ] {
         message.push(event);
     }
@@ -144,7 +144,7 @@ fn messages() {
     open.push(Event::Field { node: 0, value: Value::Unsigned(5) });
     assert_eq!(encoder.encode(&open, &mut out), Err(Error { status: 5, place: 2 }));
     open.push(Event::Field { node: 1, value: Value::Bytes(b"abc") });
-    open.push(Event::MessageEnd);
+    open.push(Event::MessageEnd { consumed: 0 });
     assert_eq!(out, b"kept");
     encoder.encode(&open, &mut out).unwrap();
     encoder.reset();

@@ -60,7 +60,7 @@ fn all_is_freed() {
     let with_long = LIVE.get();
     let mut encoder = Encoder::new(&Set::read(SET).unwrap(), Limits { max_text: 1 << 20, ..Limits::default() }).unwrap();
     let (mut message, mut out) = (Records::default(), Vec::new());
-    for event in [Event::MessageStart { template: 0 }, Event::Field { node: 0, value: Value::Bytes(&long) }, Event::MessageEnd] {
+    for event in [Event::MessageStart { template: 0 }, Event::Field { node: 0, value: Value::Bytes(&long) }, Event::MessageEnd { consumed: 0 }] {
         message.push(event);
     }
     encoder.encode(&message, &mut out).unwrap();

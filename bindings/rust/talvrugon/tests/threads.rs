@@ -51,7 +51,7 @@ fn threads_share_a_set() {
             let mut message = Records::default();
             message.push(Event::MessageStart { template: 0 });
             message.push(Event::Field { node: 0, value: Value::Unsigned(number as u64) });
-            message.push(Event::MessageEnd);
+            message.push(Event::MessageEnd { consumed: 0 });
             to.send((Encoder::new(&set, Limits::default()).unwrap(), message, set.node_name(0))).unwrap();
         });
     }

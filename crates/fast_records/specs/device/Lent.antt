@@ -4,7 +4,7 @@ use Rattle.std.specs.Int.{w64, cast_signed}
 use Rattle.fast_value.specs.meaning.Kinds.{U, I, Dec, AsciiText, UnicodeText, ByteVector}
 use Rattle.fast_stream.specs.meaning.Events.{EventData, MessageStart, FieldValue, GroupStart, GroupEnd, SequenceStart, ElementStart, ElementEnd, SequenceEnd, MessageEnd}
 use Rattle.fast_records.specs.declared.records.Record.{Record}
-use Rattle.fast_records.specs.meaning.Records.{text_record, record_of, event_text}
+use Rattle.fast_records.specs.meaning.Records.{text_record, record_of, unplaced, event_text}
 use Rattle.fast_records.specs.meaning.Lent.{IsHeld}
 
 -- the event of this kind that has the content of a record, and this text
@@ -35,7 +35,7 @@ content kind node value exponent = record { kind = kind; node = node; value = va
 
 -- The event is of this record, wherever a text would begin: it has none.
 pub record IsMark (r : Record) (e : EventData) : Type 0 where
-  pub record_is : (place : ℕ) → r ≡ record_of place e
+  pub record_is : (place : ℕ) → unplaced r ≡ record_of place e
   pub text_is : event_text e ≡ []
   pub held : IsHeld e
 
@@ -47,7 +47,7 @@ pub record IsTextOf (kind node : ℕ) (text : List ℕ) (e : EventData) : Type 0
 
 -- The event is of this record, with this text.
 pub record IsOf (r : Record) (text : List ℕ) (e : EventData) : Type 0 where
-  pub record_is : r ≡ record_of r.value e
+  pub record_is : unplaced r ≡ record_of r.value e
   pub text_is : event_text e ≡ text
   pub held : IsHeld e
 

@@ -1,5 +1,5 @@
 -- Which records stand for events, and which bytes for their texts.
-use Rattle.std.specs.Prelude.{◌≡◌, ℕ, ◌+◌, min, List, [], ◌∷◌, length, flat_map, pos}
+use Rattle.std.specs.Prelude.{◌≡◌, ℕ, ◌+◌, min, if◌then◌else◌, nat_eq, List, [], ◌∷◌, length, map, flat_map, pos}
 use Rattle.std.specs.Int.{w64, cast_unsigned}
 use Rattle.fast_value.specs.meaning.Kinds.{ScalarData, U, I, Dec, AsciiText, UnicodeText, ByteVector, text_of}
 use Rattle.fast_stream.specs.meaning.Events.{EventData, MessageStart, FieldValue, GroupStart, GroupEnd, SequenceStart, ElementStart, ElementEnd, SequenceEnd, MessageEnd}
@@ -48,7 +48,15 @@ abbrev pub records_of : ℕ → List EventData → List Record
 records_of place [] = []
 records_of place (e ∷ es) = record_of place e ∷ records_of (place + length (event_text e)) es
 
--- These records and texts are those of the events.
+-- the record with this value, if it is of the end of a message
+abbrev pub ending_at : ℕ → Record → Record
+ending_at n r = if nat_eq r.kind 14 then record { kind = r.kind; node = r.node; value = n; length = r.length; exponent = r.exponent } else r
+
+-- the record without the offset at which its message ends, which is no part of the event
+abbrev pub unplaced : Record → Record
+unplaced r = ending_at 0 r
+
+-- These records and texts are those of the events, whatever the offsets at which messages end.
 pub record AreRecordsOf (es : List EventData) (records : List Record) (texts : List ℕ) : Type 0 where
-  pub records_are : records ≡ records_of 0 es
+  pub records_are : map unplaced records ≡ records_of 0 es
   pub texts_are : texts ≡ texts_of es

@@ -23,15 +23,15 @@ module _ (c : goal.After-outcome_of) (same : IsSameSink c.new-sink.result c.feed
   room : (c.filled-filled.result ≤ length c.records-1.given.0) × (c.used.result ≤ length c.texts-1.given.0)
   room = room_by c.feed-answer.new.sink c.records-1.given.0 c.texts-1.given.0 c.filled-filled.result c.used.result records_back texts_back c.filled-filled.ensures c.used.ensures.used
 
-within : (c : goal.After-outcome_of) → c.min.result ≤ length c.args.piece.now
-within c = omega (arith, c.min.ensures)
+within : (c : goal.After-outcome_of) → c.fed_at_once.result ≤ length c.args.piece.now
+within c = c.fed_at_once.ensures.within
 
 pub returns-clause-delivers : goal.returns-clause-delivers
 returns-clause-delivers c w es so =
-    let old = c.args.decoder.now in let s' = c.feed-answer.new.sink in let fed = c.feed-answer.ensures in let left = c.left-left.ensures in
+    let old = c.args.decoder.now in let s' = c.feed-answer.new.sink in let fed = c.feed-answer.ensures in let left = c.left.ensures in
     let x = listed old c.feed-answer.new.self w es _ (pending c.args.waiting.now) c.new-sink.result s' c.new-sink.ensures.shows fed.same_set.0 fed.same_set.1 c.feed-answer.result (fed.carried w es so) (fed.followed w es so) in
-    delivers_by (tree old) old.limits w es c.args.piece.now _ c.min.result (pending c.args.waiting.now) c.feed-answer.result c.feed-answer.new.self c.new-sink.result s' c.records-1.given.0 c.texts-1.given.0 c.waiting-1.given.0 c.filled-filled.result c.used.result
-    (grind (arith, common_steps)) (within c) x fed.answer (records_back c x.same) (texts_back c x.same) (waiting_back c x.same) c.filled-filled.ensures c.used.ensures.used c.new-sink.ensures.shows (λ some. omega (arith, some, c.min.ensures, left))
+    delivers_by (tree old) old.limits w es c.args.piece.now _ c.fed_at_once.result (pending c.args.waiting.now) c.feed-answer.result c.feed-answer.new.self c.new-sink.result s' c.records-1.given.0 c.texts-1.given.0 c.waiting-1.given.0 c.filled-filled.result c.used.result
+    (grind (arith, common_steps)) (within c) x fed.answer (records_back c x.same) (texts_back c x.same) (waiting_back c x.same) c.filled-filled.ensures c.used.ensures.used c.new-sink.ensures.shows (λ some. let half = c.fed_at_once.ensures.half in omega (arith, some, half, left))
 
 pub returns-clause-room : goal.returns-clause-room
 returns-clause-room c w es so =
@@ -53,21 +53,24 @@ returns-clause-outcome c w es so =
 
 pub returns-clause-progress : goal.returns-clause-progress
 returns-clause-progress c w es so no_room =
-    let old = c.args.decoder.now in let s = c.new-sink.result in let s' = c.feed-answer.new.sink in let fed = c.feed-answer.ensures in let left = c.left-left.ensures in
+    let old = c.args.decoder.now in let s = c.new-sink.result in let s' = c.feed-answer.new.sink in let fed = c.feed-answer.ensures in let left = c.left.ensures in
     let x = listed old c.feed-answer.new.self w es _ (pending c.args.waiting.now) s s' c.new-sink.ensures.shows fed.same_set.0 fed.same_set.1 c.feed-answer.result (fed.carried w es so) (fed.followed w es so) in
     let outcome = outcome_by c.outcome_of.result c.waits.result c.is_nothing.result _ _ c.feed-answer.result c.feed-answer.new.self c.waiting-1.given.0 s'.waiting.now c.outcome_of.ensures c.waits.ensures (waiting_back c x.same) fed.answer c.is_nothing.ensures in
     progress_by s s' (pending c.args.waiting.now) x.more c.records-1.given.0 c.texts-1.given.0 c.waiting-1.given.0 c.filled-filled.result c.used.result (c.consumed.result - c.consumed-before.result) (length c.args.piece.now) c.feed-answer.new.self
     c.outcome_of.result c.new-sink.ensures.shows x.shows x.same x.grows (records_back c x.same) (texts_back c x.same) (waiting_back c x.same) c.filled-filled.ensures c.used.ensures.used outcome no_room
     (λ none zero some.
-    let whole = consumed_by old c.feed-answer.new.self w es c.args.piece.now _ c.min.result (pending c.args.waiting.now) c.feed-answer.result s s' (grind (arith, common_steps)) (within c) so x fed.answer fed.stopped none in
-    omega (arith, whole, c.consumed.ensures, c.consumed-before.ensures, c.min.ensures, left, zero, some))
+    let whole = consumed_by old c.feed-answer.new.self w es c.args.piece.now _ c.fed_at_once.result (pending c.args.waiting.now) c.feed-answer.result s s' (grind (arith, common_steps)) (within c) so x fed.answer fed.stopped none in
+    let none_fed : c.fed_at_once.result ≡ 0 = omega (arith, whole, c.consumed.ensures, c.consumed-before.ensures, zero) in
+    let free = c.fed_at_once.ensures.all (omega (arith, none_fed, some)) in
+    omega (arith, none_fed, free, left))
 
 pub returns-clause-few : goal.returns-clause-few
 returns-clause-few c w es so =
-    let old = c.args.decoder.now in let s = c.new-sink.result in let s' = c.feed-answer.new.sink in let fed = c.feed-answer.ensures in let left = c.left-left.ensures in
+    let old = c.args.decoder.now in let s = c.new-sink.result in let s' = c.feed-answer.new.sink in let fed = c.feed-answer.ensures in let left = c.left.ensures in
     let x = listed old c.feed-answer.new.self w es _ (pending c.args.waiting.now) s s' c.new-sink.ensures.shows fed.same_set.0 fed.same_set.1 c.feed-answer.result (fed.carried w es so) (fed.followed w es so) in
-    let most = few_by old c.feed-answer.new.self c.args.piece.now _ c.min.result (grind (arith, common_steps)) (within c) fed.consumed in
-    omega (arith, most, c.consumed.ensures, c.consumed-before.ensures, c.min.ensures, left, s.limit_within, x.same.long, ap length (records_back c x.same))
+    let most = few_by old c.feed-answer.new.self c.args.piece.now _ c.fed_at_once.result (grind (arith, common_steps)) (within c) fed.consumed in
+    let half = c.fed_at_once.ensures.half in
+    omega (arith, most, c.consumed.ensures, c.consumed-before.ensures, half, left, s.limit_within, x.same.long, ap length (records_back c x.same))
 
 nothing_taken : (c : goal.After-outcome_of) → account c.feed-answer.new.self ≡ account c.args.decoder.now → c.consumed.result - c.consumed-before.result ≡ 0
 nothing_taken c told = let count = ap (λ (a : Account). a.consumed) told in omega (arith, c.consumed.ensures, c.consumed-before.ensures, count)

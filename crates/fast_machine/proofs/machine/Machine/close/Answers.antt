@@ -12,22 +12,22 @@ use Rattle.fast_machine.proofs.steps.SegmentTurns.{message_end, turn_halt, turn_
 use Rattle.fast_machine.proofs.steps.TurnCounts.{fault_turns, turns_taken}
 use Rattle.fast_machine.proofs.machine.Machine.close.Goals as goal
 
-pub returns-in_err-hand-clause-turn : goal.returns-in_err-hand-clause-turn
-returns-in_err-hand-clause-turn g c =
+pub returns-in_err-hand_end-clause-turn : goal.returns-in_err-hand_end-clause-turn
+returns-in_err-hand_end-clause-turn g c =
     let m = c.args.self.now in
     let set = set_of c.args.templates.now in
     let outermost : m.cursor.frames ≡ [] = search rules in
     let r = err_from_is_err_and c.from_residual.result c.from_residual.ensures.1 in
-    rw (r.1, r.2) (turn_halt g.S.Sink.takes g.S.Sink.stops set c.args.limits (turning set c.args.limits m) (Done (slots_dictionary m.slots)) MessageEnd c.args.sink.now c.in_err-hand.field-0.0 c.hand.new.sink m
-    (message_end set c.args.limits m c.requires.end outermost) c.in_err-hand.ensures c.requires.turn.supplied)
+    rw (r.1, r.2) (turn_halt g.S.Sink.takes g.S.Sink.stops set c.args.limits (turning set c.args.limits m) (Done (slots_dictionary m.slots)) MessageEnd c.args.sink.now c.in_err-hand_end.field-0.0 c.hand_end.new.sink m
+    (message_end set c.args.limits m c.requires.end outermost) c.in_err-hand_end.ensures c.requires.turn.supplied)
 
 pub returns-then-is_outermost-clause-turn : goal.returns-then-is_outermost-clause-turn
 returns-then-is_outermost-clause-turn g c =
     let m = c.args.self.now in
     let set = set_of c.args.templates.now in
     let outermost : m.cursor.frames ≡ [] = search rules in
-    turn_end g.S.Sink.takes g.S.Sink.stops set c.args.limits (turning set c.args.limits m) c.args.sink.now c.hand.new.sink m c.clear_map.new.self c.requires.turn c.requires.end outermost c.clear_map.ensures
-    (message_end set c.args.limits m c.requires.end outermost) c.in_ok-hand.ensures
+    turn_end g.S.Sink.takes g.S.Sink.stops set c.args.limits (turning set c.args.limits m) c.args.sink.now c.hand_end.new.sink m c.clear_map.new.self c.requires.turn c.requires.end outermost c.clear_map.ensures
+    (message_end set c.args.limits m c.requires.end outermost) c.in_ok-hand_end.ensures
 
 pub returns-clause-turn : goal.returns-clause-turn
 returns-clause-turn g c =
@@ -50,13 +50,13 @@ returns-clause-turns g c way n h =
 pub leave_segment-begun-requires-clause-turn : goal.leave_segment-begun-requires-clause-turn
 leave_segment-begun-requires-clause-turn g c = subst (λ (x : CursorData). CanTurn (set_of c.args.templates.now) c.args.limits (record c.args.self.now { cursor = x })) (sym c.place-place.ensures.same) c.requires.turn
 
-pub returns-in_err-hand-clause-on : goal.returns-in_err-hand-clause-on
-returns-in_err-hand-clause-on g c i =
+pub returns-in_err-hand_end-clause-on : goal.returns-in_err-hand_end-clause-on
+returns-in_err-hand_end-clause-on g c i =
     let r = err_from_is_err_and c.from_residual.result c.from_residual.ensures.1 in
     absurd (let k = sym r.1 ∙ i in cc k)
 
-pub returns-in_err-hand-clause-turns : goal.returns-in_err-hand-clause-turns
-returns-in_err-hand-clause-turns g c way n h =
+pub returns-in_err-hand_end-clause-turns : goal.returns-in_err-hand_end-clause-turns
+returns-in_err-hand_end-clause-turns g c way n h =
     let m = c.args.self.now in
     let r = err_from_is_err_and c.from_residual.result c.from_residual.ensures.1 in
     fault_turns way (set_of c.args.templates.now) c.args.limits n m m c.from_residual.result r.0 r.1 refl h

@@ -1,4 +1,5 @@
-use Rattle.std.proofs.Common.{rules, ◌≡◌, [], length, refl, sym, subst, ◌∙◌, OnOk}
+use Rattle.std.proofs.Common.{rules, ◌≡◌, [], length, refl, ap, sym, subst, ◌∙◌, OnOk}
+use Rattle.fast_records.specs.meaning.Records.{unplaced}
 use Rattle.fast_stream.specs.meaning.Events.{EventData}
 use Rattle.fast_records.specs.device.Lent.{content, event_back}
 use Rattle.fast_records.specs.device.Room.{texts_in}
@@ -14,7 +15,7 @@ returns-then-put-clause-ok c e h =
     record {
       same = c.put.ensures.same;
       grows = c.if-put.ensures.put.grows;
-      shows = shows_put c.args.self.now c.put.new.self e place c.content-next.result [] refl (next ∙ h.record_is place) (sym h.text_is) c.if-put.ensures.put c.put.ensures.waiting;
+      shows = shows_put c.args.self.now c.put.new.self e place c.content-next.result [] refl (ap unplaced next ∙ h.record_is place) (sym h.text_is) c.if-put.ensures.put c.put.ensures.waiting;
     }
 
 pub returns-clause-ok : goal.returns-clause-ok
