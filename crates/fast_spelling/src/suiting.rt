@@ -11,6 +11,7 @@ ghost use Rattle.fast_tree.specs.meaning.Nodes.{body_among};
 ghost use Rattle.fast_spelling.specs.device.Nodes.{instruction_in};
 ghost use Rattle.fast_spelling.specs.meaning.Suiting.{IsRight, AreRight, Suits, SuitsBody};
 
+use fast_dict::operators;
 use fast_template::{Shape, Templates};
 use fast_value::{Item, Kind, Value};
 
@@ -166,9 +167,9 @@ fn is_long_ascii(text: &[u8]) -> bool
     text.is_ascii()
 }
 
-/// Returns whether a string is valid UTF-8.
+/// Returns whether a string is valid UTF-8, by the check that the decoder uses.
 fn is_utf8(text: &[u8]) -> bool
     ensures { IsTrue result ↔ IsUtf8 text.now }
 {
-    str::from_utf8(text).is_ok()
+    operators::is_utf8(text)
 }
