@@ -151,6 +151,7 @@ pub fn is_decimal(kind: Kind, exponent: i32, mantissa: i64) -> bool
 }
 
 /// Returns whether a string has only characters below U+0080. A single character, the most frequent case, is checked directly.
+#[inline(always)]
 fn is_ascii(text: &[u8]) -> bool
     ensures { IsTrue result ↔ All (λ c. c < 128) text.now }
 {
