@@ -257,8 +257,21 @@ impl Entry {
     }
 }
 
-/// Replaces the bytes of a string.
+/// Replaces the bytes of a string. The code for a single character is inlined.
+#[inline(always)]
 fn write_over(text: &mut Vec<u8>, bytes: &[u8]) -> Result<(), AllocError>
+    ensures ok { OnOk result (text.new.items ≡ bytes.now) }
+    ensures short { (m : ℕ) → length bytes.now ≤ m → length text.new.items ≤ m }
+{
+    if bytes.len() == 1 && text.len() == 1 {
+        text[0] = bytes[0];
+        return Ok(());
+    }
+    write_long_over(text, bytes)
+}
+
+/// Replaces the bytes of a string by a string of any length.
+fn write_long_over(text: &mut Vec<u8>, bytes: &[u8]) -> Result<(), AllocError>
     ensures ok { OnOk result (text.new.items ≡ bytes.now) }
     ensures short { (m : ℕ) → length bytes.now ≤ m → length text.new.items ≤ m }
 {

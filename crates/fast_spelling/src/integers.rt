@@ -1,4 +1,7 @@
-//! Integers in their shortest encoding. Up to five bytes are written directly, longer ones through an array.
+//! Integers in their shortest encoding. Up to five bytes, and up to eight of unsigned integers, are written directly, longer ones through an
+//! array.
+
+mod long;
 
 ghost use Rattle.std.specs.Prelude.{◌++◌, ◌∷◌, [], ◌≡◌, ◌<◌, ◌≤◌, ◌+◌, ◌-◌, ◌*◌, ◌^◌, ◌<ℤ◌, ◌≤ℤ◌, ◌-ℤ◌, neg_ℤ, Some, pos, negsuc, true, false, OnOk};
 ghost use Rattle.fast_wire.specs.meaning.Integers.{signed_range, IsWithin, Means};
@@ -6,7 +9,7 @@ ghost use Rattle.fast_wire.specs.meaning.Shortest.{IsShortest};
 ghost use Rattle.fast_spelling.specs.device.Drafts.{Adds};
 ghost use Rattle.fast_spelling.specs.device.Groups.{IsGroups, IsLeast};
 
-use fast_wire::{write_nullable_signed, write_nullable_unsigned, write_signed, write_unsigned};
+use long::{long_groups, push_long_groups, write_huge_unsigned, write_long_signed};
 use std::alloc::AllocError;
 
 /// The spare capacity, in bytes, that is enough to append such an integer.
@@ -16,6 +19,12 @@ const ROOM: usize = 5;
 const LONG_UNSIGNED: u64 = (1 << 35) - 1;
 
 const LONG_NUMBER: u64 = (1 << 34) - 1;
+
+/// The least number of more than five groups of seven bits.
+const LONG_SUM: u64 = 1 << 35;
+
+/// The least unsigned integer whose nullable form has more than eight bytes.
+const HUGE_UNSIGNED: u64 = (1 << 56) - 1;
 
 /// The least complement (`-1 - number`) of a negative integer that has more than five bytes.
 const LONG_COMPLEMENT: u64 = 1 << 34;
@@ -165,7 +174,7 @@ pub fn write_signed_as(bytes: &mut Vec<u8>, nullable: bool, number: i128) -> Res
 /// Returns the number that the stream has for a non-negative integer: one more if the field is nullable.
 #[inline(always)]
 fn raised(nullable: bool, number: u64) -> u64
-    requires { number < 2 ^ 35 }
+    requires { number < 2 ^ 56 }
     ensures meaning { Means nullable (pos result) (Some (pos number)) }
     ensures small { result ≤ number + 1 }
 {
@@ -356,29 +365,17 @@ fn push_five(bytes: &mut Vec<u8>, number: u64) -> Result<(), AllocError>
     Ok(())
 }
 
-/// Writes an unsigned integer of any length.
-#[cold]
+/// Writes an unsigned integer of more than five bytes, or one for which the vector may have to grow.
+#[inline(never)]
 fn write_long_unsigned(bytes: &mut Vec<u8>, nullable: bool, number: u64) -> Result<(), AllocError>
     ensures { OnOk result (Adds (IsShortest false nullable (Some (pos number))) bytes.old.items bytes.new.items) }
 {
-    let entity = if nullable {
-        write_nullable_unsigned(Some(number))
-    } else {
-        write_unsigned(number)
-    };
-    bytes.extend_from_slice(entity.as_slice())
-}
-
-/// Writes a signed integer of any length.
-#[cold]
-fn write_long_signed(bytes: &mut Vec<u8>, nullable: bool, number: i128) -> Result<(), AllocError>
-    requires { IsWithin (signed_range 68) number }
-    ensures { OnOk result (Adds (IsShortest true nullable (Some number)) bytes.old.items bytes.new.items) }
-{
-    let entity = if nullable {
-        write_nullable_signed(Some(number))
-    } else {
-        write_signed(number)
-    };
-    bytes.extend_from_slice(entity.as_slice())
+    if number >= HUGE_UNSIGNED {
+        return write_huge_unsigned(bytes, nullable, number);
+    }
+    let sent = raised(nullable, number);
+    if sent < LONG_SUM {
+        return push_groups(bytes, sent, groups(sent));
+    }
+    push_long_groups(bytes, sent, long_groups(sent))
 }

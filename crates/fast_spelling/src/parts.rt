@@ -19,8 +19,9 @@ use crate::draft::Draft;
 use crate::faults::EncodeFault;
 use crate::fields::write_field;
 use crate::ledger::Ledger;
+use crate::quick::{write_exponent, write_mantissa};
 use fast_template::{FieldInstruction, Shape, Templates};
-use fast_value::{Limits, Scalar, Value};
+use fast_value::{Limits, Value};
 
 /// Writes a decimal by parts: its exponent, and then its mantissa.
 #[inline(always)]
@@ -48,8 +49,8 @@ pub fn write_decimal(
             exponent: e,
             mantissa: m,
         } => {
-            write_field(draft, ledger, exponent, Some(Scalar::I(i64::from(*e))))?;
-            write_field(draft, ledger, mantissa, Some(Scalar::I(*m)))
+            write_exponent(draft, ledger, exponent, i64::from(*e))?;
+            write_mantissa(draft, ledger, mantissa, *m)
         }
         _ => Err(EncodeFault::E3),
     }

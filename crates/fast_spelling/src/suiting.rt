@@ -11,6 +11,7 @@ ghost use Rattle.fast_tree.specs.meaning.Nodes.{body_among};
 ghost use Rattle.fast_spelling.specs.device.Nodes.{instruction_in};
 ghost use Rattle.fast_spelling.specs.meaning.Suiting.{IsRight, AreRight, Suits, SuitsBody};
 
+use fast_dict::operators;
 use fast_template::{Shape, Templates};
 use fast_value::{Item, Kind, Value};
 
@@ -150,6 +151,7 @@ pub fn is_decimal(kind: Kind, exponent: i32, mantissa: i64) -> bool
 }
 
 /// Returns whether a string has only characters below U+0080. A single character, the most frequent case, is checked directly.
+#[inline(always)]
 fn is_ascii(text: &[u8]) -> bool
     ensures { IsTrue result ↔ All (λ c. c < 128) text.now }
 {
@@ -166,9 +168,9 @@ fn is_long_ascii(text: &[u8]) -> bool
     text.is_ascii()
 }
 
-/// Returns whether a string is valid UTF-8.
+/// Returns whether a string is valid UTF-8, by the check that the decoder uses.
 fn is_utf8(text: &[u8]) -> bool
     ensures { IsTrue result ↔ IsUtf8 text.now }
 {
-    str::from_utf8(text).is_ok()
+    operators::is_utf8(text)
 }

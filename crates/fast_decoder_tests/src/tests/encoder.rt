@@ -13,6 +13,7 @@
 
 mod back;
 mod growths;
+mod lengths;
 mod limits;
 mod messages;
 mod operators;

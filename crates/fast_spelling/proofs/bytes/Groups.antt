@@ -59,8 +59,47 @@ five n h = record {
   value = omega (arith, h);
 }
 
+pub six : (n : ℕ) → n < 2 ^ 42 → IsGroups n 6 (n / 34359738368 % 128 ∷ n / 268435456 % 128 ∷ n / 2097152 % 128 ∷ n / 16384 % 128 ∷ n / 128 % 128 ∷ (n % 128 + 128) ∷ [])
+six n h = record {
+  entity = (
+    n / 34359738368 % 128 ∷ n / 268435456 % 128 ∷ n / 2097152 % 128 ∷ n / 16384 % 128 ∷ n / 128 % 128 ∷ [],
+    n % 128 + 128,
+    refl,
+    more_stop (n / 34359738368 % 128) (n / 268435456 % 128 ∷ n / 2097152 % 128 ∷ n / 16384 % 128 ∷ n / 128 % 128 ∷ []) (omega arith) (more_stop (n / 268435456 % 128) (n / 2097152 % 128 ∷ n / 16384 % 128 ∷ n / 128 % 128 ∷ []) (omega arith) (more_stop (n / 2097152 % 128) (n / 16384 % 128 ∷ n / 128 % 128 ∷ []) (omega arith) (more_stop (n / 16384 % 128) (n / 128 % 128 ∷ []) (omega arith) (more_stop (n / 128 % 128) [] (omega arith) none_stop)))),
+    omega arith,
+  );
+  count = refl;
+  value = omega (arith, h);
+}
+
+pub seven : (n : ℕ) → n < 2 ^ 49 → IsGroups n 7 (n / 4398046511104 % 128 ∷ n / 34359738368 % 128 ∷ n / 268435456 % 128 ∷ n / 2097152 % 128 ∷ n / 16384 % 128 ∷ n / 128 % 128 ∷ (n % 128 + 128) ∷ [])
+seven n h = record {
+  entity = (
+    n / 4398046511104 % 128 ∷ n / 34359738368 % 128 ∷ n / 268435456 % 128 ∷ n / 2097152 % 128 ∷ n / 16384 % 128 ∷ n / 128 % 128 ∷ [],
+    n % 128 + 128,
+    refl,
+    more_stop (n / 4398046511104 % 128) (n / 34359738368 % 128 ∷ n / 268435456 % 128 ∷ n / 2097152 % 128 ∷ n / 16384 % 128 ∷ n / 128 % 128 ∷ []) (omega arith) (more_stop (n / 34359738368 % 128) (n / 268435456 % 128 ∷ n / 2097152 % 128 ∷ n / 16384 % 128 ∷ n / 128 % 128 ∷ []) (omega arith) (more_stop (n / 268435456 % 128) (n / 2097152 % 128 ∷ n / 16384 % 128 ∷ n / 128 % 128 ∷ []) (omega arith) (more_stop (n / 2097152 % 128) (n / 16384 % 128 ∷ n / 128 % 128 ∷ []) (omega arith) (more_stop (n / 16384 % 128) (n / 128 % 128 ∷ []) (omega arith) (more_stop (n / 128 % 128) [] (omega arith) none_stop))))),
+    omega arith,
+  );
+  count = refl;
+  value = omega (arith, h);
+}
+
+pub eight : (n : ℕ) → n < 2 ^ 56 → IsGroups n 8 (n / 562949953421312 % 128 ∷ n / 4398046511104 % 128 ∷ n / 34359738368 % 128 ∷ n / 268435456 % 128 ∷ n / 2097152 % 128 ∷ n / 16384 % 128 ∷ n / 128 % 128 ∷ (n % 128 + 128) ∷ [])
+eight n h = record {
+  entity = (
+    n / 562949953421312 % 128 ∷ n / 4398046511104 % 128 ∷ n / 34359738368 % 128 ∷ n / 268435456 % 128 ∷ n / 2097152 % 128 ∷ n / 16384 % 128 ∷ n / 128 % 128 ∷ [],
+    n % 128 + 128,
+    refl,
+    more_stop (n / 562949953421312 % 128) (n / 4398046511104 % 128 ∷ n / 34359738368 % 128 ∷ n / 268435456 % 128 ∷ n / 2097152 % 128 ∷ n / 16384 % 128 ∷ n / 128 % 128 ∷ []) (omega arith) (more_stop (n / 4398046511104 % 128) (n / 34359738368 % 128 ∷ n / 268435456 % 128 ∷ n / 2097152 % 128 ∷ n / 16384 % 128 ∷ n / 128 % 128 ∷ []) (omega arith) (more_stop (n / 34359738368 % 128) (n / 268435456 % 128 ∷ n / 2097152 % 128 ∷ n / 16384 % 128 ∷ n / 128 % 128 ∷ []) (omega arith) (more_stop (n / 268435456 % 128) (n / 2097152 % 128 ∷ n / 16384 % 128 ∷ n / 128 % 128 ∷ []) (omega arith) (more_stop (n / 2097152 % 128) (n / 16384 % 128 ∷ n / 128 % 128 ∷ []) (omega arith) (more_stop (n / 16384 % 128) (n / 128 % 128 ∷ []) (omega arith) (more_stop (n / 128 % 128) [] (omega arith) none_stop)))))),
+    omega arith,
+  );
+  count = refl;
+  value = omega (arith, h);
+}
+
 -- An unsigned integer in as many groups as it takes.
-pub unsigned_means : (nullable : Bool) (n sent len : ℕ) (w : List ℕ) → IsGroups sent len w → len ≤ 5 → (1 < len → 2 ^ (7 * (len - 1)) ≤ sent) → Means nullable (pos sent) (Some (pos n)) → IsShortest false nullable (Some (pos n)) w
+pub unsigned_means : (nullable : Bool) (n sent len : ℕ) (w : List ℕ) → IsGroups sent len w → len ≤ 8 → (1 < len → 2 ^ (7 * (len - 1)) ≤ sent) → Means nullable (pos sent) (Some (pos n)) → IsShortest false nullable (Some (pos n)) w
 unsigned_means nullable n sent len w h few full means range is fits =
     let no : IsOverlong (λ v. pos (number v)) w → ⊥ = full_unsigned w (λ g. rw (h.count, h.value) (full (rw h.count at g))) in
     record {
