@@ -8,8 +8,8 @@ ghost use Rattle.fast_stream.specs.meaning.Events.{MessageStart, MessageEnd};
 ghost use Rattle.fast_stream.specs.device.GrammarReaders.{reader_of};
 ghost use Rattle.fast_cursor.specs.device.Cursors.{resting};
 ghost use Rattle.fast_cursor.specs.device.Places.{place_left, at_place, IsPlaceOf};
-ghost use Rattle.fast_machine.specs.device.Positions.{placed, set_of, tree_in, IsBehindMap, IsStartIn, IsSupplied, IsTurn, CanTurn};
-ghost use Rattle.fast_loop.specs.device.Arms.{HasWent, IsAtEnd, begun_by};
+ghost use Rattle.fast_machine.specs.device.Positions.{placed, set_of, tree_in, IsBehindMap, IsStartIn, IsTurn, CanTurn};
+ghost use Rattle.fast_loop.specs.device.Arms.{HasWent, begun_by};
 ghost use Rattle.fast_machine.specs.device.Starts.{message_from, mapped_by, IsMessageAhead};
 ghost use Rattle.fast_machine.specs.device.TurnsLeft.{Way, most_by, HasTurnsBehind};
 ghost use Rattle.fast_machine.specs.declared.machine.Machine.{Machine};
@@ -46,51 +46,70 @@ pub fn message_arm<'t, S: Sink>(
         spot.new }
 {
     if let Some(start) = machine.message_again(templates, limits, spot.rest) {
-        return start_arm(machine, templates, limits, start, 1, spot, sink);
-    }
-    if let Some((bytes, start)) = machine.next_message(templates, limits, spot.rest) {
-        return start_arm(machine, templates, limits, start, bytes, spot, sink);
+        return start_arm(machine, templates, limits, start, spot, sink);
     }
     if let Err(_) = hand_end(sink, spot.rest.len()) {
         return Went::Stopped;
     }
-    no_message(machine, spot)
+    other_arm(machine, templates, limits, spot, sink)
 }
 
-/// Ends the message and begins the next one, whose instructions begin after this number of bytes: with both events at once, if the sink
-/// accepts them so.
+/// Ends the message, and begins the next one of the same template, whose map is one byte: with both events at once, if the sink accepts
+/// them so.
 #[inline(always)]
 fn start_arm<'t, S: Sink>(
     machine: &mut Machine<'t>,
     templates: &'t Templates,
     limits: Limits,
     start: &Start,
-    bytes: usize,
     spot: &mut Spot<'t, '_>,
     sink: &mut S,
 ) -> Went
     requires waits { machine.old.waiting ≡ Waiting.Field }
     requires place { IsPlaceOf machine.old.cursor spot.old.place }
+    requires turn { CanTurn (set_of templates.now) limits (placed machine.old spot.old.place) }
+    requires end { place_left spot.old.place ≡ [] }
     requires outermost { machine.old.cursor.frames ≡ [] }
-    requires supplied { IsSupplied (set_of templates.now) limits (placed machine.old spot.old.place) }
-    requires behind { IsBehindMap (set_of templates.now) limits (mapped_by machine.old spot.old.rest.now) }
+    requires ahead { IsMessageAhead (set_of templates.now) limits (slots_dictionary machine.old.slots)
+        (slots_dictionary machine.old.slots) spot.old.rest.now start.now.number 1 }
     requires start { IsStartIn (set_of templates.now) start.now }
-    requires some { 0 < length spot.old.rest.now }
-    requires within { bytes ≤ length spot.old.rest.now }
-    ensures went { (m a : Machine) → IsAtEnd (set_of templates.now) limits m spot.old a
-        → placed machine.old spot.old.place ≡ record a { slots = machine.old.slots; latest = machine.old.latest }
-        → IsMessageAhead (set_of templates.now) limits (slots_dictionary a.slots) (slots_dictionary machine.old.slots)
-        spot.old.rest.now start.now.number bytes
+    ensures went { (m : Machine) → machine.old ≡ record m { turns = machine.old.turns }
+        → machine.old.turns.count ≡ m.turns.count + 1
         → HasWent S.takes S.stops (set_of templates.now) limits m spot.old sink.old result sink.new machine.new
         spot.new }
 {
     let left = spot.rest.len();
     if sink.turn_message(left, start.number) {
-        return message_opens(machine, templates, limits, start, bytes, spot, sink);
+        return message_opens(machine, templates, limits, start, 1, spot, sink);
     }
     if let Err(_) = hand_end(sink, left) {
         return Went::Stopped;
     }
+    message_begins(machine, templates, limits, start, 1, spot, sink)
+}
+
+/// Goes on after the end of a message: the next one begins, if its map is one byte and its identifier, which follows, is that of a
+/// template.
+#[inline(always)]
+fn other_arm<'t, S: Sink>(
+    machine: &mut Machine<'t>,
+    templates: &'t Templates,
+    limits: Limits,
+    spot: &mut Spot<'t, '_>,
+    sink: &mut S,
+) -> Went
+    requires waits { machine.old.waiting ≡ Waiting.Field }
+    requires place { IsPlaceOf machine.old.cursor spot.old.place }
+    requires turn { CanTurn (set_of templates.now) limits (placed machine.old spot.old.place) }
+    requires end { place_left spot.old.place ≡ [] }
+    requires outermost { machine.old.cursor.frames ≡ [] }
+    ensures went { (m : Machine) (s : S) → machine.old ≡ record m { turns = machine.old.turns }
+        → machine.old.turns.count ≡ m.turns.count + 1 → S.takes s MessageEnd sink.old
+        → HasWent S.takes S.stops (set_of templates.now) limits m spot.old s result sink.new machine.new spot.new }
+{
+    let Some((bytes, start)) = machine.next_message(templates, limits, spot.rest) else {
+        return no_message(machine, spot);
+    };
     message_begins(machine, templates, limits, start, bytes, spot, sink)
 }
 

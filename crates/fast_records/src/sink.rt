@@ -33,7 +33,7 @@ pub(crate) struct RecordSink<'a> {
     ghost used_within: { used ≤ length texts.now },
 }
 
-/// Returns how many of `len` bytes are fed at once where so many records are free: at most half as many, rounded up.
+/// Returns how many of `len` bytes are fed at once: at most half as many as there are free records, rounded up.
 pub(crate) fn fed_at_once(len: usize, free: usize) -> usize
     ensures within { result ≤ len }
     ensures half { 2 * result ≤ free + 1 }

@@ -1,5 +1,5 @@
 -- The arms of the machine's loop: the position in the innermost segment, and the rest of the piece, are apart from the machine.
-use Rattle.std.specs.Prelude.{◌≡◌, ℕ, ◌+◌, ◌<◌, ◌≤◌, Bool, true, false, List, [], length, take, drop, slice_get, Option, Some, Result, Ok, Err}
+use Rattle.std.specs.Prelude.{◌≡◌, ℕ, ◌<◌, ◌≤◌, Bool, true, false, List, length, take, drop, slice_get, Option, Some, Result, Ok, Err}
 use Rattle.fast_value.specs.declared.settings.Limits.{Limits}
 use Rattle.fast_value.specs.meaning.Limits.{Bounds, bounds}
 use Rattle.fast_value.specs.meaning.Kinds.{ScalarData}
@@ -145,14 +145,6 @@ pub record IsFieldUnsent (set : Set) (l : Limits) (m m' : Machine) (p : Place) (
   pub decided : decide f (previous_at f.entry (slots_dictionary m.slots)) bit nothing ≡ Ok outcome
   pub is_value : outcome.value ≡ value
   pub next : slots_dictionary m'.slots ≡ write_at f.entry outcome.next (slots_dictionary m.slots)
-
--- A machine is at the end of a message, from another at this spot with a turn more.
-pub record IsAtEnd (set : Set) (l : Limits) (m : Machine) (from : Spot) (a : Machine) : Type 0 where
-  pub same : a ≡ record (placed m from.place) { turns = a.turns }
-  pub counts : a.turns.count ≡ m.turns.count + 1
-  pub can : CanTurn set l a
-  pub end : a.cursor.left ≡ []
-  pub outermost : a.cursor.frames ≡ []
 
 -- the end of the turn in which an arm began a message
 abbrev pub begun_by : Went → Result Turn FaultCode
