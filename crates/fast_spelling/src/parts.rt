@@ -1,6 +1,7 @@
 //! Instructions without slots of their own: absent ones, and decimals by parts.
 
 ghost use Rattle.std.specs.Prelude.{◌≡◌, ◌<◌, ℕ, length, Some, None, option_map, OnOk, IfErr, IfSome};
+ghost use Rattle.fast_value.specs.meaning.Kinds.{I};
 ghost use Rattle.fast_value.specs.meaning.Messages.{one};
 ghost use Rattle.fast_value.specs.meaning.Values.{value_data};
 ghost use Rattle.fast_value.specs.declared.settings.Limits.{Limits};
@@ -9,19 +10,20 @@ ghost use Rattle.fast_template.specs.meaning.Flat.{nodes_of, tree_of, field_data
 ghost use Rattle.fast_tree.specs.meaning.Usable.{IsUsable};
 ghost use Rattle.fast_dict.specs.meaning.EntryTexts.{HasLongInitial, IsLongText};
 ghost use Rattle.fast_spelling.specs.device.Drafts.{IsTold};
-ghost use Rattle.fast_spelling.specs.meaning.Encoding.{Encodes, EncodesDecimal};
-ghost use Rattle.fast_spelling.specs.device.Fields.{Wrote, IsServed};
+ghost use Rattle.fast_spelling.specs.meaning.Encoding.{Encodes, EncodesDecimal, EncodesField};
+ghost use Rattle.fast_spelling.specs.device.Fields.{Wrote, IsServed, IsSuited};
 ghost use Rattle.fast_spelling.specs.device.Nodes.{instruction_in, head_in, IsReady, Keeps};
-ghost use Rattle.fast_spelling.specs.meaning.Refusals.{Refuses, RefusesDecimal};
+ghost use Rattle.fast_spelling.specs.meaning.Refusals.{Refuses, RefusesDecimal, RefusesField};
 ghost use Rattle.fast_spelling.specs.meaning.Suiting.{Suits, IsRightDecimal};
 
 use crate::draft::Draft;
 use crate::faults::EncodeFault;
 use crate::fields::write_field;
+use crate::known::Known;
 use crate::ledger::Ledger;
-use crate::quick::{write_exponent, write_mantissa};
-use fast_template::{FieldInstruction, Shape, Templates};
-use fast_value::{Limits, Value};
+use crate::quick::{write_copied, write_default, write_difference, write_signed};
+use fast_template::{FieldInstruction, Operator, Shape, Templates};
+use fast_value::{Limits, Scalar, Value};
 
 /// Writes a decimal by parts: its exponent, and then its mantissa.
 #[inline(always)]
@@ -53,6 +55,51 @@ pub fn write_decimal(
             write_mantissa(draft, ledger, mantissa, *m)
         }
         _ => Err(EncodeFault::E3),
+    }
+}
+
+/// Writes the exponent of a decimal by parts. The code for the usual operators, default and copy, is inlined.
+#[inline(always)]
+fn write_exponent(
+    draft: &mut Draft,
+    ledger: &mut Ledger,
+    field: &FieldInstruction,
+    number: i64,
+) -> Result<(), EncodeFault>
+    requires served { IsServed ledger.old (field_data field.now) }
+    requires suited { IsSuited ledger.old.max_text (field_data field.now) (Some (I number)) }
+    ensures ok { OnOk result ((l : Limits) → l.max_text ≡ ledger.old.max_text
+        → Wrote (EncodesField l (field_data field.now) ledger.old.now (Some (I number))) draft.old draft.new
+        ledger.new.now) }
+    ensures err { IfErr result (IsTold (RefusesField (field_data field.now) ledger.old.now (Some (I number)))) }
+    ensures keeps { Keeps ledger.old ledger.new }
+{
+    match field.operator {
+        Operator::Default => write_default(draft, ledger, Known::of(field), Scalar::I(number)),
+        Operator::Copy => write_copied(draft, ledger, Known::of(field), Scalar::I(number)),
+        _ => write_signed(draft, ledger, field, number),
+    }
+}
+
+/// Writes the mantissa of a decimal by parts. The code for delta, the usual operator, is inlined.
+#[inline(always)]
+fn write_mantissa(
+    draft: &mut Draft,
+    ledger: &mut Ledger,
+    field: &FieldInstruction,
+    number: i64,
+) -> Result<(), EncodeFault>
+    requires served { IsServed ledger.old (field_data field.now) }
+    requires suited { IsSuited ledger.old.max_text (field_data field.now) (Some (I number)) }
+    ensures ok { OnOk result ((l : Limits) → l.max_text ≡ ledger.old.max_text
+        → Wrote (EncodesField l (field_data field.now) ledger.old.now (Some (I number))) draft.old draft.new
+        ledger.new.now) }
+    ensures err { IfErr result (IsTold (RefusesField (field_data field.now) ledger.old.now (Some (I number)))) }
+    ensures keeps { Keeps ledger.old ledger.new }
+{
+    match field.operator {
+        Operator::Delta => write_difference(draft, ledger, Known::of(field), Scalar::I(number)),
+        _ => write_signed(draft, ledger, field, number),
     }
 }
 

@@ -114,59 +114,6 @@ pub fn write_signed(
     }
 }
 
-/// Writes the exponent of a decimal by parts. The code for the usual operators, default and copy, is inlined.
-///
-/// # Errors
-///
-/// E3, or `Memory` if an allocation failed. The draft is then unusable.
-#[inline(always)]
-pub fn write_exponent(
-    draft: &mut Draft,
-    ledger: &mut Ledger,
-    field: &FieldInstruction,
-    number: i64,
-) -> Result<(), EncodeFault>
-    requires served { IsServed ledger.old (field_data field.now) }
-    requires suited { IsSuited ledger.old.max_text (field_data field.now) (Some (I number)) }
-    ensures ok { OnOk result ((l : Limits) → l.max_text ≡ ledger.old.max_text
-        → Wrote (EncodesField l (field_data field.now) ledger.old.now (Some (I number))) draft.old draft.new
-        ledger.new.now) }
-    ensures err { IfErr result (IsTold (RefusesField (field_data field.now) ledger.old.now (Some (I number)))) }
-    ensures keeps { Keeps ledger.old ledger.new }
-{
-    match field.operator {
-        Operator::Default => write_default(draft, ledger, Known::of(field), Scalar::I(number)),
-        Operator::Copy => write_copied(draft, ledger, Known::of(field), Scalar::I(number)),
-        _ => write_signed(draft, ledger, field, number),
-    }
-}
-
-/// Writes the mantissa of a decimal by parts. The code for delta, the usual operator, is inlined.
-///
-/// # Errors
-///
-/// E3, or `Memory` if an allocation failed. The draft is then unusable.
-#[inline(always)]
-pub fn write_mantissa(
-    draft: &mut Draft,
-    ledger: &mut Ledger,
-    field: &FieldInstruction,
-    number: i64,
-) -> Result<(), EncodeFault>
-    requires served { IsServed ledger.old (field_data field.now) }
-    requires suited { IsSuited ledger.old.max_text (field_data field.now) (Some (I number)) }
-    ensures ok { OnOk result ((l : Limits) → l.max_text ≡ ledger.old.max_text
-        → Wrote (EncodesField l (field_data field.now) ledger.old.now (Some (I number))) draft.old draft.new
-        ledger.new.now) }
-    ensures err { IfErr result (IsTold (RefusesField (field_data field.now) ledger.old.now (Some (I number)))) }
-    ensures keeps { Keeps ledger.old ledger.new }
-{
-    match field.operator {
-        Operator::Delta => write_difference(draft, ledger, Known::of(field), Scalar::I(number)),
-        _ => write_signed(draft, ledger, field, number),
-    }
-}
-
 /// Writes a field that has an ASCII string.
 ///
 /// # Errors

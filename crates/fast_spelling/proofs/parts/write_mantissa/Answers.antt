@@ -13,7 +13,7 @@ use Rattle.fast_spelling.proofs.bytes.Spelling.{on_ok}
 use Rattle.fast_spelling.proofs.encodings.Instructions.{told}
 use Rattle.fast_tree.specs.meaning.Tree.{FieldData}
 use Rattle.fast_tree.specs.declared.operators.Operator.TheVariants.{Delta}
-use Rattle.fast_spelling.proofs.quick.write_mantissa.Goals as goal
+use Rattle.fast_spelling.proofs.parts.write_mantissa.Goals as goal
 
 -- the number as it is handed on is the number
 suited_here : (m : ℕ) (f : FieldData) (n : ℤ) → FitsSigned w64 n → IsSuited m f (Some (I n)) → IsSuited m f (Some (I (to_z w64 (of_z w64 n))))
