@@ -13,7 +13,8 @@ try:
 except ImportError:
     numpy = None
 
-# (kind, node, value); the value of a decimal is (mantissa, exponent), that of a string is bytes
+# (kind, node, value); the value of a decimal is (mantissa, exponent), that of a string is bytes, and that of MESSAGE_END the offset at which
+# the message ends
 Event = tuple[int, int, Any]
 
 

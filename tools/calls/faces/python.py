@@ -22,6 +22,11 @@ START, END = (talvrugon.MESSAGE_START, 0, 0), (talvrugon.MESSAGE_END, 0, 0)
 MESSAGE = [START, (talvrugon.UNSIGNED, 0, 5), (talvrugon.SIGNED, 1, -5), (talvrugon.DECIMAL, 2, (-7, -2)), (talvrugon.BYTES, 3, b"abc"), END]
 
 
+def decoded(end):
+    """Returns the message as a decoder has it: its end has the number of bytes of the stream up to there."""
+    return [*MESSAGE[:-1], (talvrugon.MESSAGE_END, 0, end)]
+
+
 def raised(kind, words, call, *arguments, **named):
     """Checks that a call raises an error of this type, whose sentence contains these words, and returns the error."""
     try:
@@ -72,7 +77,8 @@ def check_pieces(of, due):
         with of.decoder() as decoder:
             events = decoder.feed(piece)
             assert (decoder.consumed, decoder.between) == (len(due), True)
-            assert list(events) == MESSAGE and list(events) == MESSAGE and len(events) == len(MESSAGE)
+            assert list(events) == decoded(len(due)) and list(events) == decoded(len(due)) and len(events) == len(MESSAGE)
+            assert of.encoder().encode(events) == due
     decoder = of.decoder(room=talvrugon.Room(1, 1))
     for piece in (5, "abc", None, [1, 2]):
         raised(TypeError, "", decoder.feed, piece)
@@ -81,7 +87,7 @@ def check_pieces(of, due):
     assert decoder.consumed == len(due)
     for event in decoder.feed(due):
         break
-    assert list(decoder.feed(due)) == MESSAGE and decoder.consumed == 3 * len(due)
+    assert list(decoder.feed(due)) == decoded(3 * len(due)) and decoder.consumed == 3 * len(due)
     parts = decoder.feed_records(due)
     assert [len(records) for records, _ in parts] == [1] * len(MESSAGE) and parts[4][1] == b"abc"
 
@@ -92,7 +98,7 @@ def check_faults(of, due):
     decoder = of.decoder()
     fault = raised(talvrugon.Error, "D2", decoder.feed, due + due[:2] + b"\x7f" * 10)
     assert (fault.status, fault.code, fault.place, fault.template) == (101, "D2", len(due) + 12, 0)
-    assert list(fault.events) == [*MESSAGE, START]
+    assert list(fault.events) == [*decoded(len(due)), START]
     again = raised(talvrugon.Error, "D2", decoder.feed, due)
     assert (again.place, len(again.events)) == (fault.place, 0) and not decoder.between
     decoder.reset()
@@ -104,11 +110,11 @@ def check_faults(of, due):
     assert raised(talvrugon.Error, "", decoder.feed, b"\x7f" * 10).template == 0
     # with room for one record, so that a packet takes several calls of the library
     decoder = of.decoder(room=talvrugon.Room(1, 3))
-    assert list(decoder.packet(due)) == MESSAGE
+    assert list(decoder.packet(due)) == decoded(len(due))
     cut = raised(talvrugon.Error, "", decoder.packet, due[:4])
     assert (cut.status, cut.code, cut.place, cut.template) == (6, None, 4, 0) and not decoder.between
     assert raised(talvrugon.Error, "", decoder.packet, due, afresh=False).status == 6
-    assert list(decoder.packet(due)) == MESSAGE and list(decoder.packet(due, afresh=False)) == MESSAGE
+    assert list(decoder.packet(due)) == decoded(len(due)) and list(decoder.packet(due, afresh=False)) == decoded(2 * len(due))
     assert decoder.consumed == 2 * len(due) and list(decoder.packet(b"")) == []
 
 
@@ -118,7 +124,7 @@ def check_closing(library, due):
     with of.decoder() as decoder, of.encoder() as encoder:
         of.close()
         of.close()
-        assert list(decoder.feed(due)) == MESSAGE and encoder.encode(MESSAGE) == due
+        assert list(decoder.feed(due)) == decoded(len(due)) and encoder.encode(MESSAGE) == due
         for call in (of.decoder, of.encoder, lambda: of.nodes, lambda: of.node_name(0)):
             assert raised(talvrugon.Error, "", call).status == talvrugon.CLOSED
     for call in (lambda: decoder.feed(b""), decoder.reset, lambda: encoder.encode(MESSAGE), encoder.reset):
@@ -134,7 +140,8 @@ def check_room(of):
     message = with_value(4, text)
     encoder, room = of.encoder(max_text=len(text)), talvrugon.Room(2, 2)
     decoders = [of.decoder(max_text=size, room=room) for size in (len(text), 16)]
-    assert list(decoders[0].feed(encoder.encode(message))) == message
+    stream = encoder.encode(message)
+    assert list(decoders[0].feed(stream)) == [*message[:-1], (talvrugon.MESSAGE_END, 0, len(stream))]
     assert raised(talvrugon.Error, "L1", decoders[1].feed, of.encoder().encode(MESSAGE[:4] + [(talvrugon.BYTES, 3, b"x" * 17), END])).place > 0
 
 
