@@ -58,8 +58,8 @@ pub fn write_decimal(
     }
 }
 
-/// Writes the exponent of a decimal by parts. The code for the usual operators, default and copy, is inlined.
-#[inline(always)]
+/// Writes the exponent of a decimal by parts. The usual operators, default and copy, are tried first. Not marked to be inlined: with both
+/// it is larger than the compiler inlines.
 fn write_exponent(
     draft: &mut Draft,
     ledger: &mut Ledger,
