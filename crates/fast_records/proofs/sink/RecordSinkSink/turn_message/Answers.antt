@@ -1,5 +1,5 @@
 -- Both events at once: each has its record.
-use Rattle.std.proofs.Common.{refl, ap, length}
+use Rattle.std.proofs.Common.{[], refl, ap, length}
 use Rattle.fast_stream.specs.meaning.Events.{MessageStart, MessageEnd}
 use Rattle.fast_records.specs.device.Room.{texts_in}
 use Rattle.fast_records.specs.meaning.Records.{unplaced}
