@@ -24,13 +24,9 @@ static uint64_t ends;
 
 static void add_record(uint64_t *sum, const fast_record *it, const uint8_t *texts) {
     uint64_t key = (it->node * UINT64_C(16) + it->kind) * spread;
-    if (it->kind == FAST_MESSAGE_END) {
-        add(sum, key);
-        add(&ends, it->value);
-        return;
-    }
+    if (it->kind == FAST_MESSAGE_END) add(&ends, it->value);
     if (it->kind < FAST_ASCII || it->kind > FAST_BYTES) {
-        add(sum, key + it->value);
+        add(sum, key + (it->kind == FAST_MESSAGE_END ? 0 : it->value));
         if (it->kind == FAST_DECIMAL) add(sum, (uint64_t)(int64_t)it->exponent);
         return;
     }
@@ -68,7 +64,11 @@ static struct answer decode(fast_decoder *decoder, const struct row *r, size_t p
     do {
         size_t ahead = r->stream_len - at < piece ? r->stream_len - at : piece;
         fed = fast_feed(decoder, r->stream + at, ahead, records, room, texts, r->max_text);
-        for (uint64_t i = 0; i < fed.records; i++) add_record(&is.sum, &records[i], texts);
+        for (uint64_t i = 0; i < fed.records; i++) {
+            add_record(&is.sum, &records[i], texts);
+            bool is_end = piece == 1 && room == RECORDS && records[i].kind == FAST_MESSAGE_END;
+            expect(!is_end || records[i].value == fed.consumed, r, "a message does not end at its last byte");
+        }
         is.events += fed.records;
         at += fed.taken;
     } while (fed.status == FAST_MORE || (fed.status == FAST_DONE && at < r->stream_len));
@@ -97,36 +97,19 @@ static bool is_same(const struct answer *a, const struct answer *b) {
     return a->status == b->status && a->consumed == b->consumed && a->events == b->events && a->sum == b->sum;
 }
 
-// Returns the checksum of the offsets at which the messages of a row end, from the bytes one at a time: a message ends at the last one.
-static uint64_t ends_due(fast_decoder *decoder, const struct row *r) {
-    uint64_t due = basis;
-    fast_fed fed = {.status = FAST_DONE};
-    for (size_t at = 0; at < r->stream_len && fed.status == FAST_DONE; at++) {
-        uint64_t taken = 0;
-        do {
-            fed = fast_feed(decoder, r->stream + at, 1 - taken, records, RECORDS, texts, r->max_text);
-            taken += fed.taken;
-            for (uint64_t i = 0; i < fed.records; i++) {
-                if (records[i].kind == FAST_MESSAGE_END) add(&due, at + 1);
-            }
-        } while (fed.status == FAST_MORE);
-    }
-    fast_reset_decoder(decoder);
-    return due;
-}
-
 static void run_row(const struct row *r) {
     fast_set *set = NULL;
     fast_decoder *decoder = NULL;
     begin_run(none, none);
     expect(fast_read_set(r->templates, r->templates_len, &set) == FAST_DONE, r, "no set");
     expect(fast_open_decoder(set, limits_of(r), &decoder) == FAST_DONE, r, "no decoder");
-    uint64_t due = ends_due(decoder, r);
-    static const size_t pieces[] = {SIZE_MAX, 1, 3}, rooms[] = {RECORDS, 1, 5};
+    uint64_t due = 0;
+    static const size_t pieces[] = {1, SIZE_MAX, 3}, rooms[] = {RECORDS, 1, 5};
     for (int i = 0; i < 9; i++) {
         struct answer is = decode(decoder, r, pieces[i / 3], rooms[i % 3]);
         expect(is_same(&is, &r->due), r, "not what is due");
-        expect(ends == due, r, "messages end elsewhere");
+        if (!i) due = ends;
+        expect(ends == due, r, "messages end elsewhere than in pieces of one byte");
         fast_reset_decoder(decoder);
         // Records may wait after this one.
         fast_feed(decoder, r->stream, r->stream_len, records, 1, texts, r->max_text);
