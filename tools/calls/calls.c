@@ -19,8 +19,7 @@ static void add(uint64_t *sum, uint64_t word) {
     *sum = (*sum ^ word) * prime;
 }
 
-// The checksum of the offsets at which messages end.
-static uint64_t ends;
+static uint64_t ends;  // the checksum of the offsets at which messages end
 
 static void add_record(uint64_t *sum, const fast_record *it, const uint8_t *texts) {
     uint64_t key = (it->node * UINT64_C(16) + it->kind) * spread;
