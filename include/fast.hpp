@@ -209,11 +209,13 @@ template <class V, class T> void show_field(V &sees, std::uint32_t node, T value
     }
 }
 
-template <class V, class = void> constexpr bool takes_end = false;
-template <class V> constexpr bool takes_end<V, std::void_t<decltype(std::declval<V &>().message_end(exactly<std::uint64_t>{}))>> = true;
+template <class V, class T, class = void> constexpr bool takes_end = false;
+template <class V, class T> constexpr bool takes_end<V, T, std::void_t<decltype(std::declval<V &>().message_end(std::declval<T>()))>> = true;
 
 template <class V> void show_end(V &sees, std::uint64_t consumed) {
-    if constexpr (takes_end<V>) {
+    if constexpr (takes_end<V, unknown>) {
+        sees.message_end(consumed);
+    } else if constexpr (takes_end<V, exactly<std::uint64_t>>) {
         sees.message_end(exactly<std::uint64_t>{consumed});
     } else {
         sees.message_end();

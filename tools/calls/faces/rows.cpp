@@ -12,7 +12,7 @@
 
 // The checksum that docs/PERFORMANCE.md defines.
 struct sums : fast::visitor {
-    std::uint64_t events = 0, sum = 0xcbf29ce484222325, abandoned_at = UINT64_MAX, end = 0;
+    std::uint64_t events = 0, sum = 0xcbf29ce484222325, abandoned_at = UINT64_MAX, end = UINT64_MAX;
 
     void add(std::uint64_t word) { sum = (sum ^ word) * 0x100000001b3; }
     void mark(std::uint32_t kind, std::uint32_t node = 0, std::uint64_t value = 0) {
@@ -68,8 +68,8 @@ static void run(fast::decoder &decoder, const std::vector<std::uint8_t> &bytes, 
     for (std::size_t at = 0; at < bytes.size() && status == FAST_DONE; at += piece) {
         status = decode(decoder, bytes, at, std::min(piece, bytes.size() - at), to);
         // A message ends at its last byte.
-        if (piece == 1 && to.end && to.end != decoder.consumed()) status = 1;
-        to.end = 0;
+        if (piece == 1 && to.end != UINT64_MAX && to.end != decoder.consumed()) status = 1;
+        to.end = UINT64_MAX;
     }
     if (status != FAST_DONE && (decode(decoder, bytes, 0, 0, to) != status || to.abandoned_at != decoder.consumed())) status = 1;
     std::printf("%u %d %" PRIu64 " %" PRIu64 " %016" PRIx64 " %s\n", status, decoder.between(), decoder.consumed(), to.events, to.sum,

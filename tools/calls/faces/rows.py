@@ -23,7 +23,7 @@ class Sums:
     """The number of events, their checksum, and the offset of the last end of a message."""
 
     def __init__(self):
-        self.events, self.sum, self.end = 0, BASIS, 0
+        self.events, self.sum, self.end = 0, BASIS, None
 
     def add(self, events):
         for event in events:
@@ -49,9 +49,9 @@ def run(decoder, stream, piece):
     for at in range(0, len(stream), piece):
         status = status or status_of(decoder, memoryview(stream)[at : at + piece], to)
         # A message ends at its last byte.
-        if piece == 1 and to.end not in (0, decoder.consumed):
+        if piece == 1 and to.end not in (None, decoder.consumed):
             status = 1
-        to.end = 0
+        to.end = None
     if status and status_of(decoder, b"", to) != status:
         status = 1
     print(status, int(decoder.between), decoder.consumed, to.events, f"{to.sum:016x}", decoder.library.words(status) if status else "-")

@@ -15,6 +15,7 @@ struct signed_by_reference : fast::visitor {
 struct all_by_a_template : fast::visitor {
     template <class T> void field(std::uint32_t node, T it) { std::printf("some %u %zu\n", node, sizeof it); }
     void field(std::uint32_t node, std::int64_t it) { std::printf("other %u %lld\n", node, static_cast<long long>(it)); }
+    template <class T> void message_end(T it) { std::printf("some end at %llu\n", static_cast<unsigned long long>(it)); }
 };
 struct ends_alone : fast::visitor {
     void message_end(std::uint64_t consumed) { std::printf("end at %llu\n", static_cast<unsigned long long>(consumed)); }

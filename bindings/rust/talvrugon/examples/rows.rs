@@ -7,7 +7,7 @@ use talvrugon::{Decoder, Event, Limits, Room, Set, Value};
 struct Sums {
     events: u64,
     sum: u64,
-    end: u64,
+    end: Option<u64>,
 }
 
 impl Sums {
@@ -50,7 +50,7 @@ impl Sums {
             Event::SequenceEnd => self.mark(13, 0, 0),
             Event::MessageEnd { consumed } => {
                 self.mark(14, 0, 0);
-                self.end = consumed;
+                self.end = Some(consumed);
             }
         }
     }
@@ -58,13 +58,13 @@ impl Sums {
 
 /// Feeds a stream, with a borrowed room, and once more after a fault, which must return the same error.
 fn run(decoder: &mut Decoder, room: &mut Room, stream: &[u8], piece: usize) {
-    let mut to = Sums { events: 0, sum: 0xcbf29ce484222325, end: 0 };
+    let mut to = Sums { events: 0, sum: 0xcbf29ce484222325, end: None };
     let (mut end, mut is_placed) = (Ok(()), true);
     for bytes in stream.chunks(piece) {
         end = decoder.feed_in(room, bytes, |event| to.take(event));
         // A message ends at its last byte.
-        is_placed &= piece != 1 || to.end == 0 || to.end == decoder.consumed();
-        to.end = 0;
+        let last = to.end.take();
+        is_placed &= piece != 1 || last.is_none() || last == Some(decoder.consumed());
         if end.is_err() {
             break;
         }
