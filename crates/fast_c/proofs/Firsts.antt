@@ -13,5 +13,7 @@ pub first_here : {A : Type 0} (test : A → Bool) (xs : List A) (i : ℕ) (x : A
 first_here test xs i x found passes = rw (drop_at xs i x found) (rw passes refl)
 
 -- the element does not pass
-pub first_past : {A : Type 0} (test : A → Bool) (xs : List A) (i : ℕ) (x : A) → slice_get xs i ≡ Some x → test x ≡ false → first_that test i (drop i xs) ≡ first_that test (i + 1) (drop (i + 1) xs)
-first_past test xs i x found fails = rw (drop_at xs i x found) (rw fails (ap (λ n. first_that test n (drop (i + 1) xs)) (let e : suc i ≡ i + 1 = omega arith in e)))
+pub first_past : {A : Type 0} (test : A → Bool) (xs : List A) (i : ℕ) (x : A) → slice_get xs i ≡ Some x → test x ≡ false
+    → first_that test i (drop i xs) ≡ first_that test (i + 1) (drop (i + 1) xs)
+first_past test xs i x found fails = rw (drop_at xs i x found)
+    (rw fails (ap (λ n. first_that test n (drop (i + 1) xs)) (let e : suc i ≡ i + 1 = omega arith in e)))

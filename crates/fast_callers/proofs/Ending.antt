@@ -1,6 +1,7 @@
 -- A stream ends no more messages than it has bytes.
 use Rattle.std.proofs.Common.{refl, arith, inl, inr}
-use Rattle.std.specs.Prelude.{◌≡◌, ℕ, zero, suc, ◌+◌, ◌≤◌, Bool, true, false, if◌then◌else◌, List, [], ◌∷◌, ◌++◌, length, flat_map, ℤ, Option, Some, None, Result, Ok, Err}
+use Rattle.std.specs.Prelude.{◌≡◌, ℕ, zero, suc, ◌+◌, ◌≤◌, Bool, true, false, if◌then◌else◌, List, [], ◌∷◌, ◌++◌, length, flat_map, ℤ}
+use Rattle.std.specs.Prelude.{Option, Some, None, Result, Ok, Err}
 use Rattle.std.proofs.lemmas.List.{length-append}
 use Rattle.fast_wire.specs.meaning.Maps.{bits, first_bit, later_bits}
 use Rattle.fast_value.specs.declared.settings.Limits.{Limits}
@@ -9,14 +10,18 @@ use Rattle.fast_value.specs.declared.codes.Code.TheVariants.{R1}
 use Rattle.fast_value.specs.meaning.Kinds.{exponent_range, ScalarData, integer_of}
 use Rattle.fast_value.specs.meaning.Limits.{Bounds, bounds}
 use Rattle.fast_value.specs.meaning.Messages.{MessageData}
-use Rattle.fast_tree.specs.meaning.Tree.{FieldData, identifier, uses_bit, Instruction, field, parts, group, sequence, Body, end, step, bits_of, has_map, TemplateData, Tree}
+use Rattle.fast_tree.specs.meaning.Tree.{FieldData, identifier, uses_bit, Instruction, field, parts, group, sequence, Body, end, step}
+use Rattle.fast_tree.specs.meaning.Tree.{bits_of, has_map, TemplateData, Tree}
 use Rattle.fast_dict.specs.meaning.Dictionary.{Dictionary, previous_at, fresh}
 use Rattle.fast_dict.specs.meaning.Operators.{ranged}
 use Rattle.fast_stream.specs.meaning.Events.{EventData, MessageEnd, events}
 use Rattle.fast_stream.specs.meaning.Phrases.{Reached, whole as all_of, cut, wrong, Phrase, gives, hands, settles, ◌followed_by◌, GoesOn}
 use Rattle.fast_stream.specs.meaning.Units
 use Rattle.fast_stream.specs.meaning.Grammar.{Grammar, give, fault, hand, integer, ascii_text, raw, presence_map, narrow, ◌>>=◌, of_result, phrase_of}
-use Rattle.fast_stream.specs.meaning.Messages.{Context, State, Found, field_in, ReadAll, begin, handed, decimal_with, mantissa_after, Segment, segment, elements, group_from, group_if, group_in, length_in, count_more, sequence_from, instruction, body_term, template_of, reset_if, message_of, message_behind, message_term, message, SpellsMessage}
+use Rattle.fast_stream.specs.meaning.Messages.{Context, State, Found, field_in, ReadAll, begin, handed, decimal_with, mantissa_after}
+use Rattle.fast_stream.specs.meaning.Messages.{Segment, segment, elements, group_from, group_if, group_in, length_in, count_more}
+use Rattle.fast_stream.specs.meaning.Messages.{sequence_from, instruction, body_term, template_of, reset_if, message_of, message_behind}
+use Rattle.fast_stream.specs.meaning.Messages.{message_term, message, SpellsMessage}
 use Rattle.fast_stream.specs.meaning.Streams.{End, between, inside, faulted, SpellsAll, Chain, Stream}
 use Rattle.fast_stream.proofs.terms.Quiet.{Silent, silent-settles, silent-integer, silent-map, silent-raw, silent-ascii, IsQuiet, quiet-field, quiet-map_bits}
 use Rattle.fast_stream.proofs.streams.Reading.{reads-first}
@@ -81,7 +86,8 @@ ends_result (Ok a) f = record { most = (f a).most }
 ends_result (Err c) f = record { most = tt }
 
 field_ends : (l : Bounds) (f : FieldData) (s : State) → Ends 0 (field_in l f s)
-field_ends l f s = ends_bind (ends_quiet (quiet-field l f (previous_at f.entry s.context.dictionary) (if uses_bit f then first_bit s.bits else true))) (λ o. ends_give)
+field_ends l f s = ends_bind (ends_quiet (quiet-field l f (previous_at f.entry s.context.dictionary)
+    (if uses_bit f then first_bit s.bits else true))) (λ o. ends_give)
 
 handed_ends : (n : ℕ) (v : Option ScalarData) (s : State) → Ends 0 (handed n v s)
 handed_ends n None s = ends_give
@@ -89,10 +95,14 @@ handed_ends n (Some v) s = ends_hand refl ends_give
 
 mantissa_ends : (l : Bounds) (n : ℕ) (m : FieldData) (e : Found) → Ends 0 (mantissa_after l n m e)
 mantissa_ends l n m (None, s) = ends_give
-mantissa_ends l n m (Some e, s) = ends_result (ranged exponent_range R1 (integer_of e)) (λ x. ends_bind (field_ends l m s) (λ r. handed_ends n (decimal_with x r.0) r.1))
+mantissa_ends l n m (Some e, s) = ends_result (ranged exponent_range R1 (integer_of e))
+    (λ x. ends_bind (field_ends l m s) (λ r. handed_ends n (decimal_with x r.0) r.1))
 
 segment_ends : (body : Body) {p : State → Grammar ReadAll} → ((s : State) → Ends 0 (p s)) → (c : Context) → Ends 0 (segment body p c)
-segment_ends body f c = ends_bind (ends_quiet (quiet-map_bits (bits_of body) (has_map body))) (λ b. ends_bind (f (record { context = c; bits = b })) (λ r. ends_give))
+segment_ends body f c = ends_bind (ends_quiet (quiet-map_bits (bits_of body) (has_map body))) (λ b. ends_bind (f (record {
+  context = c;
+  bits = b;
+})) (λ r. ends_give))
 
 module _ {p : Segment} (f : (c : Context) → Ends 0 (p c)) where
   elements_end : (k : ℕ) (c : Context) → Ends 0 (elements p k c)
@@ -112,7 +122,8 @@ module _ {p : Segment} (f : (c : Context) → Ends 0 (p c)) where
 
   sequence_ends : (l : Bounds) (at : ℕ) (x : Found) → Ends 0 (sequence_from l at p x)
   sequence_ends l at (None, s) = ends_give
-  sequence_ends l at (Some v, s) = ends_result (length_in l s.context v) (λ k. ends_hand refl (ends_bind (elements_end k (count_more k s.context)) (λ r. ends_hand refl ends_give)))
+  sequence_ends l at (Some v, s) = ends_result (length_in l s.context v)
+      (λ k. ends_hand refl (ends_bind (elements_end k (count_more k s.context)) (λ r. ends_hand refl ends_give)))
 
 mutual
   unfolding instruction body_term
@@ -135,7 +146,13 @@ behind_ends : (t : Tree) (l : Bounds) (m : List ℕ) (id : Found) → Ends 1 (me
 behind_ends t l m id = ends_result (template_of t id.0) (λ u. record { most = (from u.0 u.1).most })
   where
     from : (n : ℕ) (u : TemplateData) → Ends 1 (message_of l n u id.1)
-    from n u = ends_hand refl (ends_bind (body_ends l u.body (reset_if u.reset id.1)) (λ r. ends_message (record { template = n; slots = r.0 }, r.1.context.dictionary)))
+    from n u = ends_hand refl (ends_bind (body_ends l u.body (reset_if u.reset id.1)) (λ r. ends_message (
+      record {
+        template = n;
+        slots = r.0;
+      },
+      r.1.context.dictionary,
+    )))
 
 message_ends : (t : Tree) (l : Bounds) (d : Dictionary) → EndsAtMost 1 (message_term t l d)
 unfolding message_term
@@ -146,7 +163,8 @@ message_ends t l d = λ m. (ends_bind (field_ends l identifier (begin d (bits m)
 none_whole : (n : ℕ) (es : List EventData) → es ≡ [] → whole es ≤ n
 none_whole n es e = rw e (omega arith)
 
-behind_unit : {X A : Type 0} (p : Phrase X) (q : X → Phrase A) (n : ℕ) → Silent p → ((x : X) (w : List ℕ) (es : List EventData) (y : Reached A) → q x w es y → whole es ≤ n)
+behind_unit : {X A : Type 0} (p : Phrase X) (q : X → Phrase A) (n : ℕ) → Silent p
+    → ((x : X) (w : List ℕ) (es : List EventData) (y : Reached A) → q x w es y → whole es ≤ n)
     → (w : List ℕ) (es : List EventData) (y : Reached A) → ◌followed_by◌ p q w es y → whole es ≤ n
 unfolding ◌followed_by◌
 behind_unit {X} {A} p q n h f w es y i = by y i
@@ -161,7 +179,8 @@ behind_unit {X} {A} p q n h f w es y i = by y i
     by (wrong c) (inl i) = none_whole n es (h.silent w es (wrong c) i)
     by (wrong c) (inr i) = on (wrong c) i
 
-behind_event : {A : Type 0} (e : EventData) (q : Phrase A) (n m : ℕ) → ends e + m ≤ n → ((w : List ℕ) (es : List EventData) (y : Reached A) → q w es y → whole es ≤ m)
+behind_event : {A : Type 0} (e : EventData) (q : Phrase A) (n m : ℕ) → ends e + m ≤ n
+    → ((w : List ℕ) (es : List EventData) (y : Reached A) → q w es y → whole es ≤ m)
     → (w : List ℕ) (es : List EventData) (y : Reached A) → ◌followed_by◌ (hands e) (λ _. q) w es y → whole es ≤ n
 unfolding ◌followed_by◌ hands
 behind_event {A} e q n m few f w es y i = by y i
@@ -179,7 +198,8 @@ behind_event {A} e q n m few f w es y i = by y i
     by (wrong c) (inl i) = absurd i
     by (wrong c) (inr i) = on (wrong c) i
 
-phrase_ends : {A : Type 0} (b : Bool) (g : Grammar A) (n : ℕ) → EndsAtMost n g → (w : List ℕ) (es : List EventData) (y : Reached A) → phrase_of b g w es y → whole es ≤ n
+phrase_ends : {A : Type 0} (b : Bool) (g : Grammar A) (n : ℕ) → EndsAtMost n g → (w : List ℕ) (es : List EventData) (y : Reached A)
+    → phrase_of b g w es y → whole es ≤ n
 unfolding gives settles
 phrase_ends b (give a) n h w es (all_of c) i = none_whole n es i.1
 phrase_ends b (give a) n h w es cut i = absurd i
@@ -188,11 +208,17 @@ phrase_ends b (fault d) n h w es (all_of c) i = absurd i
 phrase_ends b (fault d) n h w es cut i = absurd i
 phrase_ends b (fault d) n h w es (wrong c) i = none_whole n es i.1
 phrase_ends b (hand e g) n (m, few, h) w es y i = behind_event e (phrase_of b g) n m few (phrase_ends b g m h) w es y i
-phrase_ends b (integer range nullable c g) n h w es y i = behind_unit (Units.integer b range nullable c) (λ x. phrase_of b (g x)) n (silent-integer b range nullable c) (λ x. phrase_ends b (g x) n (h x)) w es y i
-phrase_ends b (ascii_text nullable room g) n h w es y i = behind_unit (Units.ascii_text nullable room) (λ x. phrase_of b (g x)) n (silent-ascii nullable room) (λ x. phrase_ends b (g x) n (h x)) w es y i
+phrase_ends b (integer range nullable c g) n h w es y i =
+    behind_unit (Units.integer b range nullable c) (λ x. phrase_of b (g x)) n (silent-integer b range nullable c)
+    (λ x. phrase_ends b (g x) n (h x)) w es y i
+phrase_ends b (ascii_text nullable room g) n h w es y i =
+    behind_unit (Units.ascii_text nullable room) (λ x. phrase_of b (g x)) n (silent-ascii nullable room)
+    (λ x. phrase_ends b (g x) n (h x)) w es y i
 phrase_ends b (raw k g) n h w es y i = behind_unit (Units.raw k) (λ x. phrase_of b (g x)) n (silent-raw k) (λ x. phrase_ends b (g x) n (h x)) w es y i
-phrase_ends b (presence_map g) n h w es y i = behind_unit (Units.presence_map b) (λ x. phrase_of b (g x)) n (silent-map b) (λ x. phrase_ends b (g x) n (h x)) w es y i
-phrase_ends b (narrow k m g) n h w es y i = behind_unit (settles (Units.width_checked b k m)) (λ _. phrase_of b g) n (silent-settles (Units.width_checked b k m)) (λ _. phrase_ends b g n h) w es y i
+phrase_ends b (presence_map g) n h w es y i = behind_unit (Units.presence_map b) (λ x. phrase_of b (g x)) n (silent-map b)
+    (λ x. phrase_ends b (g x) n (h x)) w es y i
+phrase_ends b (narrow k m g) n h w es y i = behind_unit (settles (Units.width_checked b k m)) (λ _. phrase_of b g) n
+    (silent-settles (Units.width_checked b k m)) (λ _. phrase_ends b g n h) w es y i
 
 -- ---- streams
 
@@ -216,13 +242,16 @@ module _ (t : Tree) (l : Limits) where
   unfolding SpellsMessage
   all_bound [] d d' w h = omega arith
   all_bound (m ∷ ms) d d' w (u, v, mid, h, i, e) = rw (e, length-append u v, whole-append (events t m) (flat_map (events t) ms))
-      (sum (whole (events t m)) (whole (flat_map (events t) ms)) (length u) (length v) (one_message d u (events t m) (all_of (m, mid)) h) (has_byte d u (events t m) (m, mid) h) (all_bound ms mid d' v i))
+      (sum (whole (events t m)) (whole (flat_map (events t) ms)) (length u) (length v) (one_message d u (events t m) (all_of (m, mid)) h)
+      (has_byte d u (events t m) (m, mid) h) (all_bound ms mid d' v i))
 
   chain_bound : (w : List ℕ) (es : List EventData) (d : Dictionary) → Chain t l w es d → whole es ≤ length w
   chain_bound w es d (ms, h, e) = rw e (all_bound ms (fresh t.entries) d w h)
 
-  open_bound : (u v : List ℕ) (fs gs : List EventData) (d : Dictionary) (y : Reached (MessageData × Dictionary)) → Chain t l u fs d → message t l d v gs y → 1 ≤ length v → whole (fs ++ gs) ≤ length (u ++ v)
-  open_bound u v fs gs d y h i j = rw (whole-append fs gs, length-append u v) (swap (whole fs) (whole gs) (length u) (length v) (chain_bound u fs d h) (one_message d v gs y i) j)
+  open_bound : (u v : List ℕ) (fs gs : List EventData) (d : Dictionary) (y : Reached (MessageData × Dictionary)) → Chain t l u fs d
+      → message t l d v gs y → 1 ≤ length v → whole (fs ++ gs) ≤ length (u ++ v)
+  open_bound u v fs gs d y h i j = rw (whole-append fs gs, length-append u v)
+      (swap (whole fs) (whole gs) (length u) (length v) (chain_bound u fs d h) (one_message d v gs y i) j)
     where
       swap : (a b x y : ℕ) → a ≤ x → b ≤ 1 → 1 ≤ y → a + b ≤ x + y
       swap a b x y h i j = omega (arith, h, i, j)
@@ -235,4 +264,5 @@ module _ (t : Tree) (l : Limits) where
   unfolding Stream
   whole_bound w es between (d, h) = chain_bound w es d h
   whole_bound w es inside (u, v, fs, gs, d, h, i, j, k, e) = rw (k, e) (open_bound u v fs gs d cut h i j)
-  whole_bound w es (faulted c place) (u, v, rest, fs, gs, d, h, i, n, k, e) = rw (k, e) (longer u v rest (whole (fs ++ gs)) (open_bound u v fs gs d (wrong c) h i (wrong_has_byte d v gs c i)))
+  whole_bound w es (faulted c place) (u, v, rest, fs, gs, d, h, i, n, k, e) =
+      rw (k, e) (longer u v rest (whole (fs ++ gs)) (open_bound u v fs gs d (wrong c) h i (wrong_has_byte d v gs c i)))

@@ -17,14 +17,38 @@ use Rattle.fast_command.specs.meaning.Showing.{IsShown, has_begun}
 use Rattle.fast_command.proofs.Progressing.{some_closing}
 
 -- Whatever the run answered, some of what it was to write may be lost where the flush behind it fails.
-pub unflushed : (t : Tree) (l : Limits) (hex : Bool) (R : MakeError → Type 0) (AtEnd ReadsNoMore Failed HasFailed : Type 0) (text out : List ℕ) (r : Result ShowEnd RunFault)
-    → has_begun r ≡ true → HasFailed → IsShown t l hex R AtEnd ReadsNoMore Failed text out r → IsShown t l hex R AtEnd ReadsNoMore HasFailed text out (Err Write)
+pub unflushed : (t : Tree) (l : Limits) (hex : Bool) (R : MakeError → Type 0) (AtEnd ReadsNoMore Failed HasFailed : Type 0)
+    (text out : List ℕ) (r : Result ShowEnd RunFault)
+    → has_begun r ≡ true → HasFailed → IsShown t l hex R AtEnd ReadsNoMore Failed text out r
+    → IsShown t l hex R AtEnd ReadsNoMore HasFailed text out (Err Write)
 unflushed t l hex R AtEnd ReadsNoMore Failed HasFailed text out (Ok Good) begun failed h =
     (None, h.0, h.1, between, [], [], h.2.bytes, h.2.stream, refl, ap (λ (o : List ℕ). o ++ []) (sym h.3), failed)
-unflushed t l hex R AtEnd ReadsNoMore Failed HasFailed text out (Ok (Faulted f)) begun failed h =
-    (h.0, h.1, h.2, faulted h.3 f.place, fault_line (Why.Stream h.3) f.place, [], h.4.bytes, h.4.stream, refl, sym (append-nil out ∙ h.6 ∙ ap (λ (k : FaultCode). lines t h.2 ++ fault_line k f.place) h.5), failed)
-unflushed t l hex R AtEnd ReadsNoMore Failed HasFailed text out (Ok (Truncated n)) begun failed h =
-    (None, h.0, h.1, inside, truncated_line (length h.0), [], h.2.bytes, h.2.stream, inr (refl, refl, h.5), sym (append-nil out ∙ h.4 ∙ ap (λ (k : ℕ). lines t h.1 ++ truncated_line k) h.3), failed)
+unflushed t l hex R AtEnd ReadsNoMore Failed HasFailed text out (Ok (Faulted f)) begun failed h = (
+  h.0,
+  h.1,
+  h.2,
+  faulted h.3 f.place,
+  fault_line (Why.Stream h.3) f.place,
+  [],
+  h.4.bytes,
+  h.4.stream,
+  refl,
+  sym (append-nil out ∙ h.6 ∙ ap (λ (k : FaultCode). lines t h.2 ++ fault_line k f.place) h.5),
+  failed,
+)
+unflushed t l hex R AtEnd ReadsNoMore Failed HasFailed text out (Ok (Truncated n)) begun failed h = (
+  None,
+  h.0,
+  h.1,
+  inside,
+  truncated_line (length h.0),
+  [],
+  h.2.bytes,
+  h.2.stream,
+  inr (refl, refl, h.5),
+  sym (append-nil out ∙ h.4 ∙ ap (λ (k : ℕ). lines t h.1 ++ truncated_line k) h.3),
+  failed,
+)
 unflushed t l hex R AtEnd ReadsNoMore Failed HasFailed text out (Err Read) begun failed h =
     let line = some_closing AtEnd h.0 h.1 h.3 in
     (h.0, h.1, h.2, h.3, line.0, line.0, h.4.bytes, h.4.stream, line.1, ap (λ (o : List ℕ). o ++ line.0) (sym h.6), failed)

@@ -34,12 +34,14 @@ node_found ns n v s found later is =
     ∙ ap (instruction_of (label_of n v) 0 (instructions_from 0 ns)) is
 
 -- the lines begin with those of the next template
-lines_here : (m n : ℕ) (us : List TemplateData) (u : TemplateData) → slice_get us n ≡ Some u → lines_from m (drop n us) ≡ lines_of_template m u ++ lines_from (suc m) (drop (suc n) us)
+lines_here : (m n : ℕ) (us : List TemplateData) (u : TemplateData) → slice_get us n ≡ Some u
+    → lines_from m (drop n us) ≡ lines_of_template m u ++ lines_from (suc m) (drop (suc n) us)
 lines_here m n [] u h = absurd (cc)
 lines_here m zero (x ∷ us) u h = ap (λ y. lines_of_template m y ++ lines_from (suc m) us) (same_found h)
 lines_here m (suc n) (x ∷ us) u h = lines_here m n us u h
 
-pub lines_next : (n : ℕ) (us : List TemplateData) (u : TemplateData) → slice_get us n ≡ Some u → lines_from n (drop n us) ≡ lines_of_template n u ++ lines_from (n + 1) (drop (n + 1) us)
+pub lines_next : (n : ℕ) (us : List TemplateData) (u : TemplateData) → slice_get us n ≡ Some u
+    → lines_from n (drop n us) ≡ lines_of_template n u ++ lines_from (n + 1) (drop (n + 1) us)
 lines_next n us u h = lines_here n n us u h ∙ ap (λ k. lines_of_template n u ++ lines_from k (drop k us)) (let e : suc n ≡ n + 1 = omega arith in e)
 
 -- no template is left

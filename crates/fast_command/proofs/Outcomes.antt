@@ -30,6 +30,7 @@ still_told h stays = elim h [
 ]
 
 -- The fronts of a set are those of the tree that the set stands for.
-pub of_tree : {E : Type 0} (r : Result Fronts E) (set : Templates) (t : Tree) → IfOk r (λ (f : Fronts). (set_of f).now ≡ set) → t ≡ tree_of set → IfOk r (λ (f : Fronts). tree_of (set_of f).now ≡ t)
+pub of_tree : {E : Type 0} (r : Result Fronts E) (set : Templates) (t : Tree) → IfOk r (λ (f : Fronts). (set_of f).now ≡ set)
+    → t ≡ tree_of set → IfOk r (λ (f : Fronts). tree_of (set_of f).now ≡ t)
 of_tree (Ok f) set t h is = ap tree_of h ∙ sym is
 of_tree (Err e) set t h is = tt

@@ -1,5 +1,6 @@
 -- From what the parts of a run do to what it has shown.
-use Rattle.std.proofs.Common.{◌≡◌, ◌⊎◌, ℕ, ◌+◌, ◌*◌, ◌≤◌, Bool, true, false, List, [], ◌∷◌, ◌++◌, Option, Some, None, Result, Ok, Err, refl, ap, sym, ◌∙◌, inl, inr, subst, length, length-append, suc, arith, append_assoc, append-nil}
+use Rattle.std.proofs.Common.{◌≡◌, ◌⊎◌, ℕ, ◌+◌, ◌*◌, ◌≤◌, Bool, true, false, List, [], ◌∷◌, ◌++◌, Option, Some, None, Result, Ok, Err, refl}
+use Rattle.std.proofs.Common.{ap, sym, ◌∙◌, inl, inr, subst, length, length-append, suc, arith, append_assoc, append-nil}
 use Rattle.std.specs.Prelude.{All, IsTrue, is_some, if◌then◌else◌, OnOk, IfErr, MatchOption}
 use Rattle.std.proofs.lemmas.List.Elements.{All-append}
 use Rattle.fast_value.specs.declared.settings.Limits.{Limits}
@@ -48,7 +49,8 @@ pub record EndsWell (t : Tree) (l : Limits) (d : DecoderData) (b : List ℕ) (es
   pub tells : account d ≡ account_at b end
 
 -- a decoder without a fault
-pub ends_well : (t : Tree) (l : Limits) (d : DecoderData) (b : List ℕ) (es : List EventData) → tree d ≡ t → d.limits ≡ l → HasRead d b es → d.fault ≡ None → EndsWell t l d b es
+pub ends_well : (t : Tree) (l : Limits) (d : DecoderData) (b : List ℕ) (es : List EventData) → tree d ≡ t → d.limits ≡ l → HasRead d b es
+    → d.fault ≡ None → EndsWell t l d b es
 ends_well t l d b es set limits so good =
     let s = read-stream d b es so in
     record { end = s.0; stream = rw (← set, ← limits) s.1; good = at s.0 s.2; tells = s.2 }
@@ -62,7 +64,8 @@ ends_well t l d b es set limits so good =
     at (faulted c place) h = absurd (apart (record { code = Why.Stream c; place = place }) (sym (ap (λ (s : Account). s.fault) h) ∙ good))
 
 -- between two messages
-pub ends_between : (t : Tree) (l : Limits) (d : DecoderData) (b : List ℕ) (es : List EventData) → EndsWell t l d b es → (account d).is_between ≡ true → Stream t l b es between
+pub ends_between : (t : Tree) (l : Limits) (d : DecoderData) (b : List ℕ) (es : List EventData) → EndsWell t l d b es
+    → (account d).is_between ≡ true → Stream t l b es between
 ends_between t l d b es w told = at w.end w.stream w.good (sym (ap (λ (s : Account). s.is_between) w.tells) ∙ told)
   where
     at : (e : End) → Stream t l b es e → IsGoodEnd e → (account_at b e).is_between ≡ true → Stream t l b es between
@@ -71,7 +74,8 @@ ends_between t l d b es w told = at w.end w.stream w.good (sym (ap (λ (s : Acco
     at (faulted c place) s good h = absurd good
 
 -- inside a message
-pub ends_inside : (t : Tree) (l : Limits) (d : DecoderData) (b : List ℕ) (es : List EventData) → EndsWell t l d b es → (account d).is_between ≡ false → Stream t l b es inside
+pub ends_inside : (t : Tree) (l : Limits) (d : DecoderData) (b : List ℕ) (es : List EventData) → EndsWell t l d b es
+    → (account d).is_between ≡ false → Stream t l b es inside
 ends_inside t l d b es w told = at w.end w.stream w.good (sym (ap (λ (s : Account). s.is_between) w.tells) ∙ told)
   where
     at : (e : End) → Stream t l b es e → IsGoodEnd e → (account_at b e).is_between ≡ false → Stream t l b es inside
@@ -89,7 +93,8 @@ counts_all t l d b es w = ap (λ (s : Account). s.consumed) w.tells ∙ at w.end
     at (faulted c place) good = absurd good
 
 -- at a fault of the stream
-pub ends_at_fault : (t : Tree) (l : Limits) (d : DecoderData) (b : List ℕ) (es : List EventData) (f : Fault) (c : Code) → tree d ≡ t → d.limits ≡ l → HasRead d b es → d.fault ≡ Some f → f.code ≡ Why.Stream c → Stream t l b es (faulted c f.place)
+pub ends_at_fault : (t : Tree) (l : Limits) (d : DecoderData) (b : List ℕ) (es : List EventData) (f : Fault) (c : Code) → tree d ≡ t
+    → d.limits ≡ l → HasRead d b es → d.fault ≡ Some f → f.code ≡ Why.Stream c → Stream t l b es (faulted c f.place)
 ends_at_fault t l d b es f c set limits so fault code =
     let s = read-stream d b es so in
     rw (← set, ← limits) (at s.0 s.1 (sym (ap (λ (s : Account). s.fault) s.2) ∙ fault))
@@ -182,7 +187,8 @@ stream_of t l hex s text b es p = ends_well t l s.decoder b es p.set p.limits p.
 
 -- a run that goes on
 pub goes_on : (t : Tree) (l : Limits) (hex : Bool) (s s' : Show) (text b piece bytes : List ℕ) (es : List EventData) (w : Change) → Progress t l hex s text b es
-    → s'.fronts ≡ s.fronts → (tree s'.decoder ≡ tree s.decoder) × (s'.decoder.limits ≡ s.decoder.limits) → is_some s'.unhexer ≡ is_some s.unhexer → s'.decoder.fault ≡ None
+    → s'.fronts ≡ s.fronts → (tree s'.decoder ≡ tree s.decoder) × (s'.decoder.limits ≡ s.decoder.limits)
+    → is_some s'.unhexer ≡ is_some s.unhexer → s'.decoder.fault ≡ None
     → IsTaken s'.unhexer (text ++ piece) (b ++ bytes) → Fed t b es bytes s'.decoder w → GoesOn t l hex s' (text ++ piece) es w
 goes_on t l hex s s' text b piece bytes es w p fronts same hex_same good taken fed = record {
   bytes = b ++ bytes;
@@ -202,7 +208,8 @@ goes_on t l hex s s' text b piece bytes es w p fronts same hex_same good taken f
 }
 
 -- a bad character
-pub bad_character_ends : (t : Tree) (l : Limits) (hex : Bool) (s : Show) (text : List ℕ) (es : List EventData) (w : Change) (place : ℕ) → GoesOn t l hex s text es w → IsBadPlace s.unhexer place
+pub bad_character_ends : (t : Tree) (l : Limits) (hex : Bool) (s : Show) (text : List ℕ) (es : List EventData) (w : Change) (place : ℕ)
+    → GoesOn t l hex s text es w → IsBadPlace s.unhexer place
     → Ended t l hex ⊥ text es w (Err (BadHex place))
 bad_character_ends t l hex s text es w place h bad =
     let p = h.progress in
@@ -212,7 +219,19 @@ bad_character_ends t l hex s text es w place h bad =
     record {
       out = lines t h.more;
       written = h.written;
-      shown = (h.bytes, es ++ h.more, e.end, record { bytes = rw hexed at.1; stream = e.stream; holds = p.holds }, e.good, sym (lines-append t es h.more), inl at.2);
+      shown = (
+        h.bytes,
+        es ++ h.more,
+        e.end,
+        record {
+          bytes = rw hexed at.1;
+          stream = e.stream;
+          holds = p.holds;
+        },
+        e.good,
+        sym (lines-append t es h.more),
+        inl at.2,
+      );
       told = inr h.as_before;
     }
 
@@ -221,31 +240,62 @@ nothing_more : (xs : List ℕ) → xs ++ [] ≡ xs
 nothing_more xs = append-nil xs
 
 -- a bad end
-pub bad_end_ends : (t : Tree) (l : Limits) (hex : Bool) (s : Show) (text b : List ℕ) (es : List EventData) (held : Option (List ℕ)) (failed : Bool) (place : ℕ) → Progress t l hex s text b es → StandsFor (is_some s.unhexer) text b (Some place)
+pub bad_end_ends : (t : Tree) (l : Limits) (hex : Bool) (s : Show) (text b : List ℕ) (es : List EventData) (held : Option (List ℕ))
+    (failed : Bool) (place : ℕ) → Progress t l hex s text b es → StandsFor (is_some s.unhexer) text b (Some place)
     → Ended t l hex (Unit {0}) text es (unchanged held failed) (Err (BadHex place))
 bad_end_ends t l hex s text b es held failed place p bad =
     let e = stream_of t l hex s text b es p in
     let at : StandsFor hex text b (Some place) = rw (← p.hex_is) bad in
-    record { out = []; written = appends_none held; shown = (b, es, e.end, record { bytes = at; stream = e.stream; holds = p.holds }, e.good, nothing_more (lines t es), inr tt); told = inr refl }
+    record {
+      out = [];
+      written = appends_none held;
+      shown =
+          (b, es, e.end, record { bytes = at; stream = e.stream; holds = p.holds }, e.good, nothing_more (lines t es), inr tt);
+      told = inr refl;
+    }
 
 -- a good end
-pub good_ends : (t : Tree) (l : Limits) (hex : Bool) (s : Show) (text b : List ℕ) (es : List EventData) (held : Option (List ℕ)) (failed : Bool) → Progress t l hex s text b es → StandsFor (is_some s.unhexer) text b None → (account s.decoder).is_between ≡ true
+pub good_ends : (t : Tree) (l : Limits) (hex : Bool) (s : Show) (text b : List ℕ) (es : List EventData) (held : Option (List ℕ))
+    (failed : Bool) → Progress t l hex s text b es → StandsFor (is_some s.unhexer) text b None → (account s.decoder).is_between ≡ true
     → Ended t l hex (Unit {0}) text es (unchanged held failed) (Ok Good)
 good_ends t l hex s text b es held failed p bytes told =
     let e = stream_of t l hex s text b es p in
     let at : StandsFor hex text b None = rw (← p.hex_is) bytes in
-    record { out = []; written = appends_none held; shown = (b, es, record { bytes = at; stream = ends_between t l s.decoder b es e told; holds = p.holds }, nothing_more (lines t es), tt); told = inr refl }
+    record {
+      out = [];
+      written = appends_none held;
+      shown =
+          (b, es, record { bytes = at; stream = ends_between t l s.decoder b es e told; holds = p.holds }, nothing_more (lines t es), tt);
+      told = inr refl;
+    }
 
 -- an end inside a message
-pub truncated_ends : (t : Tree) (l : Limits) (hex : Bool) (s : Show) (text b : List ℕ) (es : List EventData) (w : Change) (n : ℕ) → Progress t l hex s text b es → StandsFor (is_some s.unhexer) text b None → (account s.decoder).is_between ≡ false → n ≡ (account s.decoder).consumed
+pub truncated_ends : (t : Tree) (l : Limits) (hex : Bool) (s : Show) (text b : List ℕ) (es : List EventData) (w : Change) (n : ℕ)
+    → Progress t l hex s text b es → StandsFor (is_some s.unhexer) text b None → (account s.decoder).is_between ≡ false
+    → n ≡ (account s.decoder).consumed
     → Appends w.held w.holds (truncated_line n) → w.has_failed ≡ w.had_failed → Ended t l hex (Unit {0}) text es w (Ok (Truncated n))
 truncated_ends t l hex s text b es w n p bytes told count line stays =
     let e = stream_of t l hex s text b es p in
     let at : StandsFor hex text b None = rw (← p.hex_is) bytes in
-    record { out = truncated_line n; written = line; shown = (b, es, record { bytes = at; stream = ends_inside t l s.decoder b es e told; holds = p.holds }, count ∙ counts_all t l s.decoder b es e, refl, tt); told = inr stays }
+    record {
+      out = truncated_line n;
+      written = line;
+      shown = (
+        b,
+        es,
+        record { bytes = at; stream = ends_inside t l s.decoder b es e told; holds = p.holds },
+        count
+            ∙ counts_all t l s.decoder b es e,
+        refl,
+        tt,
+      );
+      told = inr stays;
+    }
 
 -- an end inside a message, where the writer fails in its line
-pub truncated_fails : (t : Tree) (l : Limits) (hex : Bool) (s : Show) (text b : List ℕ) (es : List EventData) (w : Change) (n : ℕ) → Progress t l hex s text b es → StandsFor (is_some s.unhexer) text b None → (account s.decoder).is_between ≡ false → n ≡ (account s.decoder).consumed
+pub truncated_fails : (t : Tree) (l : Limits) (hex : Bool) (s : Show) (text b : List ℕ) (es : List EventData) (w : Change) (n : ℕ)
+    → Progress t l hex s text b es → StandsFor (is_some s.unhexer) text b None → (account s.decoder).is_between ≡ false
+    → n ≡ (account s.decoder).consumed
     → AppendsFront w.held w.holds (truncated_line n) → IsTrue w.has_failed → Ended t l hex (Unit {0}) text es w (Err Write)
 truncated_fails t l hex s text b es w n p bytes told count line failed =
     let e = stream_of t l hex s text b es p in
@@ -254,7 +304,20 @@ truncated_fails t l hex s text b es w n p bytes told count line failed =
     record {
       out = line.front;
       written = line.added;
-      shown = (None, b, es, inside, truncated_line (length b), line.rest, at, ends_inside t l s.decoder b es e told, inr (refl, refl, tt), ap (λ (m : ℕ). lines t es ++ truncated_line m) (sym all) ∙ ap (λ (xs : List ℕ). lines t es ++ xs) line.is ∙ sym (append_assoc (lines t es) line.front line.rest), failed);
+      shown = (
+        None,
+        b,
+        es,
+        inside,
+        truncated_line (length b),
+        line.rest,
+        at,
+        ends_inside t l s.decoder b es e told,
+        inr (refl, refl, tt),
+        ap (λ (m : ℕ). lines t es ++ truncated_line m) (sym all) ∙ ap (λ (xs : List ℕ). lines t es ++ xs) line.is
+            ∙ sym (append_assoc (lines t es) line.front line.rest),
+        failed,
+      );
       told = inl refl;
     }
 
@@ -263,16 +326,31 @@ abbrev pub both : Change → Change → Change
 both w v = record { held = w.held; holds = v.holds; had_failed = w.had_failed; has_failed = v.has_failed }
 
 -- The line of a fault behind the lines of its events.
-fault_shown : (t : Tree) (l : Limits) (hex : Bool) (text b bytes : List ℕ) (es : List EventData) (d : DecoderData) (w v : Change) (f : Fault) (c : Code) (r : Result ShowEnd RunFault) → tree d ≡ t → d.limits ≡ l → d.fault ≡ Some f → f.code ≡ Why.Stream c
+fault_shown : (t : Tree) (l : Limits) (hex : Bool) (text b bytes : List ℕ) (es : List EventData) (d : DecoderData) (w v : Change)
+    (f : Fault) (c : Code) (r : Result ShowEnd RunFault) → tree d ≡ t → d.limits ≡ l → d.fault ≡ Some f → f.code ≡ Why.Stream c
     → All HoldsBytes es → Fed t b es bytes d w → v.held ≡ w.holds → v.had_failed ≡ w.has_failed → (place : Option ℕ) × StandsFor hex text (b ++ bytes) place
-    → (r ≡ Ok (Faulted f)) × Appends v.held v.holds (fault_line f.code f.place) × (v.has_failed ≡ v.had_failed) ⊎ (r ≡ Err Write) × AppendsFront v.held v.holds (fault_line f.code f.place) × IsTrue v.has_failed
+    → (r ≡ Ok (Faulted f)) × Appends v.held v.holds (fault_line f.code f.place) × (v.has_failed ≡ v.had_failed) ⊎ (r ≡ Err Write)
+    × AppendsFront v.held v.holds (fault_line f.code f.place) × IsTrue v.has_failed
     → Ended t l hex ⊥ text es (both w v) r
 fault_shown t l hex text b bytes es d w v f c r set limits fault code holds fed on failed at (inl h) =
     let stream = ends_at_fault t l d (b ++ bytes) (es ++ fed.more) f c set limits fed.so fault code in
     let ended : Ended t l hex ⊥ text es (both w v) (Ok (Faulted f)) = record {
       out = lines t fed.more ++ fault_line f.code f.place;
       written = appends_both w.held w.holds v.holds (lines t fed.more) (fault_line f.code f.place) fed.written (rw (← on) h.1);
-      shown = (at.0, b ++ bytes, es ++ fed.more, c, record { bytes = at.1; stream = stream; holds = All-append HoldsBytes es fed.more holds fed.holds }, code, sym (append_assoc (lines t es) (lines t fed.more) (fault_line f.code f.place)) ∙ ap (λ (xs : List ℕ). xs ++ fault_line f.code f.place) (sym (lines-append t es fed.more)));
+      shown = (
+        at.0,
+        b ++ bytes,
+        es ++ fed.more,
+        c,
+        record {
+          bytes = at.1;
+          stream = stream;
+          holds = All-append HoldsBytes es fed.more holds fed.holds;
+        },
+        code,
+        sym (append_assoc (lines t es) (lines t fed.more) (fault_line f.code f.place))
+            ∙ ap (λ (xs : List ℕ). xs ++ fault_line f.code f.place) (sym (lines-append t es fed.more)),
+      );
       told = inr (h.2 ∙ failed ∙ fed.as_before);
     } in
     rw h.0 ended
@@ -283,7 +361,20 @@ fault_shown t l hex text b bytes es d w v f c r set limits fault code holds fed 
     let ended : Ended t l hex ⊥ text es (both w v) (Err Write) = record {
       out = lines t fed.more ++ line.front;
       written = appends_both w.held w.holds v.holds (lines t fed.more) line.front fed.written (rw (← on) line.added);
-      shown = (at.0, b ++ bytes, es ++ fed.more, faulted c f.place, fault_line (Why.Stream c) f.place, line.rest, at.1, stream, refl, regroup (lines t (es ++ fed.more)) (lines t es) (lines t fed.more) (fault_line (Why.Stream c) f.place) line.front line.rest (lines-append t es fed.more) text_of, h.2);
+      shown = (
+        at.0,
+        b ++ bytes,
+        es ++ fed.more,
+        faulted c f.place,
+        fault_line (Why.Stream c) f.place,
+        line.rest,
+        at.1,
+        stream,
+        refl,
+        regroup (lines t (es ++ fed.more)) (lines t es) (lines t fed.more) (fault_line (Why.Stream c) f.place) line.front line.rest
+            (lines-append t es fed.more) text_of,
+        h.2,
+      );
       told = inl refl;
     } in
     rw h.0 ended
@@ -292,14 +383,28 @@ fault_shown t l hex text b bytes es d w v f c r set limits fault code holds fed 
     regroup all a m k x y e g = rw (e, g) (simp append_assoc)
 
 -- the lines of events of which a front was written
-cut_shown : (t : Tree) (l : Limits) (hex : Bool) (text b bytes : List ℕ) (es : List EventData) (w v : Change) (r : Result ShowEnd RunFault) → CutShort t l b es bytes w → (place : Option ℕ) × StandsFor hex text (b ++ bytes) place
-    → (r ≡ Err Write) × (v.holds ≡ v.held) × (v.has_failed ≡ v.had_failed) → v.held ≡ w.holds → v.had_failed ≡ w.has_failed → Ended t l hex ⊥ text es (both w v) r
+cut_shown : (t : Tree) (l : Limits) (hex : Bool) (text b bytes : List ℕ) (es : List EventData) (w v : Change) (r : Result ShowEnd RunFault)
+    → CutShort t l b es bytes w → (place : Option ℕ) × StandsFor hex text (b ++ bytes) place
+    → (r ≡ Err Write) × (v.holds ≡ v.held) × (v.has_failed ≡ v.had_failed) → v.held ≡ w.holds → v.had_failed ≡ w.has_failed
+    → Ended t l hex ⊥ text es (both w v) r
 cut_shown t l hex text b bytes es w v r cut at h on failed =
     let line = some_closing ⊥ at.0 (b ++ bytes) cut.end in
     let ended : Ended t l hex ⊥ text es (both w v) (Err Write) = record {
       out = cut.out;
       written = rw (h.1 ∙ on) cut.written;
-      shown = (at.0, b ++ bytes, cut.all, cut.end, line.0, cut.rest ++ line.0, at.1, cut.stream, line.1, regroup (lines t cut.all) (lines t es) cut.out cut.rest line.0 cut.lines_are, rw (h.2 ∙ failed) cut.failed);
+      shown = (
+        at.0,
+        b ++ bytes,
+        cut.all,
+        cut.end,
+        line.0,
+        cut.rest ++ line.0,
+        at.1,
+        cut.stream,
+        line.1,
+        regroup (lines t cut.all) (lines t es) cut.out cut.rest line.0 cut.lines_are,
+        rw (h.2 ∙ failed) cut.failed,
+      );
       told = inl refl;
     } in
     rw h.0 ended
@@ -308,8 +413,10 @@ cut_shown t l hex text b bytes es w v r cut at h on failed =
     regroup all a x y k e = rw e (simp append_assoc)
 
 -- Where a feed stops at a fault the run ends.
-pub fault_ends : (t : Tree) (l : Limits) (hex : Bool) (text b bytes : List ℕ) (es : List EventData) (d : DecoderData) (w v : Change) (f : Fault) (r : Result ShowEnd RunFault) → tree d ≡ t → d.limits ≡ l → d.fault ≡ Some f
-    → All HoldsBytes es → IsFedAt t l b es bytes d w f.code → IsClosedAt f f.code v r → v.held ≡ w.holds → v.had_failed ≡ w.has_failed → (place : Option ℕ) × StandsFor hex text (b ++ bytes) place → Ended t l hex ⊥ text es (both w v) r
+pub fault_ends : (t : Tree) (l : Limits) (hex : Bool) (text b bytes : List ℕ) (es : List EventData) (d : DecoderData) (w v : Change)
+    (f : Fault) (r : Result ShowEnd RunFault) → tree d ≡ t → d.limits ≡ l → d.fault ≡ Some f
+    → All HoldsBytes es → IsFedAt t l b es bytes d w f.code → IsClosedAt f f.code v r → v.held ≡ w.holds → v.had_failed ≡ w.has_failed
+    → (place : Option ℕ) × StandsFor hex text (b ++ bytes) place → Ended t l hex ⊥ text es (both w v) r
 fault_ends t l hex text b bytes es d w v f r set limits fault holds fed closed on failed at = by_code f.code refl fed closed
   where
     by_code : (code : FaultCode) → f.code ≡ code → IsFedAt t l b es bytes d w code → IsClosedAt f code v r → Ended t l hex ⊥ text es (both w v) r
@@ -330,30 +437,45 @@ this_fault None f h = absurd (cc)
 this_fault (Some e) f h = cc
 
 -- the lines of the set's own tree
-pub fed_in : (u t : Tree) (b : List ℕ) (es : List EventData) (bytes : List ℕ) (d : DecoderData) (w : Change) → u ≡ t → Fed u b es bytes d w → Fed t b es bytes d w
+pub fed_in : (u t : Tree) (b : List ℕ) (es : List EventData) (bytes : List ℕ) (d : DecoderData) (w : Change) → u ≡ t → Fed u b es bytes d w
+    → Fed t b es bytes d w
 fed_in u t b es bytes d w same h = subst (λ (v : Tree). Fed v b es bytes d w) same h
 
 -- the same at a fault
-pub fed_at_in : (u t : Tree) (k l : Limits) (b : List ℕ) (es : List EventData) (bytes : List ℕ) (d : DecoderData) (w : Change) (c : FaultCode) → u ≡ t → k ≡ l → IsFedAt u k b es bytes d w c → IsFedAt t l b es bytes d w c
-fed_at_in u t k l b es bytes d w c same limits h = subst (λ (m : Limits). IsFedAt t m b es bytes d w c) limits (subst (λ (v : Tree). IsFedAt v k b es bytes d w c) same h)
+pub fed_at_in : (u t : Tree) (k l : Limits) (b : List ℕ) (es : List EventData) (bytes : List ℕ) (d : DecoderData) (w : Change)
+    (c : FaultCode) → u ≡ t → k ≡ l → IsFedAt u k b es bytes d w c → IsFedAt t l b es bytes d w c
+fed_at_in u t k l b es bytes d w c same limits h = subst (λ (m : Limits). IsFedAt t m b es bytes d w c) limits
+    (subst (λ (v : Tree). IsFedAt v k b es bytes d w c) same h)
 
 -- How a run goes on or ends behind a piece whose bytes were fed.
-pub piece_fed : {T : Type 0} (written : T → Option (List ℕ)) (has_failed : T → Bool) (old mid new : T) (t : Tree) (l : Limits) (hex : Bool) (s s' : Show) (text b piece bytes : List ℕ) (es : List EventData) (fed : Result (Unit {0}) Fault) (r : Option (Result ShowEnd RunFault))
-    → Progress t l hex s text b es → s'.fronts ≡ s.fronts → (tree s'.decoder ≡ tree s.decoder) × (s'.decoder.limits ≡ s.decoder.limits) → is_some s'.unhexer ≡ is_some s.unhexer → fed ≡ answer s'.decoder.fault
-    → IsTaken s'.unhexer (text ++ piece) (b ++ bytes) → IsFed (tree_of (set_of s.fronts).now) s.decoder.limits b es bytes s'.decoder (changed written has_failed old mid) fed
-    → OnOk fed (new ≡ mid) → OnOk fed (MatchOption r (Unit {0}) (λ (e : Result ShowEnd RunFault). (place : ℕ) × (e ≡ Err (BadHex place)) × IsBadPlace s'.unhexer place))
+pub piece_fed : {T : Type 0} (written : T → Option (List ℕ)) (has_failed : T → Bool) (old mid new : T) (t : Tree) (l : Limits) (hex : Bool)
+    (s s' : Show) (text b piece bytes : List ℕ) (es : List EventData) (fed : Result (Unit {0}) Fault) (r : Option (Result ShowEnd RunFault))
+    → Progress t l hex s text b es → s'.fronts ≡ s.fronts → (tree s'.decoder ≡ tree s.decoder) × (s'.decoder.limits ≡ s.decoder.limits)
+    → is_some s'.unhexer ≡ is_some s.unhexer → fed ≡ answer s'.decoder.fault
+    → IsTaken s'.unhexer (text ++ piece) (b ++ bytes) → IsFed (tree_of (set_of s.fronts).now) s.decoder.limits b es bytes s'.decoder
+    (changed written has_failed old mid) fed
+    → OnOk fed (new ≡ mid) → OnOk fed (MatchOption r (Unit {0})
+    (λ (e : Result ShowEnd RunFault). (place : ℕ) × (e ≡ Err (BadHex place)) × IsBadPlace s'.unhexer place))
     → IfErr fed (λ (f : Fault). MatchOption r ⊥ (IsClosedAt f f.code (changed written has_failed mid new)))
-    → MatchOption r (GoesOn t l hex s' (text ++ piece) es (changed written has_failed old new)) (Ended t l hex ⊥ (text ++ piece) es (changed written has_failed old new))
+    → MatchOption r (GoesOn t l hex s' (text ++ piece) es (changed written has_failed old new))
+    (Ended t l hex ⊥ (text ++ piece) es (changed written has_failed old new))
 piece_fed {T} written has_failed old mid new t l hex s s' text b piece bytes es (Ok u) r p fronts same hex_same told taken fed stays behind closed =
-    let on = goes_on t l hex s s' text b piece bytes es (changed written has_failed old mid) p fronts same hex_same (no_fault _ _ told) taken (fed_in _ t b es bytes s'.decoder _ p.names fed) in
-    subst (λ (z : T). MatchOption r (GoesOn t l hex s' (text ++ piece) es (changed written has_failed old z)) (Ended t l hex ⊥ (text ++ piece) es (changed written has_failed old z))) (sym stays) (at r on behind)
+    let on = goes_on t l hex s s' text b piece bytes es (changed written has_failed old mid) p fronts same hex_same
+    (no_fault _ _ told) taken (fed_in _ t b es bytes s'.decoder _ p.names fed) in
+    subst (λ (z : T). MatchOption r (GoesOn t l hex s' (text ++ piece) es (changed written has_failed old z))
+    (Ended t l hex ⊥ (text ++ piece) es (changed written has_failed old z))) (sym stays) (at r on behind)
   where
     at : (r : Option (Result ShowEnd RunFault)) → GoesOn t l hex s' (text ++ piece) es (changed written has_failed old mid)
         → MatchOption r (Unit {0}) (λ (e : Result ShowEnd RunFault). (place : ℕ) × (e ≡ Err (BadHex place)) × IsBadPlace s'.unhexer place)
-        → MatchOption r (GoesOn t l hex s' (text ++ piece) es (changed written has_failed old mid)) (Ended t l hex ⊥ (text ++ piece) es (changed written has_failed old mid))
+        → MatchOption r (GoesOn t l hex s' (text ++ piece) es (changed written has_failed old mid))
+        (Ended t l hex ⊥ (text ++ piece) es (changed written has_failed old mid))
     at None on h = on
     at (Some e) on h = rw h.1 (bad_character_ends t l hex s' (text ++ piece) es _ h.0 on h.2)
-piece_fed written has_failed old mid new t l hex s s' text b piece bytes es (Err f) None p fronts same hex_same told taken fed stays behind closed = absurd closed
+piece_fed written has_failed old mid new t l hex s s' text b piece bytes es
+    (Err f) None p fronts same hex_same told taken fed stays behind closed = absurd closed
 piece_fed written has_failed old mid new t l hex s s' text b piece bytes es (Err f) (Some r) p fronts same hex_same told taken fed stays behind closed =
     let at = stands_for s'.unhexer (text ++ piece) (b ++ bytes) taken in
-    fault_ends t l hex (text ++ piece) b bytes es s'.decoder (changed written has_failed old mid) (changed written has_failed mid new) f r (same.0 ∙ p.set) (same.1 ∙ p.limits) (this_fault _ f told) p.holds (fed_at_in _ t s.decoder.limits l b es bytes s'.decoder _ f.code p.names p.limits fed) closed refl refl (at.0, rw (hex_same ∙ p.hex_is) at at.1)
+    fault_ends t l hex (text ++ piece) b bytes es s'.decoder (changed written has_failed old mid) (changed written has_failed mid new) f r
+    (same.0 ∙ p.set) (same.1 ∙ p.limits) (this_fault _ f told) p.holds
+    (fed_at_in _ t s.decoder.limits l b es bytes s'.decoder _ f.code p.names p.limits fed) closed refl refl
+    (at.0, rw (hex_same ∙ p.hex_is) at at.1)

@@ -15,8 +15,10 @@ use Rattle.fast_command.specs.meaning.Sets.{IsSetRefused}
 use Rattle.fast_command.specs.meaning.Texts.{text_limit, IsUnread}
 
 -- all of a text was read, and it is refused with a code
-pub refused_set : (left_old left_new : Option (List ℕ)) (HasFailed : Type 0) (text : List ℕ) (f : StaticFault) → Reads left_old left_new text → IsAtEnd left_new → length text ≤ text_limit
-    → IsAtFault (parse_document text) f.code f.template → IsFirstFault (parse_document text) f.code f.template → (code : StaticCode) → f.code ≡ code → IsSetRefused left_old left_new HasFailed (refused_by code f)
+pub refused_set : (left_old left_new : Option (List ℕ)) (HasFailed : Type 0) (text : List ℕ) (f : StaticFault)
+    → Reads left_old left_new text → IsAtEnd left_new → length text ≤ text_limit
+    → IsAtFault (parse_document text) f.code f.template → IsFirstFault (parse_document text) f.code f.template → (code : StaticCode)
+    → f.code ≡ code → IsSetRefused left_old left_new HasFailed (refused_by code f)
 refused_set left_old left_new HasFailed text f read end short fault first NoMemory is = tt
 refused_set left_old left_new HasFailed text f read end short fault first S1 is =
     let other : f.code ≢ NoMemory = λ none. let clash : S1 ≡ NoMemory = sym is ∙ none in absurd (cc) in
@@ -56,7 +58,8 @@ refused_set left_old left_new HasFailed text f read end short fault first C6 is 
     (text, read, end, short, inr (other, fault, first))
 
 -- The text was not read.
-pub refused_unread : (left_old left_new : Option (List ℕ)) (HasFailed : Type 0) (e : RunFault) → IsUnread text_limit left_old left_new HasFailed e → IsSetRefused left_old left_new HasFailed e
+pub refused_unread : (left_old left_new : Option (List ℕ)) (HasFailed : Type 0) (e : RunFault)
+    → IsUnread text_limit left_old left_new HasFailed e → IsSetRefused left_old left_new HasFailed e
 refused_unread left_old left_new HasFailed Read h = h
 refused_unread left_old left_new HasFailed Write h = h
 refused_unread left_old left_new HasFailed (BadHex place) h = h

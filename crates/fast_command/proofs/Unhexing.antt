@@ -15,7 +15,8 @@ hex_or_blank_more t c all here = All-append IsHexOrBlank t (c ∷ []) all (All-c
 
 -- the digits with a blank more
 digits_blank : (t : List ℕ) (c : ℕ) → IsBlank c → digits_in (t ++ c ∷ []) ≡ digits_in t
-digits_blank t c blank = filter-append is_shown t (c ∷ []) ∙ ap (λ (b : Bool). filter is_shown t ++ cond b (c ∷ []) []) (blank_dropped c blank) ∙ append-nil (filter is_shown t)
+digits_blank t c blank = filter-append is_shown t (c ∷ [])
+    ∙ ap (λ (b : Bool). filter is_shown t ++ cond b (c ∷ []) []) (blank_dropped c blank) ∙ append-nil (filter is_shown t)
 
 -- the digits with a digit more
 digits_digit : (t : List ℕ) (c n : ℕ) → IsHexDigit c n → digits_in (t ++ c ∷ []) ≡ digits_in t ++ c ∷ []
@@ -43,22 +44,27 @@ blank_more p t v c blank h = same_bytes p (t ++ c ∷ []) v (at p h)
 
 -- behind a bad character nothing matters
 pub bad_more : (place : ℕ) (t v : List ℕ) (c : ℕ) → StandsAt (Bad place) t v → StandsAt (Bad place) (t ++ c ∷ []) (v ++ [])
-bad_more place t v c h = same_bytes (Bad place) (t ++ c ∷ []) v (h.0, h.1 ++ c ∷ [], h.2, ap (λ (xs : List ℕ). xs ++ c ∷ []) h.3 ∙ append_assoc h.0 (h.2 ∷ h.1) (c ∷ []), h.4, h.5, h.6, h.7)
+bad_more place t v c h = same_bytes (Bad place) (t ++ c ∷ []) v
+    (h.0, h.1 ++ c ∷ [], h.2, ap (λ (xs : List ℕ). xs ++ c ∷ []) h.3 ∙ append_assoc h.0 (h.2 ∷ h.1) (c ∷ []), h.4, h.5, h.6, h.7)
 
 -- the first digit of a pair
 pub first_more : (t v : List ℕ) (c n : ℕ) → IsHexDigit c n → StandsAt Between t v → StandsAt (InPair c) (t ++ c ∷ []) (v ++ [])
-first_more t v c n digit h = same_bytes (InPair c) (t ++ c ∷ []) v (hex_or_blank_more t c h.0 (inr (n, digit)), (digits_in t, n, digits_digit t c n digit, digit, h.1))
+first_more t v c n digit h = same_bytes (InPair c) (t ++ c ∷ []) v
+    (hex_or_blank_more t c h.0 (inr (n, digit)), (digits_in t, n, digits_digit t c n digit, digit, h.1))
 
 -- the second digit of a pair
-pub second_more : (t v : List ℕ) (d c n byte : ℕ) → IsHexDigit c n → ((m : ℕ) → IsHexDigit d m → byte ≡ 16 * m + n) → StandsAt (InPair d) t v → StandsAt Between (t ++ c ∷ []) (v ++ byte ∷ [])
+pub second_more : (t v : List ℕ) (d c n byte : ℕ) → IsHexDigit c n → ((m : ℕ) → IsHexDigit d m → byte ≡ 16 * m + n)
+    → StandsAt (InPair d) t v → StandsAt Between (t ++ c ∷ []) (v ++ byte ∷ [])
 second_more t v d c n byte digit value h =
     let front = h.1.0 in
-    let digits : digits_in (t ++ c ∷ []) ≡ front ++ d ∷ c ∷ [] = digits_digit t c n digit ∙ ap (λ (xs : List ℕ). xs ++ c ∷ []) h.1.2 ∙ append_assoc front (d ∷ []) (c ∷ []) in
+    let digits : digits_in (t ++ c ∷ []) ≡ front ++ d ∷ c ∷ [] = digits_digit t c n digit ∙ ap (λ (xs : List ℕ). xs ++ c ∷ []) h.1.2
+    ∙ append_assoc front (d ∷ []) (c ∷ []) in
     let pairs = pair_more front v d c h.1.1 n h.1.4 h.1.3 digit in
     (hex_or_blank_more t c h.0 (inr (n, digit)), rw (digits, value h.1.1 h.1.3) pairs)
 
 -- a bad character, which is the first or not
-pub other_more : (p : Place) (t v : List ℕ) (c n : ℕ) → ¬ (IsHexOrBlank c) → n ≡ length t → ((place : ℕ) → p ≡ Bad place → ⊥) → StandsAt p t v → StandsAt (Bad n) (t ++ c ∷ []) (v ++ [])
+pub other_more : (p : Place) (t v : List ℕ) (c n : ℕ) → ¬ (IsHexOrBlank c) → n ≡ length t → ((place : ℕ) → p ≡ Bad place → ⊥)
+    → StandsAt p t v → StandsAt (Bad n) (t ++ c ∷ []) (v ++ [])
 other_more p t v c n other len known h = same_bytes (Bad n) (t ++ c ∷ []) v (at p known h)
   where
     at : (p : Place) → ((place : ℕ) → p ≡ Bad place → ⊥) → StandsAt p t v → StandsAt (Bad n) (t ++ c ∷ []) v

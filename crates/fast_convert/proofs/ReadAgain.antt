@@ -25,8 +25,10 @@ use Rattle.fast_convert.specs.meaning.ThereAndBack.{IsAnswerOfShow, IsShownAndRe
 no_fault : (e : ShowEnd) (f : RunFault) → Ok e ≡ Err f → ⊥
 no_fault e f h = absurd (cc)
 
-pub shown_is_read : (document : Members) (set : Templates) (l : Limits) (hex : Bool) (left : Option (List ℕ)) (max_reads : ℕ) (reader_failed writer_failed : Bool) (text out : List ℕ) (r : Result (Vec Message Global) TextFault)
-    → IsTree document (tree_of set) → IsAnswerOfShow set l hex left max_reads reader_failed writer_failed text out (Ok Good) → IsRead (tree_of set) out r → IsShownAndRead set l hex text r
+pub shown_is_read : (document : Members) (set : Templates) (l : Limits) (hex : Bool) (left : Option (List ℕ)) (max_reads : ℕ)
+    (reader_failed writer_failed : Bool) (text out : List ℕ) (r : Result (Vec Message Global) TextFault)
+    → IsTree document (tree_of set) → IsAnswerOfShow set l hex left max_reads reader_failed writer_failed text out (Ok Good)
+    → IsRead (tree_of set) out r → IsShownAndRead set l hex text r
 shown_is_read document set l hex left max_reads rf wf text out r tree answer read =
     let (b, es, of, is, end) = answer.shown in
     let fit : ¬ (AreBadLimits l) = λ bad. no_fault Good _ (answer.bad_limits bad) in
@@ -35,5 +37,6 @@ shown_is_read document set l hex left max_reads rf wf text out r tree answer rea
       bytes = b;
       events = es;
       of_text = of;
-      read = shown_lines_are_read document set l b es out r tree (set_is_granted document set l tree short) of.stream of.holds (ap closed is ∙ lines_closed (tree_of set) es) read;
+      read = shown_lines_are_read document set l b es out r tree (set_is_granted document set l tree short) of.stream of.holds
+          (ap closed is ∙ lines_closed (tree_of set) es) read;
     }

@@ -58,8 +58,10 @@ top-mark zero word bs l h = ap (count_trailing_zeros 64) h ∙ zeros-of-top
 top-mark (suc n) word bs l h =
     let m : ℕ = word % 9223372036854775808 in
     let low : word * 2 % 18446744073709551616 ≡ 2 * m = omega arith in
-    let above : count_trailing_zeros 64 (word * 2 % 18446744073709551616) ≡ 63 - n = top-mark n (word * 2 % 18446744073709551616) (later_bits bs) (omega arith) h.1 in
-    let half : count_trailing_zeros 64 (word * 2 % 18446744073709551616) ≡ suc (count_trailing_zeros 63 m) = even-zeros 63 (word * 2 % 18446744073709551616) m low in
+    let above : count_trailing_zeros 64 (word * 2 % 18446744073709551616) ≡ 63 - n =
+    top-mark n (word * 2 % 18446744073709551616) (later_bits bs) (omega arith) h.1 in
+    let half : count_trailing_zeros 64 (word * 2 % 18446744073709551616) ≡ suc (count_trailing_zeros 63 m) =
+    even-zeros 63 (word * 2 % 18446744073709551616) m low in
     let here : count_trailing_zeros 64 word ≡ count_trailing_zeros 63 m = low-zeros 63 word (omega (arith, above, half)) in
     omega (arith, above, half, here)
 
@@ -107,14 +109,16 @@ pub used-some : (map : List ℕ) (end word : ℕ) → 0 < length map → used_at
 used-some [] end word h = absurd (omega (arith, h))
 used-some (b ∷ map) end word h = refl
 
-pub word-is : (map : List ℕ) (end left word : ℕ) → left ≤ 56 → 8 ≤ end → (map ≡ [] → end ≡ 8) → HasTop left word (drop (used_by map end left) (bits map)) → IsWord map end word
+pub word-is : (map : List ℕ) (end left word : ℕ) → left ≤ 56 → 8 ≤ end → (map ≡ [] → end ≡ 8)
+    → HasTop left word (drop (used_by map end left) (bits map)) → IsWord map end word
 word-is map end left word l ends none h =
     let same : left_in word ≡ left = top-is-left left word (drop (used_by map end left) (bits map)) (omega arith) h in
     record {
       few = omega (arith, same);
       ends = ends;
       none = none;
-      top = subst (λ n. HasTop n word (drop (used_at map end word) (bits map))) (sym same) (subst (λ n. HasTop left word (drop n (bits map))) (sym (used-by map end word left same)) h);
+      top = subst (λ n. HasTop n word (drop (used_at map end word) (bits map))) (sym same)
+          (subst (λ n. HasTop left word (drop n (bits map))) (sym (used-by map end word left same)) h);
     }
 
 -- the word of the bits of the eight bytes before the end
@@ -127,10 +131,12 @@ word-whole (b ∷ map) end word e none h =
     word-is (b ∷ map) end 56 word (omega arith) e none (subst (λ n. HasTop 56 word (drop n (bits (b ∷ map)))) at h)
 
 -- the same word, of which bits are shifted out
-pub word-shifted : (map : List ℕ) (end left word : ℕ) → 0 < length map → 8 ≤ end → left ≤ 56 → word < 18446744073709551616 → HasTop 56 word (drop (7 * (end - 8)) (bits map)) → IsWord map end (word * 2 ^ (56 - left) % 18446744073709551616)
+pub word-shifted : (map : List ℕ) (end left word : ℕ) → 0 < length map → 8 ≤ end → left ≤ 56 → word < 18446744073709551616
+    → HasTop 56 word (drop (7 * (end - 8)) (bits map)) → IsWord map end (word * 2 ^ (56 - left) % 18446744073709551616)
 word-shifted [] end left word here e l fits h = absurd (omega (arith, here))
 word-shifted (b ∷ map) end left word here e l fits h =
-    word-is (b ∷ map) end left (word * 2 ^ (56 - left) % 18446744073709551616) l e (λ n. absurd (let f = ap length n in omega (arith, f))) (top-left (b ∷ map) end left word e l fits h)
+    word-is (b ∷ map) end left (word * 2 ^ (56 - left) % 18446744073709551616) l e (λ n. absurd (let f = ap length n in omega (arith, f)))
+    (top-left (b ∷ map) end left word e l fits h)
 
 -- no map
 pub word-none : IsWord [] 8 128
@@ -140,7 +146,8 @@ pub place-none : IsPlace [] (record { word = 128; end = 8; len = 0 })
 place-none = record { short = omega arith; is = word-none }
 
 -- Eight bytes further on the next bit is the same. The count of bytes stays where it can't go on, which is behind the last one.
-pub next-word : (map : List ℕ) (end left next : ℕ) → length map ≤ map_limit → left ≡ 0 → next ≡ min (end + 8) 4294967295 → drop (7 * next - 56) (bits map) ≡ drop (7 * end - left) (bits map)
+pub next-word : (map : List ℕ) (end left next : ℕ) → length map ≤ map_limit → left ≡ 0 → next ≡ min (end + 8) 4294967295
+    → drop (7 * next - 56) (bits map) ≡ drop (7 * end - left) (bits map)
 next-word map end left next short none e =
     let len : length (bits map) ≡ 7 * length map = length-bits map in
     elim (cases_lt 4294967295 (end + 8)) [
@@ -160,14 +167,16 @@ pub word-spent : (word : ℕ) → word ≡ 9223372036854775808 → left_in word 
 word-spent word e = top-is-left 0 word [] (omega arith) e
 
 -- the next bit
-pub word-top : (map : List ℕ) (end word : ℕ) → IsWord map end word → (word ≡ 9223372036854775808 → ⊥) → nat_le 9223372036854775808 word ≡ first_bit (drop (used_at map end word) (bits map))
+pub word-top : (map : List ℕ) (end word : ℕ) → IsWord map end word → (word ≡ 9223372036854775808 → ⊥)
+    → nat_le 9223372036854775808 word ≡ first_bit (drop (used_at map end word) (bits map))
 word-top map end word s more =
     let some : 0 < left_in word = word-some map end word s more in
     let count : left_in word ≡ suc (left_in word - 1) = omega (arith, some) in
     (subst (λ n. HasTop n word (drop (used_at map end word) (bits map))) count s.top).0
 
 -- one bit more is used
-used-later : (map : List ℕ) (end word : ℕ) → IsWord map end word → 0 < left_in word → drop (used_by map end (left_in word - 1)) (bits map) ≡ later_bits (drop (used_at map end word) (bits map))
+used-later : (map : List ℕ) (end word : ℕ) → IsWord map end word → 0 < left_in word
+    → drop (used_by map end (left_in word - 1)) (bits map) ≡ later_bits (drop (used_at map end word) (bits map))
 used-later [] end word s some = refl
 used-later (b ∷ map) end word s some =
     let few : left_in word ≤ 56 = s.few in
@@ -175,11 +184,13 @@ used-later (b ∷ map) end word s some =
     let next : 7 * end - (left_in word - 1) ≡ suc (7 * end - left_in word) = omega (arith, few, ends, some) in
     ap (λ n. drop n (bits (b ∷ map))) next ∙ sym (later-drop (bits (b ∷ map)) (7 * end - left_in word))
 
-top-later : (map : List ℕ) (end word : ℕ) → IsWord map end word → (word ≡ 9223372036854775808 → ⊥) → HasTop (left_in word - 1) (word * 2 % 18446744073709551616) (drop (used_by map end (left_in word - 1)) (bits map))
+top-later : (map : List ℕ) (end word : ℕ) → IsWord map end word → (word ≡ 9223372036854775808 → ⊥)
+    → HasTop (left_in word - 1) (word * 2 % 18446744073709551616) (drop (used_by map end (left_in word - 1)) (bits map))
 top-later map end word s more =
     let some : 0 < left_in word = word-some map end word s more in
     let count : left_in word ≡ suc (left_in word - 1) = omega (arith, some) in
-    let top : HasTop (suc (left_in word - 1)) word (drop (used_at map end word) (bits map)) = subst (λ n. HasTop n word (drop (used_at map end word) (bits map))) count s.top in
+    let top : HasTop (suc (left_in word - 1)) word (drop (used_at map end word) (bits map)) =
+    subst (λ n. HasTop n word (drop (used_at map end word) (bits map))) count s.top in
     subst (HasTop (left_in word - 1) (word * 2 % 18446744073709551616)) (sym (used-later map end word s some)) top.1
 
 pub word-used : (map : List ℕ) (end word : ℕ) → IsWord map end word → (word ≡ 9223372036854775808 → ⊥) → IsWord map end (word * 2 % 18446744073709551616)
@@ -187,17 +198,22 @@ word-used map end word s more =
     let few : left_in word ≤ 56 = s.few in
     word-is map end (left_in word - 1) (word * 2 % 18446744073709551616) (omega (arith, few)) s.ends s.none (top-later map end word s more)
 
-pub word-later : (map : List ℕ) (end word : ℕ) → IsWord map end word → (word ≡ 9223372036854775808 → ⊥) → drop (used_at map end (word * 2 % 18446744073709551616)) (bits map) ≡ later_bits (drop (used_at map end word) (bits map))
+pub word-later : (map : List ℕ) (end word : ℕ) → IsWord map end word → (word ≡ 9223372036854775808 → ⊥)
+    → drop (used_at map end (word * 2 % 18446744073709551616)) (bits map) ≡ later_bits (drop (used_at map end word) (bits map))
 word-later map end word s more =
     let few : left_in word ≤ 56 = s.few in
     let same : left_in (word * 2 % 18446744073709551616) ≡ left_in word - 1
-    = top-is-left (left_in word - 1) (word * 2 % 18446744073709551616) (drop (used_by map end (left_in word - 1)) (bits map)) (omega (arith, few)) (top-later map end word s more) in
-    ap (λ n. drop n (bits map)) (used-by map end (word * 2 % 18446744073709551616) (left_in word - 1) same) ∙ used-later map end word s (word-some map end word s more)
+    = top-is-left (left_in word - 1) (word * 2 % 18446744073709551616) (drop (used_by map end (left_in word - 1)) (bits map))
+    (omega (arith, few)) (top-later map end word s more) in
+    ap (λ n. drop n (bits map)) (used-by map end (word * 2 % 18446744073709551616) (left_in word - 1) same)
+    ∙ used-later map end word s (word-some map end word s more)
 
 -- The next bits stand in the word of the eight bytes behind those of a word that is spent.
-pub bits-next : (map : List ℕ) (end word next new : ℕ) → length map ≤ map_limit → word ≡ 9223372036854775808 → left_in new ≡ 56 → next ≡ min (end + 8) 4294967295 → drop (used_at map next new) (bits map) ≡ drop (used_at map end word) (bits map)
+pub bits-next : (map : List ℕ) (end word next new : ℕ) → length map ≤ map_limit → word ≡ 9223372036854775808 → left_in new ≡ 56
+    → next ≡ min (end + 8) 4294967295 → drop (used_at map next new) (bits map) ≡ drop (used_at map end word) (bits map)
 bits-next [] end word next new short spent whole e = refl
-bits-next (b ∷ map) end word next new short spent whole e = ap (λ n. drop (7 * next - n) (bits (b ∷ map))) whole ∙ next-word (b ∷ map) end (left_in word) next short (word-spent word spent) e
+bits-next (b ∷ map) end word next new short spent whole e = ap (λ n. drop (7 * next - n) (bits (b ∷ map))) whole
+    ∙ next-word (b ∷ map) end (left_in word) next short (word-spent word spent) e
 
 -- As many bits are shifted out of a word as are used of it, if a byte of the map has come.
 pub record IsShift (p : MapPlace) (used : ℕ) : Type 0 where
@@ -228,19 +244,22 @@ shift-later front p used some s e =
     }
 
 -- the place whose word is that of the eight bytes before its end, of which bits are shifted out
-pub place-shifted : (map : List ℕ) (p : MapPlace) (used word : ℕ) → IsShift p used → length map ≤ map_limit → 0 < length map → 8 ≤ p.end → word < 18446744073709551616 → HasTop 56 word (drop (7 * (p.end - 8)) (bits map))
+pub place-shifted : (map : List ℕ) (p : MapPlace) (used word : ℕ) → IsShift p used → length map ≤ map_limit → 0 < length map → 8 ≤ p.end
+    → word < 18446744073709551616 → HasTop 56 word (drop (7 * (p.end - 8)) (bits map))
     → IsPlace map (record { word = word * 2 ^ used % 18446744073709551616; end = p.end; len = length map })
 place-shifted map p used word s short here e fits h = record {
   short = short;
   is = subst (λ n. IsWord map p.end (word * 2 ^ n % 18446744073709551616)) (sym s.is) (word-shifted map p.end s.left word here e s.few fits h);
 }
 
-pub used-shifted : (map front : List ℕ) (p : MapPlace) (used word : ℕ) → IsShift p used → 0 < length map → 8 ≤ p.end → word < 18446744073709551616 → HasTop 56 word (drop (7 * (p.end - 8)) (bits map)) → length front ≡ p.len
+pub used-shifted : (map front : List ℕ) (p : MapPlace) (used word : ℕ) → IsShift p used → 0 < length map → 8 ≤ p.end
+    → word < 18446744073709551616 → HasTop 56 word (drop (7 * (p.end - 8)) (bits map)) → length front ≡ p.len
     → used_at map p.end (word * 2 ^ used % 18446744073709551616) ≡ used_at front p.end p.word
 used-shifted map front p used word s here e fits h count =
     let few : s.left ≤ 56 = s.few in
     let left : left_in (word * 2 ^ (56 - s.left) % 18446744073709551616) ≡ s.left
-    = top-is-left s.left (word * 2 ^ (56 - s.left) % 18446744073709551616) (drop (7 * p.end - s.left) (bits map)) (omega (arith, few)) (top-left map p.end s.left word e few fits h) in
+    = top-is-left s.left (word * 2 ^ (56 - s.left) % 18446744073709551616) (drop (7 * p.end - s.left) (bits map)) (omega (arith, few))
+    (top-left map p.end s.left word e few fits h) in
     ap (λ n. used_at map p.end (word * 2 ^ n % 18446744073709551616)) s.is
     ∙ used-some map p.end (word * 2 ^ (56 - s.left) % 18446744073709551616) here
     ∙ ap (λ n. 7 * p.end - n) left

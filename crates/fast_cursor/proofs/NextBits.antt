@@ -19,7 +19,8 @@ pub ready-here : (i : Inside) → IsCursor i → (i.map.word ≡ 922337203685477
 ready-here i s more = record { cursor = s; more = more; same = refl }
 
 pub ready-behind : (i : Inside) (m : MapPlace) → IsCursor i → IsPlace (map_at i.maps.items i.start i.map.len) m → left_in m.word ≡ 56 → m.len ≡ i.map.len
-    → drop (used_at (map_at i.maps.items i.start i.map.len) m.end m.word) (bits (map_at i.maps.items i.start i.map.len)) ≡ drop (used_at (map_at i.maps.items i.start i.map.len) i.map.end i.map.word) (bits (map_at i.maps.items i.start i.map.len))
+    → drop (used_at (map_at i.maps.items i.start i.map.len) m.end m.word) (bits (map_at i.maps.items i.start i.map.len)) ≡ drop
+    (used_at (map_at i.maps.items i.start i.map.len) i.map.end i.map.word) (bits (map_at i.maps.items i.start i.map.len))
     → IsReady i (record i { map = m })
 ready-behind i m s place left len same = record {
   cursor = record {

@@ -70,8 +70,10 @@ pub running-pop : (ops : List Op) (fs : List Frame) (f : Frame) → AreRunning o
 running-pop ops [] f all = (tt, all.0)
 running-pop ops (g ∷ gs) f all = let (behind, last) = running-pop ops gs f all.1 in ((all.0, behind), last)
 
-pub running-more : (ops : List Op) (fs : List Frame) (n : ℕ) (f : Frame) → n < length fs → AreRunning ops (take n fs) → IsRunning ops f → AreRunning ops (take (n + 1) (set fs n f))
+pub running-more : (ops : List Op) (fs : List Frame) (n : ℕ) (f : Frame) → n < length fs → AreRunning ops (take n fs) → IsRunning ops f
+    → AreRunning ops (take (n + 1) (set fs n f))
 running-more ops fs n f h all here = subst (AreRunning ops) (sym (take_more_set fs n f h)) (running-push ops (take n fs) f all here)
 
-pub running-less : (ops : List Op) (fs : List Frame) (n : ℕ) (f : Frame) → n < length fs → f ≡ get_or fs n f → AreRunning ops (take (n + 1) fs) → AreRunning ops (take n fs) × IsRunning ops f
+pub running-less : (ops : List Op) (fs : List Frame) (n : ℕ) (f : Frame) → n < length fs → f ≡ get_or fs n f
+    → AreRunning ops (take (n + 1) fs) → AreRunning ops (take n fs) × IsRunning ops f
 running-less ops fs n f h is all = running-pop ops (take n fs) f (subst (AreRunning ops) (take_more fs n f h ∙ ap (λ g. take n fs ++ g ∷ []) (sym is)) all)

@@ -26,10 +26,13 @@ after_all-append [] c d = refl
 after_all-append (x ∷ cs) c d = after_all-append cs c (after x d)
 
 -- one more of a list of changes
-pub after_more : {X : Type 0} (f : X → CommandData) (xs : List X) (k : ℕ) (x : X) (first now next : Dictionary) → k < length xs → now ≡ after_all (take k (map f xs)) first → next ≡ after (f (slice_index_or xs k x)) now → next ≡ after_all (take (k + 1) (map f xs)) first
+pub after_more : {X : Type 0} (f : X → CommandData) (xs : List X) (k : ℕ) (x : X) (first now next : Dictionary) → k < length xs
+    → now ≡ after_all (take k (map f xs)) first → next ≡ after (f (slice_index_or xs k x)) now
+    → next ≡ after_all (take (k + 1) (map f xs)) first
 after_more f xs k x first now next h p q =
     let b : k < length (map f xs) = rw length-map h in
-    let m : take (k + 1) (map f xs) ≡ take k (map f xs) ++ f (slice_index_or xs k x) ∷ [] = take_more (map f xs) k (f x) b ∙ ap (λ y. take k (map f xs) ++ y ∷ []) (get_or-map f xs k x) in
+    let m : take (k + 1) (map f xs) ≡ take k (map f xs) ++ f (slice_index_or xs k x) ∷ [] = take_more (map f xs) k (f x) b
+    ∙ ap (λ y. take k (map f xs) ++ y ∷ []) (get_or-map f xs k x) in
     rw (m, after_all-append) (q ∙ ap (after (f (slice_index_or xs k x))) p)
 
 -- so many entries as before
@@ -42,9 +45,11 @@ at_ok (Ok a) e h = h
 at_ok (Err x) e h = absurd (cc)
 
 -- each of a list of changes meets its conditions also at a store that takes the same
-pub runnable_at : {X : Type 0} (f : X → CommandData) (t now : Terms) (n m : ℕ) (xs : List X) (k : ℕ) (x : X) → now ≡ t → m ≡ n → k < length xs → All (IsRunnable t n) (map f xs) → IsRunnable now m (f (slice_index_or xs k x))
+pub runnable_at : {X : Type 0} (f : X → CommandData) (t now : Terms) (n m : ℕ) (xs : List X) (k : ℕ) (x : X) → now ≡ t → m ≡ n
+    → k < length xs → All (IsRunnable t n) (map f xs) → IsRunnable now m (f (slice_index_or xs k x))
 runnable_at f t now n m xs k x p q h all = let b : k < length (map f xs) = rw length-map h in rw (p, q, ← get_or-map f xs k x) (all k (f x) b)
 
 -- one of a list of changes meets its conditions
-pub runnable_here : {X : Type 0} (f : X → CommandData) (t : Terms) (n : ℕ) (xs : List X) (k : ℕ) (x : X) → k < length xs → IsRunnable t n (f (slice_index_or xs k x)) → (d : CommandData) → IsRunnable t n (slice_index_or (map f xs) k d)
+pub runnable_here : {X : Type 0} (f : X → CommandData) (t : Terms) (n : ℕ) (xs : List X) (k : ℕ) (x : X) → k < length xs
+    → IsRunnable t n (f (slice_index_or xs k x)) → (d : CommandData) → IsRunnable t n (slice_index_or (map f xs) k d)
 runnable_here f t n xs k x h r d = rw (get_or-map_at f xs k x d h) r

@@ -11,7 +11,8 @@ use Rattle.fast_dict.specs.meaning.Entry.{text_length, with_text}
 use Rattle.fast_dict.specs.meaning.Dictionary.{PreviousData, assigned}
 use Rattle.fast_dict.specs.meaning.Slots.{text_in, length-text_in}
 use Rattle.fast_dict.specs.declared.entry.Entry.{Entry}
-use Rattle.fast_dict.specs.declared.entry.Entry.TheVariants.{Undefined, Empty, UInt32, Int32, UInt64, Int64, Decimal, Ascii, Unicode, Bytes, OtherUnsigned, OtherSigned, OtherDecimal, OtherAscii, OtherUnicode, OtherBytes}
+use Rattle.fast_dict.specs.declared.entry.Entry.TheVariants.{Undefined, Empty, UInt32, Int32, UInt64, Int64, Decimal, Ascii, Unicode, Bytes}
+use Rattle.fast_dict.specs.declared.entry.Entry.TheVariants.{OtherUnsigned, OtherSigned, OtherDecimal, OtherAscii, OtherUnicode, OtherBytes}
 use Rattle.fast_dict.proofs.Blocks.{part_elsewhere}
 
 -- the text that is held, empty if there is none
@@ -44,7 +45,9 @@ some_front b (Some place) text size keep e h =
     let same : length (text_in b (Some place) size) ≡ length text = ap length e in
     sym (take-take keep size (drop place b) (omega (arith, h, short, same))) ∙ ap (take keep) e
 
-pub front_of : (b : List ℕ) (p : Option ℕ) (e : Entry) (kind : Kind) (text : List ℕ) (keep : ℕ) → with_text e (text_in b p (text_length e)) ≡ assigned kind (value_of_text kind text) → keep ≤ length text → text_in b p keep ≡ take keep text
+pub front_of : (b : List ℕ) (p : Option ℕ) (e : Entry) (kind : Kind) (text : List ℕ) (keep : ℕ)
+    → with_text e (text_in b p (text_length e)) ≡ assigned kind (value_of_text kind text) → keep ≤ length text
+    → text_in b p keep ≡ take keep text
 unfolding text_held
 front_of b p e kind text keep h l = by e (ap text_held h ∙ text_of_text kind text)
   where
@@ -80,7 +83,8 @@ text_behind b part place keep h =
     ∙ ap (λ xs. xs ++ part) (drop-take place keep b)
 
 -- the text of another slot of the same size
-pub behind_elsewhere : (b part : List ℕ) (ps : List (Option ℕ)) (e p keep i room size : ℕ) → keep + length part ≤ room → size ≤ room → p + room ≤ length b → i ≢ e → slice_index_or ps e None ≡ Some p
+pub behind_elsewhere : (b part : List ℕ) (ps : List (Option ℕ)) (e p keep i room size : ℕ) → keep + length part ≤ room → size ≤ room
+    → p + room ≤ length b → i ≢ e → slice_index_or ps e None ≡ Some p
     → ((i j p q : ℕ) → i < j → slice_index_or ps i None ≡ Some p → slice_index_or ps j None ≡ Some q → p + room ≤ q)
     → text_in (take (p + keep) b ++ part ++ drop (p + keep + length part) b) (slice_index_or ps i None) size ≡ text_in b (slice_index_or ps i None) size
 behind_elsewhere b part ps e p keep i room size ht hs hp ne at ordered = go (slice_index_or ps i None) refl (cases_order i e)

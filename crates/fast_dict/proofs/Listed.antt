@@ -26,19 +26,24 @@ reset-held [] = refl
 reset-held (x ∷ xs) = rw sub-one (ap (λ ps. held_data x ∷ ps) (fresh-held (length xs) ∙ ap fresh (sym (length-map xs held_data))))
 
 -- a reset of the others keeps what fits
-pub others_fit : (xs : List Held) (n size : ℕ) → ((i : ℕ) → text_size (held_data (slice_index_or xs i Undefined)) ≤ size) → (i : ℕ) → text_size (held_data (slice_index_or (take 1 xs ++ replicate n Undefined) i Undefined)) ≤ size
+pub others_fit : (xs : List Held) (n size : ℕ) → ((i : ℕ) → text_size (held_data (slice_index_or xs i Undefined)) ≤ size) → (i : ℕ)
+    → text_size (held_data (slice_index_or (take 1 xs ++ replicate n Undefined) i Undefined)) ≤ size
 others_fit [] n size all i = fresh_fits n size i
 others_fit (x ∷ xs) n size all zero = all zero
 others_fit (x ∷ xs) n size all (suc i) = fresh_fits n size i
 
 -- entries that hold the same fit as well
-pub same_fit : (xs ys : List Held) (size : ℕ) → map held_data ys ≡ map held_data xs → ((i : ℕ) → text_size (held_data (slice_index_or xs i Undefined)) ≤ size) → (i : ℕ) → text_size (held_data (slice_index_or ys i Undefined)) ≤ size
+pub same_fit : (xs ys : List Held) (size : ℕ) → map held_data ys ≡ map held_data xs
+    → ((i : ℕ) → text_size (held_data (slice_index_or xs i Undefined)) ≤ size) → (i : ℕ)
+    → text_size (held_data (slice_index_or ys i Undefined)) ≤ size
 same_fit xs ys size e all i =
-    let same : held_data (slice_index_or ys i Undefined) ≡ held_data (slice_index_or xs i Undefined) = sym (get_or-map held_data ys i Undefined) ∙ ap (λ ps. slice_index_or ps i undefined) e ∙ get_or-map held_data xs i Undefined in
+    let same : held_data (slice_index_or ys i Undefined) ≡ held_data (slice_index_or xs i Undefined) =
+    sym (get_or-map held_data ys i Undefined) ∙ ap (λ ps. slice_index_or ps i undefined) e ∙ get_or-map held_data xs i Undefined in
     rw same (all i)
 
 -- One entry more that fits.
-pub set_fits : (xs : List Held) (i : ℕ) (x : Held) (size : ℕ) → ((j : ℕ) → text_size (held_data (slice_index_or xs j Undefined)) ≤ size) → text_size (held_data x) ≤ size → (j : ℕ) → text_size (held_data (slice_index_or (slice_set xs i x) j Undefined)) ≤ size
+pub set_fits : (xs : List Held) (i : ℕ) (x : Held) (size : ℕ) → ((j : ℕ) → text_size (held_data (slice_index_or xs j Undefined)) ≤ size)
+    → text_size (held_data x) ≤ size → (j : ℕ) → text_size (held_data (slice_index_or (slice_set xs i x) j Undefined)) ≤ size
 set_fits [] i x size all h j = all j
 set_fits (y ∷ xs) zero x size all h zero = h
 set_fits (y ∷ xs) zero x size all h (suc j) = all (suc j)

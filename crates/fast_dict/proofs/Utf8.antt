@@ -10,6 +10,7 @@ not_true true h = absurd (h refl)
 not_true false h = refl
 
 -- what a check answers
-pub check_is_test : {A E : Type 0} (P : A → Type 0) (r : Result A E) (v : List ℕ) → MatchResult r (λ s. P s × IsUtf8 v) (λ e. ¬ (IsUtf8 v)) → is_ok r ≡ is_utf8 v
+pub check_is_test : {A E : Type 0} (P : A → Type 0) (r : Result A E) (v : List ℕ) → MatchResult r (λ s. P s × IsUtf8 v) (λ e. ¬ (IsUtf8 v))
+    → is_ok r ≡ is_utf8 v
 check_is_test P (Ok s) v h = sym (is_utf8-from_IsUtf8 v h.1)
 check_is_test P (Err e) v h = sym (not_true (is_utf8 v) (λ t. h (IsUtf8-from_is_utf8 v t)))

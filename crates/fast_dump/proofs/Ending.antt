@@ -32,15 +32,25 @@ use Rattle.fast_dump.proofs.Dumping.{closes_fault}
 use Rattle.fast_dump.proofs.Closing.{rows_flushed, rows_unflushed}
 
 -- all rows were written, and the target was flushed
-dumped_flushed : (t : Tree) (l : Limits) (hex : Bool) (R : MakeError → Type 0) (M A B : Type 0) (held mid last : Option (List ℕ)) (had mid_had has : Bool) (text : List ℕ) (r : Result ShowEnd RunFault)
-    → Appends mid last [] → has ≡ mid_had → IsDumped t l hex (λ _. ⊥) ⊥ A B (λ b ls q. AreWritten t 0 b ls held mid had mid_had q) text r → IsDumped t l hex R M A B (λ b ls q. AreWritten t 0 b ls held last had has q) text r
+dumped_flushed : (t : Tree) (l : Limits) (hex : Bool) (R : MakeError → Type 0) (M A B : Type 0) (held mid last : Option (List ℕ))
+    (had mid_had has : Bool) (text : List ℕ) (r : Result ShowEnd RunFault)
+    → Appends mid last [] → has ≡ mid_had → IsDumped t l hex (λ _. ⊥) ⊥ A B (λ b ls q. AreWritten t 0 b ls held mid had mid_had q) text r
+    → IsDumped t l hex R M A B (λ b ls q. AreWritten t 0 b ls held last had has q) text r
 dumped_flushed t l hex R M A B held mid last had mid_had has text r none same h = by r h
   where
     on : (b ls : List ℕ) (q : Result (Unit {0}) Failed) → AreWritten t 0 b ls held mid had mid_had q → AreWritten t 0 b ls held last had has q
     on b ls q rows = rows_flushed t b ls held mid last had mid_had has q none same rows
 
-    so : (place : Option ℕ) → IsSoFar t l hex (λ b ls q. AreWritten t 0 b ls held mid had mid_had q) text place → IsSoFar t l hex (λ b ls q. AreWritten t 0 b ls held last had has q) text place
-    so place h = record { bytes = h.bytes; events = h.events; end = h.end; stream = h.stream; good = h.good; rows = on h.bytes (lines t h.events) (Ok tt) h.rows }
+    so : (place : Option ℕ) → IsSoFar t l hex (λ b ls q. AreWritten t 0 b ls held mid had mid_had q) text place
+        → IsSoFar t l hex (λ b ls q. AreWritten t 0 b ls held last had has q) text place
+    so place h = record {
+      bytes = h.bytes;
+      events = h.events;
+      end = h.end;
+      stream = h.stream;
+      good = h.good;
+      rows = on h.bytes (lines t h.events) (Ok tt) h.rows;
+    }
 
     cut : (b : List ℕ) → IsCut t l (λ b ls q. AreWritten t 0 b ls held mid had mid_had q) b → IsCut t l (λ b ls q. AreWritten t 0 b ls held last had has q) b
     cut b h = record {
@@ -59,7 +69,8 @@ dumped_flushed t l hex R M A B held mid last had mid_had has text r none same h 
       rows = on h.shown h.out (Err h.why) h.rows;
     }
 
-    fault : (b : List ℕ) (f : Fault) → IsAtFault t l (λ b ls q. AreWritten t 0 b ls held mid had mid_had q) b f → IsAtFault t l (λ b ls q. AreWritten t 0 b ls held last had has q) b f
+    fault : (b : List ℕ) (f : Fault) → IsAtFault t l (λ b ls q. AreWritten t 0 b ls held mid had mid_had q) b f
+        → IsAtFault t l (λ b ls q. AreWritten t 0 b ls held last had has q) b f
     fault b f h = record {
       shown = h.shown;
       rest = h.rest;
@@ -72,7 +83,8 @@ dumped_flushed t l hex R M A B held mid last had mid_had has text r none same h 
       rows = on h.shown (lines t h.events ++ fault_line f.code f.place) (Ok tt) h.rows;
     }
 
-    by : (r : Result ShowEnd RunFault) → IsDumped t l hex (λ _. ⊥) ⊥ A B (λ b ls q. AreWritten t 0 b ls held mid had mid_had q) text r → IsDumped t l hex R M A B (λ b ls q. AreWritten t 0 b ls held last had has q) text r
+    by : (r : Result ShowEnd RunFault) → IsDumped t l hex (λ _. ⊥) ⊥ A B (λ b ls q. AreWritten t 0 b ls held mid had mid_had q) text r
+        → IsDumped t l hex R M A B (λ b ls q. AreWritten t 0 b ls held last had has q) text r
     by (Ok Good) h = (h.0, h.1, h.2, on h.0 (lines t h.1) (Ok tt) h.3, h.4)
     by (Ok (Faulted f)) h = (h.0, h.1, h.2, fault h.1 f h.3)
     by (Ok (Truncated n)) h = (h.0, h.1, h.2, h.3, on h.0 (lines t h.1 ++ truncated_line n) (Ok tt) h.4, h.5)
@@ -86,14 +98,17 @@ dumped_flushed t l hex R M A B held mid last had mid_had has text r none same h 
     by (Err (Encode message fault)) h = elim h [ ]
 
 -- the target could not be flushed
-dumped_unflushed : (t : Tree) (l : Limits) (hex : Bool) (R : MakeError → Type 0) (M A B : Type 0) (held mid last : Option (List ℕ)) (had mid_had has : Bool) (text : List ℕ) (r : Result ShowEnd RunFault) (why : Failed)
-    → Appends mid last [] → IsTrue has → IsDumped t l hex (λ _. ⊥) ⊥ A B (λ b ls q. AreWritten t 0 b ls held mid had mid_had q) text r → IsDumped t l hex R M A B (λ b ls q. AreWritten t 0 b ls held last had has q) text (Err Write)
+dumped_unflushed : (t : Tree) (l : Limits) (hex : Bool) (R : MakeError → Type 0) (M A B : Type 0) (held mid last : Option (List ℕ))
+    (had mid_had has : Bool) (text : List ℕ) (r : Result ShowEnd RunFault) (why : Failed)
+    → Appends mid last [] → IsTrue has → IsDumped t l hex (λ _. ⊥) ⊥ A B (λ b ls q. AreWritten t 0 b ls held mid had mid_had q) text r
+    → IsDumped t l hex R M A B (λ b ls q. AreWritten t 0 b ls held last had has q) text (Err Write)
 dumped_unflushed t l hex R M A B held mid last had mid_had has text r why none failed h = by r h
   where
     W : List ℕ → List ℕ → Result (Unit {0}) Failed → Type 0
     W b ls q = AreWritten t 0 b ls held last had has q
 
-    cut : (shown rest b : List ℕ) (es : List EventData) (e : End) (line out more : List ℕ) (q : Result (Unit {0}) Failed) → shown ++ rest ≡ b → Stream t l shown es e → (line ≡ []) ⊎ (line ≡ closing shown e) → lines t es ++ line ≡ out ++ more
+    cut : (shown rest b : List ℕ) (es : List EventData) (e : End) (line out more : List ℕ) (q : Result (Unit {0}) Failed)
+        → shown ++ rest ≡ b → Stream t l shown es e → (line ≡ []) ⊎ (line ≡ closing shown e) → lines t es ++ line ≡ out ++ more
         → AreWritten t 0 shown out held mid had mid_had q → IsCut t l (λ b ls q. AreWritten t 0 b ls held last had has q) b
     cut shown rest b es e line out more q split stream closes lines_are rows = record {
       shown = shown;
@@ -111,21 +126,39 @@ dumped_unflushed t l hex R M A B held mid last had mid_had has text r why none f
       rows = rows_unflushed t shown out held mid last had mid_had has q why none failed rows;
     }
 
-    so : (place : Option ℕ) → (h : IsSoFar t l hex (λ b ls q. AreWritten t 0 b ls held mid had mid_had q) text place) → IsCut t l (λ b ls q. AreWritten t 0 b ls held last had has q) h.bytes
+    so : (place : Option ℕ) → (h : IsSoFar t l hex (λ b ls q. AreWritten t 0 b ls held mid had mid_had q) text place)
+        → IsCut t l (λ b ls q. AreWritten t 0 b ls held last had has q) h.bytes
     so place h = cut h.bytes [] h.bytes h.events h.end [] (lines t h.events) [] (Ok tt) (append-nil h.bytes) h.stream.stream (inl refl) refl h.rows
 
-    by : (r : Result ShowEnd RunFault) → IsDumped t l hex (λ _. ⊥) ⊥ A B (λ b ls q. AreWritten t 0 b ls held mid had mid_had q) text r → IsDumped t l hex R M A B (λ b ls q. AreWritten t 0 b ls held last had has q) text (Err Write)
+    by : (r : Result ShowEnd RunFault) → IsDumped t l hex (λ _. ⊥) ⊥ A B (λ b ls q. AreWritten t 0 b ls held mid had mid_had q) text r
+        → IsDumped t l hex R M A B (λ b ls q. AreWritten t 0 b ls held last had has q) text (Err Write)
     by (Ok Good) h = (None, h.0, h.2.bytes, cut h.0 [] h.0 h.1 between [] (lines t h.1) [] (Ok tt) (append-nil h.0) h.2.stream (inl refl) refl h.3)
     by (Ok (Faulted f)) h =
         let w = h.3 in
-        let line = fault_line f.code f.place in
-        (h.0, h.1, h.2, cut w.shown w.rest h.1 w.events (faulted w.code f.place) line (lines t w.events ++ line) [] (Ok tt) w.split w.stream (inr (closes_fault f w.code w.shown w.code_is)) (sym (append-nil (lines t w.events ++ line))) w.rows)
+        let line = fault_line f.code f.place in (
+          h.0,
+          h.1,
+          h.2,
+          cut w.shown w.rest h.1 w.events (faulted w.code f.place) line (lines t w.events ++ line) []
+              (Ok tt) w.split w.stream (inr (closes_fault f w.code w.shown w.code_is)) (sym (append-nil (lines t w.events ++ line))) w.rows,
+        )
     by (Ok (Truncated n)) h =
-        let line = truncated_line n in
-        (None, h.0, h.2.bytes, cut h.0 [] h.0 h.1 inside line (lines t h.1 ++ line) [] (Ok tt) (append-nil h.0) h.2.stream (inr (ap truncated_line h.3)) (sym (append-nil (lines t h.1 ++ line))) h.4)
+        let line = truncated_line n in (
+          None,
+          h.0,
+          h.2.bytes,
+          cut h.0 [] h.0 h.1 inside line (lines t h.1 ++ line) [] (Ok tt) (append-nil h.0) h.2.stream
+              (inr (ap truncated_line h.3)) (sym (append-nil (lines t h.1 ++ line))) h.4,
+        )
     by (Err (BadHex n)) h = (Some n, h.bytes, h.stream.bytes, so (Some n) h)
     by (Err Read) h = (h.0, h.1.bytes, h.1.stream.bytes, so h.0 h.1)
-    by (Err Write) h = let w = h.3 in (h.0, h.1, h.2, cut w.shown w.rest h.1 w.events w.end w.line w.out w.more (Err w.why) w.split w.stream w.closes w.lines_are w.rows)
+    by (Err Write) h = let w = h.3 in (
+      h.0,
+      h.1,
+      h.2,
+      cut w.shown w.rest h.1 w.events w.end w.line w.out w.more
+          (Err w.why) w.split w.stream w.closes w.lines_are w.rows,
+    )
     by (Err (Make cause)) h = absurd h.1
     by (Err Memory) h = absurd h.1
     by (Err (Refused fault)) h = elim h [ ]
@@ -133,10 +166,14 @@ dumped_unflushed t l hex R M A B held mid last had mid_had has text r why none f
     by (Err (Encode message fault)) h = elim h [ ]
 
 -- the one or the other
-pub finished : (t : Tree) (l : Limits) (hex : Bool) (R : MakeError → Type 0) (M A B : Type 0) (held mid last : Option (List ℕ)) (had mid_had has : Bool) (text : List ℕ) (ending r : Result ShowEnd RunFault)
-    → IsDumped t l hex (λ _. ⊥) ⊥ A B (λ b ls q. AreWritten t 0 b ls held mid had mid_had q) text ending → IsFinished mid last mid_had has ending r → IsDumped t l hex R M A B (λ b ls q. AreWritten t 0 b ls held last had has q) text r
-finished t l hex R M A B held mid last had mid_had has text ending r h (none, inl w) = rw w.0 (dumped_flushed t l hex R M A B held mid last had mid_had has text ending none w.1 h)
-finished t l hex R M A B held mid last had mid_had has text ending r h (none, inr w) = rw w.0 (dumped_unflushed t l hex R M A B held mid last had mid_had has text ending w.1 none w.2 h)
+pub finished : (t : Tree) (l : Limits) (hex : Bool) (R : MakeError → Type 0) (M A B : Type 0) (held mid last : Option (List ℕ))
+    (had mid_had has : Bool) (text : List ℕ) (ending r : Result ShowEnd RunFault)
+    → IsDumped t l hex (λ _. ⊥) ⊥ A B (λ b ls q. AreWritten t 0 b ls held mid had mid_had q) text ending
+    → IsFinished mid last mid_had has ending r → IsDumped t l hex R M A B (λ b ls q. AreWritten t 0 b ls held last had has q) text r
+finished t l hex R M A B held mid last had mid_had has text ending r h (none, inl w) =
+    rw w.0 (dumped_flushed t l hex R M A B held mid last had mid_had has text ending none w.1 h)
+finished t l hex R M A B held mid last had mid_had has text ending r h (none, inr w) =
+    rw w.0 (dumped_unflushed t l hex R M A B held mid last had mid_had has text ending w.1 none w.2 h)
 
 -- no decoder is made
 pub not_made : (t : Tree) (l : Limits) (hex : Bool) (R : MakeError → Type 0) (A B : Type 0) (held : Option (List ℕ)) (had : Bool) (e : MakeError)
@@ -148,6 +185,14 @@ not_made t l hex R A B held had Cause.InitialTooLong (inr h) = (refl, h, are_non
 not_made t l hex R A B held had Cause.Memory h = (refl, tt, are_none t 0 held had)
 
 -- a run that has not read anything
-pub begun : {T : Type 0} (written : T → Option (List ℕ)) (failed : T → Bool) (first : Start) (t : Tree) (l : Limits) (s : Dump T) → tree s.decoder ≡ t → s.decoder.limits ≡ l → HasRead s.decoder [] []
+pub begun : {T : Type 0} (written : T → Option (List ℕ)) (failed : T → Bool) (first : Start) (t : Tree) (l : Limits) (s : Dump T)
+    → tree s.decoder ≡ t → s.decoder.limits ≡ l → HasRead s.decoder [] []
     → IsPage written failed first.held first.had_failed t s.page [] [] → Progress written failed first t l s [] []
-begun written failed first t l s set limits so page = record { set = set; limits = limits; so = so; holds = All-nil HoldsBytes; good = no_fault_yet s.decoder so; page = page }
+begun written failed first t l s set limits so page = record {
+  set = set;
+  limits = limits;
+  so = so;
+  holds = All-nil HoldsBytes;
+  good = no_fault_yet s.decoder so;
+  page = page;
+}

@@ -26,32 +26,40 @@ same_back [] v w h = h
 same_back (x ∷ u) v w h = same_back u v w (cc h)
 
 -- the message behind the chain
-module _ (e : EncoderData) (d : DecoderData) (m : MessageData) (out : List ℕ) (f : EncoderData) (longer w : List ℕ) (es : List EventData) (level : AreLevel e d w es) (written : IsEncoded e m out f longer) where
+module _ (e : EncoderData) (d : DecoderData) (m : MessageData) (out : List ℕ) (f : EncoderData) (longer w : List ℕ) (es : List EventData)
+    (level : AreLevel e d w es) (written : IsEncoded e m out f longer) where
   spelled : SpellsMessage (decoded_tree d) (in_mode true d.limits) e.dictionary m written.bytes f.dictionary
   spelled = subst (λ (t : Tree). SpellsMessage t (in_mode true d.limits) e.dictionary m written.bytes f.dictionary) (sym level.same_tree)
       (subst (λ (l : Limits). SpellsMessage (tree e) l e.dictionary m written.bytes f.dictionary) (sym level.same_limits) written.spelled)
 
-  pub behind : Stream (decoded_tree d) d.limits (w ++ written.bytes) (es ++ events (decoded_tree d) m) between × Chain (decoded_tree d) d.limits (w ++ written.bytes) (es ++ events (decoded_tree d) m) f.dictionary
+  pub behind : Stream (decoded_tree d) d.limits (w ++ written.bytes) (es ++ events (decoded_tree d) m) between
+      × Chain (decoded_tree d) d.limits (w ++ written.bytes) (es ++ events (decoded_tree d) m) f.dictionary
   behind = read_back (decoded_tree d) d.limits w written.bytes es m e.dictionary f.dictionary level.chain spelled
 
   -- What was read of the bytes, and where it has led.
-  pub read : (g : DecoderData) (more : List EventData) → decoded_tree g ≡ decoded_tree d → g.limits ≡ d.limits → HasRead g (w ++ written.bytes) (es ++ more) → (more ≡ events (tree e) m) × (account g ≡ account_at (w ++ written.bytes) between)
+  pub read : (g : DecoderData) (more : List EventData) → decoded_tree g ≡ decoded_tree d → g.limits ≡ d.limits
+      → HasRead g (w ++ written.bytes) (es ++ more) → (more ≡ events (tree e) m) × (account g ≡ account_at (w ++ written.bytes) between)
   read g more same_tree same_limits so =
       let (ending, stream, stands) = read-stream g (w ++ written.bytes) (es ++ more) so in
       let here : Stream (decoded_tree d) d.limits (w ++ written.bytes) (es ++ more) ending
-      = subst (λ (t : Tree). Stream t d.limits (w ++ written.bytes) (es ++ more) ending) same_tree (subst (λ (l : Limits). Stream (decoded_tree g) l (w ++ written.bytes) (es ++ more) ending) same_limits stream) in
+      = subst (λ (t : Tree). Stream t d.limits (w ++ written.bytes) (es ++ more) ending) same_tree
+      (subst (λ (l : Limits). Stream (decoded_tree g) l (w ++ written.bytes) (es ++ more) ending) same_limits stream) in
       let one = one_answer (decoded_tree d) d.limits (w ++ written.bytes) (es ++ more) (es ++ events (decoded_tree d) m) ending between here behind.0 in
       (same_back es more (events (decoded_tree d) m) one.0 ∙ ap (λ (t : Tree). events t m) level.same_tree, stands ∙ ap (account_at (w ++ written.bytes)) one.1)
 
 -- Behind a feed of the whole message the decoder has no fault, and the two are level again.
-pub carried_on : {S : Type 0} (takes : S → EventData → S → Type 0) (e f : EncoderData) (d g : DecoderData) (m : MessageData) (out longer w : List ℕ) (es : List EventData) (s t : S) (level : AreLevel e d w es) (written : IsEncoded e m out f longer)
-    → tree f ≡ tree e → f.limits ≡ e.limits → decoded_tree g ≡ decoded_tree d → g.limits ≡ d.limits → Carries takes w es written.bytes s g t → (g.fault ≡ None) × IsReadBack takes m written.bytes w es s f g t
+pub carried_on : {S : Type 0} (takes : S → EventData → S → Type 0) (e f : EncoderData) (d g : DecoderData) (m : MessageData)
+    (out longer w : List ℕ) (es : List EventData) (s t : S) (level : AreLevel e d w es) (written : IsEncoded e m out f longer)
+    → tree f ≡ tree e → f.limits ≡ e.limits → decoded_tree g ≡ decoded_tree d → g.limits ≡ d.limits
+    → Carries takes w es written.bytes s g t → (g.fault ≡ None) × IsReadBack takes m written.bytes w es s f g t
 carried_on takes e f d g m out longer w es s t level written kept_tree kept_limits same_tree same_limits carried =
     let (all, stands) = read e d m out f longer w es level written g carried.more same_tree same_limits carried.so in
     let whole : carried.more ≡ events (tree f) m = all ∙ ap (λ (z : Tree). events z m) (sym kept_tree) in
     let chain = (behind e d m out f longer w es level written).1 in
     let here : Chain (decoded_tree g) g.limits (w ++ written.bytes) (es ++ events (decoded_tree d) m) f.dictionary
-    = subst (λ (z : Tree). Chain z g.limits (w ++ written.bytes) (es ++ events (decoded_tree d) m) f.dictionary) (sym same_tree) (subst (λ (l : Limits). Chain (decoded_tree d) l (w ++ written.bytes) (es ++ events (decoded_tree d) m) f.dictionary) (sym same_limits) chain) in (
+    = subst (λ (z : Tree). Chain z g.limits (w ++ written.bytes) (es ++ events (decoded_tree d) m) f.dictionary) (sym same_tree)
+    (subst (λ (l : Limits). Chain (decoded_tree d) l (w ++ written.bytes) (es ++ events (decoded_tree d) m) f.dictionary)
+    (sym same_limits) chain) in (
       ap (λ z. z.fault) stands,
       record {
         took = subst (λ (xs : List EventData). Takes takes s xs t) whole carried.took;
@@ -60,7 +68,8 @@ carried_on takes e f d g m out longer w es s t level written kept_tree kept_limi
           same_limits = ap (in_mode true) same_limits ∙ level.same_limits ∙ ap (in_mode true) (sym kept_limits);
           so = subst (λ (xs : List EventData). HasRead g (w ++ written.bytes) (es ++ xs)) whole carried.so;
           is_between = ap (λ z. z.is_between) stands;
-          chain = subst (λ (z : Tree). Chain (decoded_tree g) g.limits (w ++ written.bytes) (es ++ events z m) f.dictionary) (level.same_tree ∙ sym kept_tree) here;
+          chain = subst (λ (z : Tree). Chain (decoded_tree g) g.limits (w ++ written.bytes) (es ++ events z m) f.dictionary)
+              (level.same_tree ∙ sym kept_tree) here;
         };
       },
     )
@@ -72,15 +81,20 @@ none_told x o told none = let wrong : Err x ≡ Ok tt = told ∙ ap answer none 
 counted : (k n : ℕ) → k + n < 2 ^ 64 → 2 ^ 64 ≤ k + n → ⊥
 counted k n below above = omega (arith, below, above)
 
-pub reading_back : {S : Type 0} (takes stops : S → EventData → S → Type 0) (e f : EncoderData) (d g : DecoderData) (m : MessageData) (out longer w : List ℕ) (es : List EventData) (s t : S) (r : Result Unit Fault)
-    → AreLevel e d w es → (written : IsEncoded e m out f longer) → tree f ≡ tree e → f.limits ≡ e.limits → ¬ (IsSinkStop r) → d.consumed + length written.bytes < 2 ^ 64
-    → Carried takes stops d w es written.bytes s r g t → r ≡ answer g.fault → decoded_tree g ≡ decoded_tree d → g.limits ≡ d.limits → (r ≡ Ok tt) × IsReadBack takes m written.bytes w es s f g t
+pub reading_back : {S : Type 0} (takes stops : S → EventData → S → Type 0) (e f : EncoderData) (d g : DecoderData) (m : MessageData)
+    (out longer w : List ℕ) (es : List EventData) (s t : S) (r : Result Unit Fault)
+    → AreLevel e d w es → (written : IsEncoded e m out f longer) → tree f ≡ tree e → f.limits ≡ e.limits → ¬ (IsSinkStop r)
+    → d.consumed + length written.bytes < 2 ^ 64
+    → Carried takes stops d w es written.bytes s r g t → r ≡ answer g.fault → decoded_tree g ≡ decoded_tree d → g.limits ≡ d.limits
+    → (r ≡ Ok tt) × IsReadBack takes m written.bytes w es s f g t
 reading_back takes stops e f d g m out longer w es s t (Ok u) level written kept_tree kept_limits goes few carried told same_tree same_limits =
     (refl, (carried_on takes e f d g m out longer w es s t level written kept_tree kept_limits same_tree same_limits carried).1)
-reading_back {S} takes stops e f d g m out longer w es s t (Err x) level written kept_tree kept_limits goes few carried told same_tree same_limits = absurd (by x.code refl carried)
+reading_back {S} takes stops e f d g m out longer w es s t
+    (Err x) level written kept_tree kept_limits goes few carried told same_tree same_limits = absurd (by x.code refl carried)
   where
     by : (c : FaultCode) → c ≡ x.code → CarriesAt takes stops d w es written.bytes s c x.place g t → ⊥
-    by (Why.Stream c) is h = none_told x g.fault told (carried_on takes e f d g m out longer w es s t level written kept_tree kept_limits same_tree same_limits h).0
+    by (Why.Stream c) is h = none_told x g.fault told (carried_on takes e f d g m out longer w es s t level written kept_tree kept_limits
+        same_tree same_limits h).0
     by Why.L4 is h = counted d.consumed (length written.bytes) few h.many
     by Why.SinkStopped is h = goes (sym is)
 
@@ -90,7 +104,8 @@ unfolding Stream
 new_chain t l = (fresh t.entries, ([], (refl, refl), refl))
 
 -- Two that were made or reset.
-pub new_are_level : (e : EncoderData) (d : DecoderData) → HasRead d [] [] → decoded_tree d ≡ tree e → in_mode true d.limits ≡ in_mode true e.limits → e.dictionary ≡ fresh (tree e).entries → AreLevel e d [] []
+pub new_are_level : (e : EncoderData) (d : DecoderData) → HasRead d [] [] → decoded_tree d ≡ tree e
+    → in_mode true d.limits ≡ in_mode true e.limits → e.dictionary ≡ fresh (tree e).entries → AreLevel e d [] []
 new_are_level e d so same_tree same_limits none =
     let (ending, stream, stands) = read-stream d [] [] so in
     let one = one_answer (decoded_tree d) d.limits [] [] [] ending between stream (new_chain (decoded_tree d) d.limits) in

@@ -24,7 +24,8 @@ pub at_most : (n : ℕ) (w : List ℕ) → are_at_most n w ≡ true → All (λ 
 at_most n [] h = All-nil (λ b. b < suc n)
 at_most n (b ∷ w) h = by (nat_le b n) refl h (at_most n w)
   where
-    by : (c : Bool) → nat_le b n ≡ c → (if c then are_at_most n w else false) ≡ true → (are_at_most n w ≡ true → All (λ b. b < suc n) w) → All (λ b. b < suc n) (b ∷ w)
+    by : (c : Bool) → nat_le b n ≡ c → (if c then are_at_most n w else false) ≡ true → (are_at_most n w ≡ true → All (λ b. b < suc n) w)
+        → All (λ b. b < suc n) (b ∷ w)
     by true e h ih = let i : b ≤ n = leb-true b n e in All-cons (λ b. b < suc n) b w (omega (arith, i)) (ih h)
     by false e h ih = absurd (cc h)
 
@@ -36,10 +37,12 @@ pub small : (w : List ℕ) → are_small w ≡ true → AreBytes w
 small w h = at_most 255 w h
 
 -- the events and the end that the readers come to
-pub answered : (t : Tree) (l : Limits) (w : List ℕ) {es : List EventData} {e : End} → are_small w ≡ true → (reading t l w).0 ≡ es → end_of (reading t l w).1 ≡ e → Stream t l w es e
+pub answered : (t : Tree) (l : Limits) (w : List ℕ) {es : List EventData} {e : End} → are_small w ≡ true → (reading t l w).0 ≡ es
+    → end_of (reading t l w).1 ≡ e → Stream t l w es e
 answered t l w h i j = rw (← i, ← j) (reading-sound t l w (small w h))
 
 -- On an `unfolding` line this name lets the readers compute.
 unfoldable pub computing : Unit {0}
-unfolding message_begun message_then message_of_then body_then field_term integer_reader ascii_text_reader presence_map_reader judged judged_map is_utf8 chars encode_utf8
+unfolding message_begun message_then message_of_then body_then field_term integer_reader ascii_text_reader presence_map_reader judged
+    judged_map is_utf8 chars encode_utf8
 computing = tt

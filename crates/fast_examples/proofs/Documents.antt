@@ -23,12 +23,18 @@ letter c g h = (All-cons IsNameByte c [] (inr (inl (g, h))) (All-nil IsNameByte)
 
 -- a scalar x that is mandatory, with an operator, and perhaps a value
 abbrev pub table_of : Kind → Operator → Members → Data
-table_of kind o rest = table (member (codes "kind") (string (kind_name kind)) (member (codes "name") (string (codes "x")) (member (codes "op") (string (operator_name o)) rest)))
+table_of kind o rest = table (member (codes "kind") (string (kind_name kind))
+    (member (codes "name") (string (codes "x")) (member (codes "op") (string (operator_name o)) rest)))
 
 abbrev pub scalar_of : Kind → Operator → Option (List ℕ) → Declared
 scalar_of kind o v = scalar (codes "x") false kind (record { operator = o; value = v; key = None; dictionary = None })
 
-pub writes_bare : (kind : Kind) (o : Operator) → IsInUse (record { operator = o; value = None; key = None; dictionary = None }) → Writes (table_of kind o no_members) (scalar_of kind o None)
+pub writes_bare : (kind : Kind) (o : Operator) → IsInUse (record {
+  operator = o;
+  value = None;
+  key = None;
+  dictionary = None;
+}) → Writes (table_of kind o no_members) (scalar_of kind o None)
 writes_bare kind o u = (
   member (codes "kind") (string (kind_name kind)) (member (codes "name") (string (codes "x")) (member (codes "op") (string (operator_name o)) no_members)),
   refl,
@@ -39,9 +45,15 @@ writes_bare kind o u = (
   record { operator = inl refl; value = refl; key = refl; dictionary = refl; in_use = u },
 )
 
-pub writes_valued : (kind : Kind) (o : Operator) (v : List ℕ) → IsInUse (record { operator = o; value = Some v; key = None; dictionary = None }) → Writes (table_of kind o (member (codes "value") (string v) no_members)) (scalar_of kind o (Some v))
+pub writes_valued : (kind : Kind) (o : Operator) (v : List ℕ) → IsInUse (record {
+  operator = o;
+  value = Some v;
+  key = None;
+  dictionary = None;
+}) → Writes (table_of kind o (member (codes "value") (string v) no_members)) (scalar_of kind o (Some v))
 writes_valued kind o v u = (
-  member (codes "kind") (string (kind_name kind)) (member (codes "name") (string (codes "x")) (member (codes "op") (string (operator_name o)) (member (codes "value") (string v) no_members))),
+  member (codes "kind") (string (kind_name kind)) (member (codes "name") (string (codes "x"))
+      (member (codes "op") (string (operator_name o)) (member (codes "value") (string v) no_members))),
   refl,
   ((0, omega arith, refl), ((1, omega arith, refl), ((3, omega arith, refl), ((4, omega arith, refl), tt)))),
   refl,
@@ -74,10 +86,17 @@ abbrev pub document_of : List ℕ → Data → Members
 document_of name field = member (codes "template") (array (item (table (one_field name field)) no_items)) no_members
 
 pub writes_set : (name : List ℕ) (field : Data) (d : Declared) → IsName name → Writes field d → WritesSet (document_of name field) (declared name d ∷ [])
-writes_set name field d n w = (item (table (one_field name field)) no_items, refl, (one_field name field, no_items, refl, writes_one name field d n w, refl), omega arith, omega arith)
+writes_set name field d n w = (
+  item (table (one_field name field)) no_items,
+  refl,
+  (one_field name field, no_items, refl, writes_one name field d n w, refl),
+  omega arith,
+  omega arith,
+)
 
 -- a text that is refused
-pub refused_text : (text : List ℕ) (document : Members) (ts : List DeclaredTemplate) (code : StaticCode) → parse_document text ≡ Some document → WritesSet document ts → StandsAt ts code 0 → IsFirst ts code 0 → IsRefusedText text code
+pub refused_text : (text : List ℕ) (document : Members) (ts : List DeclaredTemplate) (code : StaticCode)
+    → parse_document text ≡ Some document → WritesSet document ts → StandsAt ts code 0 → IsFirst ts code 0 → IsRefusedText text code
 refused_text text document ts code reads shape stands first = (
   inr (record { document = document; written = ts; reads = reads; shape = shape; stands = stands }),
   written_first (parse_document text) document ts code (Some 0) reads shape stands first,

@@ -29,11 +29,17 @@ holds text = assigned Ascii (AsciiText text)
 
 pub whole_text : EncodesMessage vectors lenient start (tail (codes "ABCDE")) (0xE0 ∷ 0x83 ∷ 0x41 ∷ 0x42 ∷ 0x43 ∷ 0x44 ∷ 0xC5 ∷ []) (after_tail (codes "ABCDE"))
 unfolding reading
-whole_text = encoded vectors lenient start (behind 3 start) (after_tail (codes "ABCDE")) (tail (codes "ABCDE")) t3 3 (true ∷ []) (true ∷ []) (0xE0 ∷ []) (0x83 ∷ []) (0x41 ∷ 0x42 ∷ 0x43 ∷ 0x44 ∷ 0xC5 ∷ []) refl refl
+whole_text = encoded vectors lenient start (behind 3 start) (after_tail (codes "ABCDE")) (tail (codes "ABCDE")) t3 3 (true ∷ [])
+    (true ∷ []) (0xE0 ∷ []) (0x83 ∷ []) (0x41 ∷ 0x42 ∷ 0x43 ∷ 0x44 ∷ 0xC5 ∷ []) refl refl
     (identified lenient start 3 (0x83 ∷ []) (a_fault identifier undefined (Some (U 3)) D5 refl) refl (integer_read _ _ _ _ refl (refl, refl, refl)))
-    (alone lenient (at 3 (codes "t")) tail_field (behind 3 start) (after_tail (codes "ABCDE")) (Some (AsciiText (codes "ABCDE"))) (true ∷ []) (0x41 ∷ 0x42 ∷ 0x43 ∷ 0x44 ∷ 0xC5 ∷ [])
-    (sent lenient tail_field (behind 3 start) (Some (AsciiText (codes "ABCDE"))) (value (AsciiText (codes "ABCDE"))) (holds (codes "ABCDE")) (0x41 ∷ 0x42 ∷ 0x43 ∷ 0x44 ∷ 0xC5 ∷ []) (a_fault tail_field undefined (Some (AsciiText (codes "ABCDE"))) D5 refl)
-    (AsciiText [], codes "ABCDE", refl, inr (omega arith, refl), refl) (codes "ABCDE", refl, text_read false 1024 (Some (codes "ABCDE")) (0x41 ∷ 0x42 ∷ 0x43 ∷ 0x44 ∷ 0xC5 ∷ []) refl (refl, refl, refl)) ((codes "ABCDE", refl), refl)))
+    (alone lenient (at 3 (codes "t")) tail_field (behind 3 start) (after_tail (codes "ABCDE")) (Some (AsciiText (codes "ABCDE")))
+    (true ∷ []) (0x41 ∷ 0x42 ∷ 0x43 ∷ 0x44 ∷ 0xC5 ∷ [])
+    (sent lenient tail_field (behind 3 start) (Some (AsciiText (codes "ABCDE"))) (value (AsciiText (codes "ABCDE")))
+    (holds (codes "ABCDE")) (0x41 ∷ 0x42 ∷ 0x43 ∷ 0x44 ∷ 0xC5 ∷ [])
+    (a_fault tail_field undefined (Some (AsciiText (codes "ABCDE"))) D5 refl)
+    (AsciiText [], codes "ABCDE", refl, inr (omega arith, refl), refl)
+    (codes "ABCDE", refl, text_read false 1024 (Some (codes "ABCDE")) (0x41 ∷ 0x42 ∷ 0x43 ∷ 0x44 ∷ 0xC5 ∷ []) refl (refl, refl, refl))
+    ((codes "ABCDE", refl), refl)))
     refl (refl, refl, refl) refl
 
 -- a tail of five characters makes a text of five or more
@@ -46,12 +52,14 @@ abbrev kept : Result ScalarData Code → ℕ
 kept (Ok v) = length (text_of v)
 kept (Err c) = 0
 
-no_rule : (text : List ℕ) → length text ≡ 5 → is_value (AsciiText (codes "AB")) (Some (AsciiText text)) ≡ false → (bit : Bool) (item : Sent) → ¬ (Rule tail_field (holds text) (Some (AsciiText (codes "AB"))) bit item)
+no_rule : (text : List ℕ) → length text ≡ 5 → is_value (AsciiText (codes "AB")) (Some (AsciiText text)) ≡ false
+    → (bit : Bool) (item : Sent) → ¬ (Rule tail_field (holds text) (Some (AsciiText (codes "AB"))) bit item)
 no_rule text five differs false item (clear, e) = another tail_field (holds text) (AsciiText (codes "AB")) _ refl differs refl clear
 no_rule text five differs true item (n, (base, part, q, cut, e)) = no_tail (text_of base) part (ap kept (sym q) ∙ five) cut
 
 -- AB is refused after a text of five characters
-pub refused : (text : List ℕ) → length text ≡ 5 → is_value (AsciiText (codes "AB")) (Some (AsciiText text)) ≡ false → IsRefused vectors lenient (after_tail text) (tail (codes "AB")) E3
+pub refused : (text : List ℕ) → length text ≡ 5 → is_value (AsciiText (codes "AB")) (Some (AsciiText text)) ≡ false
+    → IsRefused vectors lenient (after_tail text) (tail (codes "AB")) E3
 unfolding Refuses RefusesBody
 refused text five differs = (
   (t3, 3, refl, refl),

@@ -1,7 +1,8 @@
 -- Deltas of texts that begin in the piece and go on behind it.
 use Rattle.std.proofs.Common.{refl, sym, ap, ◌∙◌, subst, arith, to_z, of_z}
 use Rattle.std.specs.Int.{w32, w64}
-use Rattle.std.specs.Prelude.{◌≡◌, ◌≢◌, ℕ, ◌+◌, ◌-◌, ◌<◌, ◌≤◌, Bool, true, false, List, [], length, take, drop, ℤ, pos, negsuc, ◌≤ℤ◌, ◌<ℤ◌, Some, option_map, Ok}
+use Rattle.std.specs.Prelude.{◌≡◌, ◌≢◌, ℕ, ◌+◌, ◌-◌, ◌<◌, ◌≤◌, Bool, true, false, List, [], length, take, drop, ℤ, pos, negsuc, ◌≤ℤ◌, ◌<ℤ◌}
+use Rattle.std.specs.Prelude.{Some, option_map, Ok}
 use Rattle.std.proofs.lemmas.Int.{ints}
 use Rattle.std.proofs.lemmas.List.{length-take-le, length-drop}
 use Rattle.fast_fronts.specs.device.Fronts.{IsFirstInt}
@@ -31,8 +32,10 @@ use Rattle.fast_items.proofs.WholeTexts.{in_runs, both_within}
 use Rattle.fast_items.proofs.WholeDeltas.{keeps_step, part_size_turns, subtraction_turns}
 
 -- The room beside what is kept of a text, on whichever side the bytes are dropped.
-module _ (kind : Kind) (entry room : ℕ) (d : Dictionary) (base : List ℕ) (dropped : ℕ) (held : previous_at (Some entry) d ≡ assigned kind (value_of_text kind base)) (within : dropped ≤ length base) where
-  pub leaves_room : (k : ℤ) → (pos 0 ≤ℤ k → k ≡ pos dropped) → (k <ℤ pos 0 → k ≡ negsuc dropped) → LeavesRoom kind entry k room (room - (length base - dropped)) d
+module _ (kind : Kind) (entry room : ℕ) (d : Dictionary) (base : List ℕ) (dropped : ℕ)
+    (held : previous_at (Some entry) d ≡ assigned kind (value_of_text kind base)) (within : dropped ≤ length base) where
+  pub leaves_room : (k : ℤ) → (pos 0 ≤ℤ k → k ≡ pos dropped) → (k <ℤ pos 0 → k ≡ negsuc dropped)
+      → LeavesRoom kind entry k room (room - (length base - dropped)) d
   leaves_room (pos n) end front = record {
     base = base;
     held = held;
@@ -49,8 +52,10 @@ module _ (kind : Kind) (entry room : ℕ) (d : Dictionary) (base : List ℕ) (dr
   }
 
 -- The subtraction length stands whole, and leaves room for the part. It is passed on in fewer bits.
-module _ (s : Bool) (l : Bounds) (f : FieldData) (rest : List ℕ) (d : Dictionary) (kind : Kind) (optional : Bool) (entry : ℕ) (k : ℤ) (room left a : ℕ) (same : l.max_text ≡ room) (is : IsFieldAs f kind optional Op.Delta entry) (is_text : family kind ≡ texts)
-    (sent : IsFirstInt (λ y. y) s (signed_range 31) optional (First.Whole (Some k) a) rest) (told : LeavesRoom kind entry (to_z w64 (of_z w64 k)) room left d) where
+module _ (s : Bool) (l : Bounds) (f : FieldData) (rest : List ℕ) (d : Dictionary) (kind : Kind) (optional : Bool) (entry : ℕ) (k : ℤ)
+    (room left a : ℕ) (same : l.max_text ≡ room) (is : IsFieldAs f kind optional Op.Delta entry) (is_text : family kind ≡ texts)
+    (sent : IsFirstInt (λ y. y) s (signed_range 31) optional (First.Whole (Some k) a) rest)
+    (told : LeavesRoom kind entry (to_z w64 (of_z w64 k)) room left d) where
   given : IsFirstInt (λ y. y) s (signed_range 31) f.optional (First.Whole (Some k) a) rest
   given = subst (λ (b : Bool). IsFirstInt (λ y. y) s (signed_range 31) b (First.Whole (Some k) a) rest) (sym is.optional) sent
 
@@ -69,10 +74,12 @@ module _ (s : Bool) (l : Bounds) (f : FieldData) (rest : List ℕ) (d : Dictiona
   step : subtraction_step f (previous_at f.entry d) k ≡ Ok j.kept
   step = keeps_step f d kind entry k j.base j.kept is.kind (is.entry refl) j.held j.keeps
 
-  goes : (0 < a) × (a ≤ length rest) × Turns (reader_of s (field_term l f (previous_at f.entry d) true)) (take a rest) (reader_of s (term_behind l f (previous_at f.entry d) (Part k)))
+  goes : (0 < a) × (a ≤ length rest) × Turns (reader_of s (field_term l f (previous_at f.entry d) true)) (take a rest)
+      (reader_of s (term_behind l f (previous_at f.entry d) (Part k)))
   goes = subtraction_turns s l f (previous_at f.entry d) rest k a (ap family is.kind ∙ is_text) is.operator given
 
-  pub ascii_begun : kind ≡ K.Ascii → ascii_text false left (drop a rest) [] cut → HasBegun s l f (previous_at f.entry d) rest (Part (to_z w32 (of_z w32 (to_z w64 (of_z w64 k))))) a
+  pub ascii_begun : kind ≡ K.Ascii → ascii_text false left (drop a rest) [] cut
+      → HasBegun s l f (previous_at f.entry d) rest (Part (to_z w32 (of_z w32 (to_z w64 (of_z w64 k))))) a
   ascii_begun e h = subst (λ (x : ℤ). HasBegun s l f (previous_at f.entry d) rest (Part x) a) passed (record {
     some = goes.0;
     within = goes.1;
@@ -82,7 +89,8 @@ module _ (s : Bool) (l : Bounds) (f : FieldData) (rest : List ℕ) (d : Dictiona
   })
 
   -- The part's size stands whole too.
-  pub vector_begun : (size b : ℕ) → kind ≢ K.Ascii → IsFirstInt (λ y. option_map pos y) s (unsigned_range 32) false (First.Whole (Some size) b) (drop a rest) → size ≤ left → length (drop a rest) - b < size
+  pub vector_begun : (size b : ℕ) → kind ≢ K.Ascii → IsFirstInt (λ y. option_map pos y) s (unsigned_range 32) false
+      (First.Whole (Some size) b) (drop a rest) → size ≤ left → length (drop a rest) - b < size
       → HasBegun s l f (previous_at f.entry d) rest (PartVector (to_z w32 (of_z w32 (to_z w64 (of_z w64 k)))) size) (a + b)
   vector_begun size b no_ascii sized fits short =
       let p = previous_at f.entry d in
@@ -97,5 +105,6 @@ module _ (s : Bool) (l : Bounds) (f : FieldData) (rest : List ℕ) (d : Dictiona
         within = both_within rest a b goes.1 here;
         stage = (ap family is.kind ∙ is_text, no_ascii_field, is.operator, (j.kept, step, has_room));
         bytes = omega (arith, both, behind, short);
-        turns = subst (λ w. Turns (reader_of s (field_term l f p true)) w (reader_of s (term_behind l f p (PartVector k size)))) (in_runs rest a b) (turns_run goes.2 sizes);
+        turns = subst (λ w. Turns (reader_of s (field_term l f p true)) w (reader_of s (term_behind l f p (PartVector k size))))
+            (in_runs rest a b) (turns_run goes.2 sizes);
       })

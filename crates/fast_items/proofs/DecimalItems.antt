@@ -1,6 +1,7 @@
 -- Decimals whose units both stand whole in the piece.
 use Rattle.std.proofs.Common.{refl, sym, ap, ◌∙◌, subst, arith, inl, inr}
-use Rattle.std.specs.Prelude.{◌≡◌, ◌≢◌, ◌⊎◌, ℕ, ◌+◌, ◌-◌, ◌<◌, ◌≤◌, Bool, true, false, if◌then◌else◌, List, [], ◌++◌, length, take, drop, ℤ, ◌+ℤ◌, Option, Some, None, IfSome, Ok, Err}
+use Rattle.std.specs.Prelude.{◌≡◌, ◌≢◌, ◌⊎◌, ℕ, ◌+◌, ◌-◌, ◌<◌, ◌≤◌, Bool, true, false, if◌then◌else◌, List, [], ◌++◌, length, take, drop, ℤ}
+use Rattle.std.specs.Prelude.{◌+ℤ◌, Option, Some, None, IfSome, Ok, Err}
 use Rattle.std.proofs.lemmas.List.{take_rest, length-drop}
 use Rattle.std.proofs.Math.Seq.{take-add}
 use Rattle.fast_fronts.specs.device.Fronts.{IsFirstInt}
@@ -40,7 +41,8 @@ pub ranged_within : (range : Range) (c : Code) (x : ℤ) → IsWithin range x �
 ranged_within range c x h = ap (λ b. if b then Ok x else Err c) ((decides-within range x).1 h)
 
 -- A delta that lies in the range of exponents, or NULL, is spelled like an exponent.
-pub first_exponent : (strict nullable : Bool) (rest : List ℕ) (x : Option ℤ) (n : ℕ) → IsFirstInt (λ y. y) strict delta_range nullable (First.Whole x n) rest → IfSome x (IsWithin exponent_range)
+pub first_exponent : (strict nullable : Bool) (rest : List ℕ) (x : Option ℤ) (n : ℕ)
+    → IsFirstInt (λ y. y) strict delta_range nullable (First.Whole x n) rest → IfSome x (IsWithin exponent_range)
     → IsFirstInt (λ y. y) strict exponent_range nullable (First.Whole x n) rest
 first_exponent strict nullable rest x n h fits = (
   h.0,
@@ -52,7 +54,8 @@ first_exponent strict nullable rest x n h fits = (
 )
 
 -- Two integers that stand whole one behind the other are taken one behind the other.
-pub two_units : {A : Type 0} (s : Bool) (r : Reader A) (one two : Range) (nullable : Bool) (c d : Code) (k m : Option ℤ → Grammar A) (rest : List ℕ) (x y : Option ℤ) (a b : ℕ)
+pub two_units : {A : Type 0} (s : Bool) (r : Reader A) (one two : Range) (nullable : Bool) (c d : Code) (k m : Option ℤ → Grammar A)
+    (rest : List ℕ) (x y : Option ℤ) (a b : ℕ)
     → r ≡ reader_of s (integer one nullable c give >>= k) → reader_of s (k x) ≡ reader_of s (integer two false d give >>= m)
     → IsFirstInt (λ z. z) s one nullable (First.Whole x a) rest → IsFirstInt (λ z. z) s two false (First.Whole y b) (take (length rest - a) (drop a rest))
     → (0 < a + b) × (a + b ≤ length rest) × Turns r (take (a + b) rest) (reader_of s (m y))
@@ -81,11 +84,13 @@ pub decimal_unit : (s b : Bool) (l : Bounds) (f : FieldData) (rest : List ℕ) (
 decimal_unit s b l f rest old new scratch item n kind optional no_delta no_constant unit decided =
     let p = previous_at f.entry old in
     last_unit s (integer exponent_range b R1 decimal_from) (λ y. of_result (decide f p true y)) (reader_of s (field_term l f p true))
-    (ap (reader_of s) (exponent_field l f p (ap family kind) no_delta no_constant) ∙ ap (λ o. reader_of s (integer exponent_range o R1 decimal_from >>= (λ y. of_result (decide f p true y)))) optional)
+    (ap (reader_of s) (exponent_field l f p (ap family kind) no_delta no_constant)
+    ∙ ap (λ o. reader_of s (integer exponent_range o R1 decimal_from >>= (λ y. of_result (decide f p true y)))) optional)
     f [] rest old new scratch (sent_number item) n (decide f p true (sent_number item)) (Ok (source_of item)) refl decided unit
 
 -- It is kept nowhere where the operator keeps no value.
-pub plain_unit : {e : ℕ} {t : Terms} (s b : Bool) (o : Operator) (at : ℕ) (l : Bounds) (f : FieldData) (rest : List ℕ) (old : Dictionary) (scratch : List ℕ) (item : Option Number) (n : ℕ)
+pub plain_unit : {e : ℕ} {t : Terms} (s b : Bool) (o : Operator) (at : ℕ) (l : Bounds) (f : FieldData) (rest : List ℕ) (old : Dictionary)
+    (scratch : List ℕ) (item : Option Number) (n : ℕ)
     → IsFieldAs f Decimal b o at → Serves e t f → (o ≡ Op.None) ⊎ (o ≡ Op.Default)
     → IsUnit (reader_of s (integer exponent_range b R1 decimal_from)) sent_number [] rest (Whole item n)
     → IsLastUnit (reader_of s (field_term l f (previous_at f.entry old) true)) f [] rest old old scratch (Whole (source_of item) n)
@@ -113,7 +118,8 @@ plain_unit s b o at l f rest old scratch item n is serves plain unit =
 
     decided : (x : Option Number) → IsDecided (decide f (previous_at f.entry old) true (sent_number x)) f old old (Ok (source_of x))
     decided None = null_decided f serves (no_texts f is.kind) old old no_delta no_constant (same empty)
-    decided (Some x) = value_decided f serves (no_texts f is.kind) old old (number_data x) (source_of (Some x)) no_delta no_constant (same (assigned f.kind (number_data x))) (item_value (Some x) f)
+    decided (Some x) = value_decided f serves (no_texts f is.kind) old old (number_data x) (source_of (Some x)) no_delta no_constant
+        (same (assigned f.kind (number_data x))) (item_value (Some x) f)
 
 -- What a delta is added to, where the entry holds a decimal.
 module _ (f : FieldData) (p : PreviousData) (e m : ℤ) (kind : f.kind ≡ Decimal) (held : p ≡ assigned Decimal (Dec e m)) where
@@ -129,7 +135,8 @@ module _ (f : FieldData) (p : PreviousData) (e m : ℤ) (kind : f.kind ≡ Decim
 -- A decimal under delta begins with the delta of its exponent.
 delta_here : (s b : Bool) (l : Bounds) (f : FieldData) (p : PreviousData) → f.kind ≡ Decimal → f.optional ≡ b → f.operator ≡ Op.Delta
     → reader_of s (field_term l f p true) ≡ reader_of s (integer delta_range b D2 give >>= decimal_change f p)
-delta_here s b l f p kind optional delta = ap (reader_of s) (exponent_delta_field l f p (ap family kind) delta) ∙ ap (λ o. reader_of s (integer delta_range o D2 give >>= decimal_change f p)) optional
+delta_here s b l f p kind optional delta = ap (reader_of s) (exponent_delta_field l f p (ap family kind) delta)
+    ∙ ap (λ o. reader_of s (integer delta_range o D2 give >>= decimal_change f p)) optional
 
 -- NULL in the place of a delta leaves the entry as it is.
 pub null_unit : (s b : Bool) (l : Bounds) (f : FieldData) (rest : List ℕ) (old : Dictionary) (scratch : List ℕ) (x : Option ℤ) (n : ℕ)
@@ -142,7 +149,8 @@ null_unit s b l f rest old scratch x n kind optional delta none first =
     (first_whole (λ z. z) s delta_range b D2 [] rest x n refl first)
 
 -- The deltas of both units are added to the decimal that the entry holds.
-pub changed_unit : (s b : Bool) (l : Bounds) (f : FieldData) (rest : List ℕ) (old new : Dictionary) (scratch : List ℕ) (e m k j x y : ℤ) (d : Option ℤ) (a n : ℕ)
+pub changed_unit : (s b : Bool) (l : Bounds) (f : FieldData) (rest : List ℕ) (old new : Dictionary) (scratch : List ℕ) (e m k j x y : ℤ)
+    (d : Option ℤ) (a n : ℕ)
     → f.kind ≡ Decimal → f.optional ≡ b → f.operator ≡ Op.Delta → previous_at f.entry old ≡ assigned Decimal (Dec e m)
     → d ≡ Some k → IsFirstInt (λ z. z) s delta_range b (First.Whole d a) rest → ranged exponent_range R1 (e +ℤ k) ≡ Ok x
     → IsFirstInt (λ z. z) s delta_range false (First.Whole (Some j) n) (take (length rest - a) (drop a rest)) → ranged (signed_range 63) R1 (m +ℤ j) ≡ Ok y
@@ -151,8 +159,10 @@ pub changed_unit : (s b : Bool) (l : Bounds) (f : FieldData) (rest : List ℕ) (
 changed_unit s b l f rest old new scratch e m k j x y d a n kind optional delta held some first exponent second mantissa kept =
     let p = previous_at f.entry old in
     let next : reader_of s (decimal_change f p d) ≡ reader_of s (integer delta_range false D2 give >>= mantissa_change f p x) =
-    ap (λ z. reader_of s (decimal_change f p z)) some ∙ result_done s (exponent_step f p k) (λ z. integer delta_range false D2 (mantissa_change f p z)) (exponent_stepped f p e m kind held k x exponent) in
-    let (has, within, t) = two_units s (reader_of s (field_term l f p true)) delta_range delta_range b D2 D2 (decimal_change f p) (mantissa_change f p x) rest d (Some j) a n
+    ap (λ z. reader_of s (decimal_change f p z)) some ∙ result_done s (exponent_step f p k)
+    (λ z. integer delta_range false D2 (mantissa_change f p z)) (exponent_stepped f p e m kind held k x exponent) in
+    let (has, within, t) = two_units s (reader_of s (field_term l f p true)) delta_range delta_range b D2 D2 (decimal_change f p)
+    (mantissa_change f p x) rest d (Some j) a n
     (delta_here s b l f p kind optional delta) next first second in (
       has,
       within,

@@ -27,14 +27,16 @@ use Rattle.fast_units.specs.device.Words.{previous_of}
 use Rattle.fast_units.specs.declared.fields.Number.{Number}
 use Rattle.fast_units.specs.declared.fields.Number.TheVariants.{Signed}
 use Rattle.fast_units.specs.declared.source.ValueSource.TheVariants as From
-use Rattle.fast_units.proofs.Deciding.{decided_as, no_entry, constant_decided, constant_absent, default_decided, unsent_copied, own_decided, keep_decided, base_own, base_stepped, item_value}
+use Rattle.fast_units.proofs.Deciding.{decided_as, no_entry, constant_decided, constant_absent, default_decided, unsent_copied, own_decided}
+use Rattle.fast_units.proofs.Deciding.{keep_decided, base_own, base_stepped, item_value}
 use Rattle.fast_items.proofs.DecimalItems.{ranged_within}
 use Rattle.fast_items.proofs.IntegerItems.{item_kept, left_absent}
 use Rattle.fast_units.proofs.NextUnits.{first_whole}
 use Rattle.fast_units.proofs.ShortIntegers.{item_unit, delta_unit}
 
 -- The initial value stands at hand as well.
-initially : (r : Result Outcome Code) (f : FieldData) (d : Dictionary) (item : Option Number) → f.initial ≡ option_map number_data item → IsDecided r f d d (Ok From.Initial) → IsDecided r f d d (Ok (source_of item))
+initially : (r : Result Outcome Code) (f : FieldData) (d : Dictionary) (item : Option Number) → f.initial ≡ option_map number_data item
+    → IsDecided r f d d (Ok From.Initial) → IsDecided r f d d (Ok (source_of item))
 initially r f d item initial (o, decided, settled) = (
   o,
   decided,
@@ -53,22 +55,28 @@ module _ (field : FieldInstruction) (bit : Bool) (seen : Slots) where
   constant_none is clear old there = constant_absent f (slots_dictionary old) bit (no_entry f there.serves (ap keeps_value is)) is clear
 
   -- A constant that is there, and the initial value under default.
-  pub constant_there : field.operator ≡ Op.Constant → bit ≡ true → (o : Option (Option ℤ)) → IfSome o (λ x. f.initial ≡ option_map number_data (part_item x)) → IfSome o (IsPartKnown field bit seen)
+  pub constant_there : field.operator ≡ Op.Constant → bit ≡ true → (o : Option (Option ℤ))
+      → IfSome o (λ x. f.initial ≡ option_map number_data (part_item x)) → IfSome o (IsPartKnown field bit seen)
   constant_there is set None h = tt
   constant_there is set (Some x) h = λ old there.
-      initially (decide f (previous_of old field) bit nothing) f (slots_dictionary old) (part_item x) h (constant_decided f (slots_dictionary old) bit (no_entry f there.serves (ap keeps_value is)) is set)
+      initially (decide f (previous_of old field) bit nothing) f (slots_dictionary old) (part_item x) h
+      (constant_decided f (slots_dictionary old) bit (no_entry f there.serves (ap keeps_value is)) is set)
 
-  pub default_left : field.operator ≡ Op.Default → bit ≡ false → (o : Option (Option ℤ)) → IfSome o (λ x. f.initial ≡ option_map number_data (part_item x)) → IfSome o (IsPartKnown field bit seen)
+  pub default_left : field.operator ≡ Op.Default → bit ≡ false → (o : Option (Option ℤ))
+      → IfSome o (λ x. f.initial ≡ option_map number_data (part_item x)) → IfSome o (IsPartKnown field bit seen)
   default_left is clear None h = tt
   default_left is clear (Some x) h = λ old there.
-      initially (decide f (previous_of old field) bit nothing) f (slots_dictionary old) (part_item x) h (default_decided f (slots_dictionary old) bit (no_entry f there.serves (ap keeps_value is)) is clear)
+      initially (decide f (previous_of old field) bit nothing) f (slots_dictionary old) (part_item x) h
+      (default_decided f (slots_dictionary old) bit (no_entry f there.serves (ap keeps_value is)) is clear)
 
   -- What the entry holds under copy.
-  pub copied_number : (x : ℤ) → field.operator ≡ Op.Copy → bit ≡ false → previous_of seen field ≡ assigned field.kind (I x) → IsPartKnown field bit seen (Some x)
+  pub copied_number : (x : ℤ) → field.operator ≡ Op.Copy → bit ≡ false → previous_of seen field ≡ assigned field.kind (I x)
+      → IsPartKnown field bit seen (Some x)
   copied_number x is clear held old there =
       let d = slots_dictionary old in
       let other : f.operator ≢ Op.Increment = subst (λ o. o ≢ Op.Increment) (sym is) (λ e. absurd (cc e)) in
-      decided_as f d d (Ok (source_of (Some (Signed x)))) (unsent_copied f (previous_of old field) bit is clear) (own_decided f d (I x) (source_of (Some (Signed x))) other (there.same ∙ held) (item_value (Some (Signed x)) f))
+      decided_as f d d (Ok (source_of (Some (Signed x)))) (unsent_copied f (previous_of old field) bit is clear)
+      (own_decided f d (I x) (source_of (Some (Signed x))) other (there.same ∙ held) (item_value (Some (Signed x)) f))
 
   pub copied_none : field.operator ≡ Op.Copy → bit ≡ false → field.optional ≡ true → previous_of seen field ≡ empty → IsPartKnown field bit seen None
   copied_none is clear optional held old there =
@@ -77,7 +85,9 @@ module _ (field : FieldInstruction) (bit : Bool) (seen : Slots) where
       (left_absent f d (unsent_copied f (previous_of old field) false is refl) optional (there.same ∙ held))
 
   -- Or what it holds, if it was looked at.
-  pub copied_left : field.operator ≡ Op.Copy → bit ≡ false → (o : Option (Option ℤ)) → IfSome o (λ x. previous_of seen field ≡ item_held field.kind (part_item x)) → (o ≡ Some None → field.optional ≡ true) → IfSome o (IsPartKnown field bit seen)
+  pub copied_left : field.operator ≡ Op.Copy → bit ≡ false → (o : Option (Option ℤ))
+      → IfSome o (λ x. previous_of seen field ≡ item_held field.kind (part_item x)) → (o ≡ Some None → field.optional ≡ true)
+      → IfSome o (IsPartKnown field bit seen)
   copied_left is clear None held absent = tt
   copied_left is clear (Some None) held absent = copied_none is clear (absent refl) held
   copied_left is clear (Some (Some x)) held absent = copied_number x is clear held
@@ -87,26 +97,30 @@ module _ (field : FieldInstruction) (strict : Bool) (rest : List ℕ) (seen : Sl
   g = field_data field
 
   -- An integer, or NULL, that is sent under no delta.
-  pub part_whole : (kind : Kind) (x : Option ℤ) (n : ℕ) → field.kind ≡ kind → family kind ≡ integers (range_of kind) → sent_number (part_item x) ≡ sent_integer kind x → field.operator ≢ Op.Delta → field.operator ≢ Op.Constant
+  pub part_whole : (kind : Kind) (x : Option ℤ) (n : ℕ) → field.kind ≡ kind → family kind ≡ integers (range_of kind)
+      → sent_number (part_item x) ≡ sent_integer kind x → field.operator ≢ Op.Delta → field.operator ≢ Op.Constant
       → IsFirstInt (λ y. y) strict (range_of kind) field.optional (First.Whole x n) rest → IsPartBy true field true strict rest seen x n
   part_whole kind x n same is sent no_delta no_constant first =
       let of_integers : family g.kind ≡ integers (range_of g.kind) = subst (λ k. family k ≡ integers (range_of k)) (sym same) is in (
         (first_whole (λ y. y) strict (range_of kind) field.optional D2 [] rest x n refl first).0,
         first.0,
         λ old new l scratch there kept.
-            item_unit kind field.optional strict l g rest (slots_dictionary old) (slots_dictionary new) scratch x n (sent_number (part_item x)) (source_of (part_item x))
+            item_unit kind field.optional strict l g rest (slots_dictionary old) (slots_dictionary new) scratch x n
+            (sent_number (part_item x)) (source_of (part_item x))
             (sym same) refl of_integers no_delta no_constant first sent
             (item_kept g there.serves of_integers (slots_dictionary old) (slots_dictionary new) (part_item x) no_delta no_constant kept),
       )
 
   -- A mantissa behind its delta.
-  pub part_changed : (base j sum : ℤ) (n : ℕ) → field.kind ≡ Int64 → field.operator ≡ Op.Delta → field.optional ≡ false → previous_of seen field ≡ assigned Int64 (I base) → base +ℤ j ≡ sum → IsWithin (signed_range 63) sum
+  pub part_changed : (base j sum : ℤ) (n : ℕ) → field.kind ≡ Int64 → field.operator ≡ Op.Delta → field.optional ≡ false
+      → previous_of seen field ≡ assigned Int64 (I base) → base +ℤ j ≡ sum → IsWithin (signed_range 63) sum
       → IsFirstInt (λ y. y) strict delta_range false (First.Whole (Some j) n) rest → IsPartBy true field true strict rest seen (Some sum) n
   part_changed base j sum n kind delta mandatory held summed within first = (
     (first_whole (λ y. y) strict delta_range false D2 [] rest (Some j) n refl first).0,
     first.0,
     λ old new l scratch there kept.
-        delta_unit false strict l g rest (slots_dictionary old) (slots_dictionary new) scratch (Some j) n (integer_step g (previous_of old field) j) (source_of (Some (Signed sum)))
+        delta_unit false strict l g rest (slots_dictionary old) (slots_dictionary new) scratch (Some j) n
+        (integer_step g (previous_of old field) j) (source_of (Some (Signed sum)))
         (sym mandatory) (subst (λ k. family k ≡ integers (range_of k)) (sym kind) refl) delta first refl
         (decided_as g (slots_dictionary old) (slots_dictionary new) (Ok (source_of (Some (Signed sum)))) (step (previous_of old field) (there.same ∙ held))
         (keep_decided g (slots_dictionary old) (slots_dictionary new) (I sum) (source_of (Some (Signed sum))) kept (item_value (Some (Signed sum)) g))),
@@ -118,13 +132,15 @@ module _ (field : FieldInstruction) (strict : Bool) (rest : List ℕ) (seen : Sl
       step : (p : PreviousData) → p ≡ assigned Int64 (I base) → integer_step g p j ≡ keeps g.kind (I sum)
       step p own =
           base_stepped g p j
-          ∙ ap (λ b. b >>= (λ x. ranged (range_of g.kind) D2 (x +ℤ j) >>= (λ y. keeps g.kind (value_of_integer g.kind y)))) (base_own g p (I base) (own ∙ ap (λ k. assigned k (I base)) (sym kind)))
+          ∙ ap (λ b. b >>= (λ x. ranged (range_of g.kind) D2 (x +ℤ j) >>= (λ y. keeps g.kind (value_of_integer g.kind y))))
+          (base_own g p (I base) (own ∙ ap (λ k. assigned k (I base)) (sym kind)))
           ∙ ap (λ k. ranged (range_of k) D2 (base +ℤ j) >>= (λ y. keeps k (value_of_integer k y))) kind
           ∙ ap (λ r. r >>= (λ y. keeps Int64 (value_of_integer Int64 y))) inside
           ∙ ap (λ k. keeps k (I sum)) (sym kind)
 
 -- An integer in two's complement spells the same in another range in which it lies.
-pub exponent_spelled : (strict nullable : Bool) (x : Option ℤ) (w : List ℕ) → SpellsInt strict exponent_range nullable x w → IfSome x (IsWithin (signed_range 31)) → SpellsInt strict (signed_range 31) nullable x w
+pub exponent_spelled : (strict nullable : Bool) (x : Option ℤ) (w : List ℕ) → SpellsInt strict exponent_range nullable x w
+    → IfSome x (IsWithin (signed_range 31)) → SpellsInt strict (signed_range 31) nullable x w
 exponent_spelled strict nullable x w h fits = record {
   form = record { entity = h.form.entity; short = h.form.short; shortest = h.form.shortest };
   meaning = h.meaning;
@@ -136,7 +152,9 @@ fits_kind : (x : Option ℤ) → IfSome x (IsWithin exponent_range) → IfSome x
 fits_kind None h = tt
 fits_kind (Some x) h = (grind (arith, h.0), grind (arith, h.1))
 
-pub exponent_first : (strict nullable : Bool) (rest : List ℕ) (x : Option ℤ) (n : ℕ) → IsFirstInt (λ y. y) strict exponent_range nullable (First.Whole x n) rest → IsFirstInt (λ y. y) strict (range_of Int32) nullable (First.Whole x n) rest
+pub exponent_first : (strict nullable : Bool) (rest : List ℕ) (x : Option ℤ) (n : ℕ)
+    → IsFirstInt (λ y. y) strict exponent_range nullable (First.Whole x n) rest
+    → IsFirstInt (λ y. y) strict (range_of Int32) nullable (First.Whole x n) rest
 exponent_first strict nullable rest x n h = (h.0, exponent_spelled strict nullable x (take n rest) h.1 (fits_kind x h.1.fits))
 
 -- So is what an exponent or a mantissa is sent as.
@@ -152,7 +170,9 @@ mantissa_sent (Some x) = refl
 fits_delta : (x : ℤ) → IsWithin (signed_range 63) x → IsWithin delta_range x
 fits_delta x h = (grind (arith, h.0), grind (arith, h.1))
 
-pub delta_first : (strict : Bool) (rest : List ℕ) (x : ℤ) (n : ℕ) → IsFirstInt (λ y. Some y) strict (signed_range 63) false (First.Whole x n) rest → IsFirstInt (λ y. y) strict delta_range false (First.Whole (Some x) n) rest
+pub delta_first : (strict : Bool) (rest : List ℕ) (x : ℤ) (n : ℕ)
+    → IsFirstInt (λ y. Some y) strict (signed_range 63) false (First.Whole x n) rest
+    → IsFirstInt (λ y. y) strict delta_range false (First.Whole (Some x) n) rest
 delta_first strict rest x n h = (
   h.0,
   record {
@@ -177,17 +197,21 @@ usual_no_constant field (inl e) h = absurd (cc (e, h))
 usual_no_constant field (inr e) h = absurd (cc (e, h))
 
 -- Under default it is the initial value where nothing is sent; else it is under copy, and what its entry holds.
-pub usual_default : (field : FieldInstruction) (seen : Slots) (operator : Operator) (known o : Option (Option ℤ)) → field.operator ≡ operator → operator ≡ Op.Default → known ≡ o
+pub usual_default : (field : FieldInstruction) (seen : Slots) (operator : Operator) (known o : Option (Option ℤ))
+    → field.operator ≡ operator → operator ≡ Op.Default → known ≡ o
     → IfSome o (λ x. (field_data field).initial ≡ option_map number_data (part_item x)) → IfSome known (IsPartKnown field false seen)
 usual_default field seen operator known o same is looked initial =
     subst (λ (r : Option (Option ℤ)). IfSome r (IsPartKnown field false seen)) (sym looked) (default_left field false seen (same ∙ is) refl o initial)
 
-pub usual_held : (field : FieldInstruction) (seen : Slots) (operator : Operator) (optional : Bool) (kind : Kind) (known o : Option (Option ℤ)) → IsUsualExponent field → field.kind ≡ kind → field.operator ≡ operator
-    → field.optional ≡ optional → operator ≢ Op.Default → known ≡ o → IfSome o (λ x. previous_of seen field ≡ item_held kind (part_item x)) → (o ≡ Some None → optional ≡ true)
+pub usual_held : (field : FieldInstruction) (seen : Slots) (operator : Operator) (optional : Bool) (kind : Kind)
+    (known o : Option (Option ℤ)) → IsUsualExponent field → field.kind ≡ kind → field.operator ≡ operator
+    → field.optional ≡ optional → operator ≢ Op.Default → known ≡ o → IfSome o (λ x. previous_of seen field ≡ item_held kind (part_item x))
+    → (o ≡ Some None → optional ≡ true)
     → IfSome known (IsPartKnown field false seen)
 usual_held field seen operator optional kind known o usual as_kind same may_be other looked held absent =
     subst (λ (r : Option (Option ℤ)). IfSome r (IsPartKnown field false seen)) (sym looked)
-    (copied_left field false seen (copy usual) refl o (subst (λ k. IfSome o (λ x. previous_of seen field ≡ item_held k (part_item x))) (sym as_kind) held) (λ e. may_be ∙ absent e))
+    (copied_left field false seen (copy usual) refl o (subst (λ k. IfSome o (λ x. previous_of seen field ≡ item_held k (part_item x)))
+    (sym as_kind) held) (λ e. may_be ∙ absent e))
   where
     copy : IsUsualExponent field → field.operator ≡ Op.Copy
     copy (inl e) = absurd (other (sym same ∙ e))

@@ -26,7 +26,8 @@ use Rattle.fast_items.specs.device.IntegerItems.{item_held, KeepsItem, IsBehindD
 use Rattle.fast_units.specs.declared.fields.Number.{Number}
 use Rattle.fast_units.specs.declared.source.ValueSource.TheVariants as From
 use Rattle.fast_items.specs.declared.taken.TakenItem.{TakenItem}
-use Rattle.fast_units.proofs.Deciding.{decided_as, write_same, absent_decided, value_decided, null_decided, none_decided, own_decided, next_decided, unsent_copied, unsent_increased, default_decided, no_entry, item_value}
+use Rattle.fast_units.proofs.Deciding.{decided_as, write_same, absent_decided, value_decided, null_decided, none_decided, own_decided}
+use Rattle.fast_units.proofs.Deciding.{next_decided, unsent_copied, unsent_increased, default_decided, no_entry, item_value}
 use Rattle.fast_units.proofs.ShortIntegers.{no_texts, item_unit, delta_unit}
 
 -- A number, or NULL, that is sent under no delta, where the entry, if there is one, holds it.
@@ -42,7 +43,8 @@ kind_integers : (f : FieldData) (kind : Kind) → f.kind ≡ kind → family kin
 kind_integers f kind same is = subst (λ k. family k ≡ integers (range_of k)) (sym same) is
 
 -- An integer, or NULL, that is whole in the piece, and that the entry holds, is each field that is so.
-pub sent_item : (kind : Kind) (optional : Bool) (operator : Operator) (entry : ℕ) (strict : Bool) (rest : List ℕ) (old new : Slots) (x : Option ℤ) (r : TakenItem)
+pub sent_item : (kind : Kind) (optional : Bool) (operator : Operator) (entry : ℕ) (strict : Bool) (rest : List ℕ) (old new : Slots)
+    (x : Option ℤ) (r : TakenItem)
     → family kind ≡ integers (range_of kind) → operator ≢ Op.Delta → operator ≢ Op.Constant
     → IsFirstInt (λ y. y) strict (range_of kind) optional (First.Whole x r.bytes) rest → sent_number r.item ≡ sent_integer kind x
     → KeepsItem kind operator entry old new r.item → IsSentItem kind optional operator entry strict rest old new r
@@ -61,23 +63,27 @@ pub sent_change : (kind : Kind) (optional : Bool) (entry : ℕ) (strict : Bool) 
     → family kind ≡ integers (range_of kind) → IsFirstInt (λ y. y) strict delta_range optional (First.Whole (Some delta) bytes) rest
     → IsBehindDelta kind entry delta old new n → IsSentItem kind optional Op.Delta entry strict rest old new (record { item = Some n; bytes = bytes })
 sent_change kind optional entry strict rest old new delta n bytes is first behind f l scratch so serves =
-    delta_unit optional strict l f rest (slots_dictionary old) (slots_dictionary new) scratch (Some delta) bytes (integer_step f (previous_at f.entry (slots_dictionary old)) delta) (source_of (Some n))
+    delta_unit optional strict l f rest (slots_dictionary old) (slots_dictionary new) scratch (Some delta) bytes
+    (integer_step f (previous_at f.entry (slots_dictionary old)) delta) (source_of (Some n))
     (sym so.optional) (kind_integers f kind so.kind is) so.operator first refl (behind f so.kind (so.entry refl))
 
 pub sent_null : (kind : Kind) (optional : Bool) (entry : ℕ) (strict : Bool) (rest : List ℕ) (slots : Slots) (bytes : ℕ)
     → family kind ≡ integers (range_of kind) → IsFirstInt (λ y. y) strict delta_range optional (First.Whole None bytes) rest
     → IsSentItem kind optional Op.Delta entry strict rest slots slots (record { item = None; bytes = bytes })
 sent_null kind optional entry strict rest slots bytes is first f l scratch so serves =
-    delta_unit optional strict l f rest (slots_dictionary slots) (slots_dictionary slots) scratch None bytes (gives_none (previous_at f.entry (slots_dictionary slots))) From.Absent
+    delta_unit optional strict l f rest (slots_dictionary slots) (slots_dictionary slots) scratch None bytes
+    (gives_none (previous_at f.entry (slots_dictionary slots))) From.Absent
     (sym so.optional) (kind_integers f kind so.kind is) so.operator first refl (none_decided f (slots_dictionary slots))
 
 -- What a field's entry holds, by what is looked at.
-pub held_at : (f : FieldData) (d : Dictionary) (held : Entry) (entry : ℕ) (p : PreviousData) → f.entry ≡ Some entry → ((text : List ℕ) × (with_text held text ≡ previous_at (Some entry) d))
+pub held_at : (f : FieldData) (d : Dictionary) (held : Entry) (entry : ℕ) (p : PreviousData) → f.entry ≡ Some entry
+    → ((text : List ℕ) × (with_text held text ≡ previous_at (Some entry) d))
     → ((text : List ℕ) → with_text held text ≡ p) → previous_at f.entry d ≡ p
 held_at f d held entry p at (text, is) same = ap (λ e. previous_at e d) at ∙ sym is ∙ same text
 
 -- Nothing is sent, and the entry is empty: absent, if the field may be.
-pub left_absent : (f : FieldData) (d : Dictionary) → decide f (previous_at f.entry d) false nothing ≡ unsent f (previous_at f.entry d) → f.optional ≡ true → previous_at f.entry d ≡ empty
+pub left_absent : (f : FieldData) (d : Dictionary) → decide f (previous_at f.entry d) false nothing ≡ unsent f (previous_at f.entry d)
+    → f.optional ≡ true → previous_at f.entry d ≡ empty
     → IsDecided (decide f (previous_at f.entry d) false nothing) f d d (Ok From.Absent)
 left_absent f d as_unsent optional none =
     decided_as f d d (Ok From.Absent) (as_unsent ∙ ap (unsent f) none) (absent_decided f d d D6 optional (sym (write_same f.entry empty d none)))
@@ -90,12 +96,15 @@ pub copied_item : (kind : Kind) (optional : Bool) (entry : ℕ) (slots : Slots) 
 copied_item kind optional entry slots held None at is absent = tt
 copied_item kind optional entry slots held (Some None) at is absent = λ f so serves.
     let d = slots_dictionary slots in
-    left_absent f d (unsent_copied f (previous_at f.entry d) false so.operator refl) (so.optional ∙ absent refl) (held_at f d held entry empty (so.entry refl) at is)
+    left_absent f d (unsent_copied f (previous_at f.entry d) false so.operator refl) (so.optional ∙ absent refl)
+    (held_at f d held entry empty (so.entry refl) at is)
 copied_item kind optional entry slots held (Some (Some n)) at is absent = λ f so serves.
     let d = slots_dictionary slots in
     let other : f.operator ≢ Op.Increment = subst (λ o. o ≢ Op.Increment) (sym so.operator) (λ e. absurd (cc e)) in
-    let own : previous_at f.entry d ≡ assigned f.kind (number_data n) = held_at f d held entry (assigned kind (number_data n)) (so.entry refl) at is ∙ ap (λ k. assigned k (number_data n)) (sym so.kind) in
-    decided_as f d d (Ok (source_of (Some n))) (unsent_copied f (previous_at f.entry d) false so.operator refl) (own_decided f d (number_data n) (source_of (Some n)) other own (item_value (Some n) f))
+    let own : previous_at f.entry d ≡ assigned f.kind (number_data n) =
+    held_at f d held entry (assigned kind (number_data n)) (so.entry refl) at is ∙ ap (λ k. assigned k (number_data n)) (sym so.kind) in
+    decided_as f d d (Ok (source_of (Some n))) (unsent_copied f (previous_at f.entry d) false so.operator refl)
+    (own_decided f d (number_data n) (source_of (Some n)) other own (item_value (Some n) f))
 
 -- Under increment it is the number behind the one that the entry holds, which it then holds.
 pub increased_item : (kind : Kind) (optional : Bool) (entry : ℕ) (old new : Slots) (v : ScalarData) (n : Number)
@@ -113,7 +122,8 @@ increased_item kind optional entry old new v n held next kept f so serves =
     kept ∙ ap (λ x. write_at x (assigned kind (number_data n)) d) (sym at) ∙ ap (λ k. write_at f.entry (assigned k (number_data n)) d) (sym so.kind)
     ∙ ap (λ x. write_at f.entry (assigned f.kind x) d) next_number in
     decided_as f d e (Ok (source_of (Some n))) (unsent_increased f (previous_at f.entry d) false so.operator refl)
-    (next_decided f d e kind v (source_of (Some n)) own (sym so.kind) there (λ scratch piece. sym (item_value (Some n) f e scratch piece ∙ ap Some next_number)))
+    (next_decided f d e kind v (source_of (Some n)) own (sym so.kind) there
+    (λ scratch piece. sym (item_value (Some n) f e scratch piece ∙ ap Some next_number)))
 
 -- Under default it is the initial value, whatever the entry holds.
 pub default_item : (f : FieldData) (item : Option Number) → f.initial ≡ option_map number_data item → IsDefaultItem f item

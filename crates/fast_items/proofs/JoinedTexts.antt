@@ -1,7 +1,8 @@
 -- Texts that are joined to what their entries hold.
 use Rattle.std.proofs.Common.{refl, sym, ap, ◌∙◌, arith, inl, inr, get_or, length-append}
 use Rattle.std.proofs.Math.Nat.{min-le_left, min-le_right}
-use Rattle.std.specs.Prelude.{ℤ, ◌≤ℤ◌, ◌<ℤ◌, ◌≡◌, ◌≢◌, ◌⊎◌, Some, slice_get, ℕ, ◌+◌, ◌-◌, ◌<◌, ◌≤◌, Bool, true, false, nat_le, if◌then◌else◌, List, [], ◌∷◌, ◌++◌, length, take, drop, min, pos, negsuc, Ok, Err}
+use Rattle.std.specs.Prelude.{ℤ, ◌≤ℤ◌, ◌<ℤ◌, ◌≡◌, ◌≢◌, ◌⊎◌, Some, slice_get, ℕ, ◌+◌, ◌-◌, ◌<◌, ◌≤◌, Bool, true, false, nat_le}
+use Rattle.std.specs.Prelude.{if◌then◌else◌, List, [], ◌∷◌, ◌++◌, length, take, drop, min, pos, negsuc, Ok, Err}
 use Rattle.std.specs.Int.Signed.{le_z}
 use Rattle.std.specs.Str.{is_utf8}
 use Rattle.std.proofs.lemmas.Int.{ints}
@@ -25,7 +26,8 @@ was_utf8 v true e h = e
 was_utf8 v false e h = absurd (cc h)
 
 -- Two texts are one together.
-pub both_texts : (kind : Kind) (v w : List ℕ) → checked_text kind v ≡ Ok (value_of_text kind v) → checked_text kind w ≡ Ok (value_of_text kind w) → checked_text kind (v ++ w) ≡ Ok (value_of_text kind (v ++ w))
+pub both_texts : (kind : Kind) (v w : List ℕ) → checked_text kind v ≡ Ok (value_of_text kind v)
+    → checked_text kind w ≡ Ok (value_of_text kind w) → checked_text kind (v ++ w) ≡ Ok (value_of_text kind (v ++ w))
 both_texts UInt32 v w h i = refl
 both_texts Int32 v w h i = refl
 both_texts UInt64 v w h i = refl
@@ -33,7 +35,9 @@ both_texts Int64 v w h i = refl
 both_texts Decimal v w h i = refl
 both_texts Ascii v w h i = refl
 both_texts Unicode v w h i =
-    let both : is_utf8 (v ++ w) ≡ true = is_utf8-from_IsUtf8 (v ++ w) (IsUtf8-append v w (IsUtf8-from_is_utf8 v (was_utf8 v (is_utf8 v) refl h)) (IsUtf8-from_is_utf8 w (was_utf8 w (is_utf8 w) refl i))) in
+    let both : is_utf8 (v ++ w) ≡ true = is_utf8-from_IsUtf8 (v ++ w)
+    (IsUtf8-append v w (IsUtf8-from_is_utf8 v (was_utf8 v (is_utf8 v) refl h))
+    (IsUtf8-from_is_utf8 w (was_utf8 w (is_utf8 w) refl i))) in
     rw both refl
 both_texts Bytes v w h i = refl
 
@@ -43,7 +47,8 @@ module _ (base : List ℕ) (dropped : ℕ) (within : dropped ≤ length base) wh
   keeps_front = by (leb_tells dropped (length base))
     where
       by : ((nat_le dropped (length base) ≡ true) × (dropped ≤ length base)) ⊎ ((nat_le dropped (length base) ≡ false) × (length base < dropped))
-          → (if nat_le dropped (length base) then Ok (append_to (take (length base - dropped) base)) else Err D7) ≡ Ok (append_to (take (length base - dropped) base))
+          → (if nat_le dropped (length base) then Ok (append_to (take (length base - dropped) base)) else Err D7) ≡ Ok
+          (append_to (take (length base - dropped) base))
       by (inl t) = rw t.0 refl
       by (inr t) = absurd (omega (arith, within, t))
 
@@ -59,17 +64,21 @@ module _ (base : List ℕ) (dropped : ℕ) (within : dropped ≤ length base) wh
 pub tail_behind : (base part : List ℕ) → with_tail base part ≡ take (length base - length part) base ++ part
 tail_behind base part = by (leb_tells (length part) (length base))
   where
-    by : ((nat_le (length part) (length base) ≡ true) × (length part ≤ length base)) ⊎ ((nat_le (length part) (length base) ≡ false) × (length base < length part))
+    by : ((nat_le (length part) (length base) ≡ true) × (length part ≤ length base))
+        ⊎ ((nat_le (length part) (length base) ≡ false) × (length base < length part))
         → (if nat_le (length part) (length base) then take (length base - length part) base ++ part else part) ≡ take (length base - length part) base ++ part
     by (inl t) = rw t.0 refl
     by (inr t) = let none : length base - length part ≡ 0 = omega (arith, t) in rw (t.0, none) refl
 
 -- An ASCII text that ends with the first stop bit.
-pub part_spelled : (rest : List ℕ) (last most : ℕ) → BeginsWithCharacter rest → last < length rest → ((k : ℕ) → k < last → get_or rest k 0 < 128) → 128 ≤ get_or rest last 0 → get_or rest last 0 < 256
-    → length (take last rest ++ (get_or rest last 0 - 128) ∷ []) ≤ most → IsNextText false most [] rest (take last rest ++ (get_or rest last 0 - 128) ∷ []) (Whole true (last + 1))
+pub part_spelled : (rest : List ℕ) (last most : ℕ) → BeginsWithCharacter rest → last < length rest
+    → ((k : ℕ) → k < last → get_or rest k 0 < 128) → 128 ≤ get_or rest last 0 → get_or rest last 0 < 256
+    → length (take last rest ++ (get_or rest last 0 - 128) ∷ []) ≤ most
+    → IsNextText false most [] rest (take last rest ++ (get_or rest last 0 - 128) ∷ []) (Whole true (last + 1))
 part_spelled rest last most begins within before stop byte fits =
     let front : length (take last rest) ≡ last = length-take-le last rest (omega (arith, within)) in
-    let all : length (take last rest ++ (get_or rest last 0 - 128) ∷ []) ≡ length (take last rest) + 1 = length-append (take last rest) ((get_or rest last 0 - 128) ∷ []) in
+    let all : length (take last rest ++ (get_or rest last 0 - 128) ∷ []) ≡ length (take last rest) + 1 =
+    length-append (take last rest) ((get_or rest last 0 - 128) ∷ []) in
     let here : length (take (last + 1) rest) ≡ last + 1 = length-take-le (last + 1) rest (omega (arith, within)) in
     let at : (k : ℕ) → k < last + 1 → get_or (take (last + 1) rest) k 0 ≡ get_or rest k 0 = λ k h. get_or-take (last + 1) rest k 0 h in
     let end : get_or (take (last + 1) rest) last 0 ≡ get_or rest last 0 = at last (omega arith) in
@@ -94,7 +103,8 @@ first_begins (x ∷ w) b is no_zero no_bare =
     (λ e. no_zero (same ∙ e), λ e. no_bare (same ∙ e))
 
 -- An index of the bytes that there is room for.
-pub within_room : (rest : List ℕ) (room m last : ℕ) → m ≡ min (length rest) room → last < length (take m rest) → (last < length rest) × (last < room) × (last < m)
+pub within_room : (rest : List ℕ) (room m last : ℕ) → m ≡ min (length rest) room → last < length (take m rest)
+    → (last < length rest) × (last < room) × (last < m)
 within_room rest room m last least here =
     let left = min-le_left (length rest) room in
     let right = min-le_right (length rest) room in

@@ -21,13 +21,15 @@ pub stripped : (n : ℕ) (w : List ℕ) → n < length w → ((k : ℕ) → k < 
 stripped n w some before stop byte = let e : n + 1 ≡ suc n = omega arith in ap (λ m. take m (without_stops w)) e ∙ stripped_first n w some before stop byte
 
 -- A text that begins with a character, and ends within the block.
-pub short_text : (rest : List ℕ) (last : ℕ) → BeginsWithCharacter rest → 16 ≤ length rest → last < 16 → ((k : ℕ) → k < last → get_or rest k 0 < 128) → 128 ≤ get_or rest last 0 → get_or rest last 0 < 256
+pub short_text : (rest : List ℕ) (last : ℕ) → BeginsWithCharacter rest → 16 ≤ length rest → last < 16
+    → ((k : ℕ) → k < last → get_or rest k 0 < 128) → 128 ≤ get_or rest last 0 → get_or rest last 0 < 256
     → IsShortText rest (last + 1)
 short_text rest last begins long within before stop byte = (
   omega arith,
   long,
   λ nullable room fits.
-      text_whole nullable room [] rest (All-nil (λ b. b < 128)) begins 16 last (take last here) (take (last + 1) (without_stops here)) long fits inside ahead top byte refl (stripped last here inside ahead top low),
+      text_whole nullable room [] rest (All-nil (λ b. b < 128)) begins 16 last (take last here)
+      (take (last + 1) (without_stops here)) long fits inside ahead top byte refl (stripped last here inside ahead top low),
 )
   where
     here : List ℕ

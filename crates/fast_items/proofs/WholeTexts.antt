@@ -1,6 +1,7 @@
 -- Fields of texts of which all units stand whole in the piece.
 use Rattle.std.proofs.Common.{refl, sym, ap, ◌∙◌, subst, arith, inl, inr}
-use Rattle.std.specs.Prelude.{◌≡◌, ◌≢◌, ◌⊎◌, ℕ, ◌+◌, ◌-◌, ◌<◌, ◌≤◌, Bool, true, false, nat_le, if◌then◌else◌, List, [], ◌++◌, length, take, drop, ℤ, pos, Option, Some, None, option_map, Ok, Err}
+use Rattle.std.specs.Prelude.{◌≡◌, ◌≢◌, ◌⊎◌, ℕ, ◌+◌, ◌-◌, ◌<◌, ◌≤◌, Bool, true, false, nat_le, if◌then◌else◌, List, [], ◌++◌, length, take}
+use Rattle.std.specs.Prelude.{drop, ℤ, pos, Option, Some, None, option_map, Ok, Err}
 use Rattle.std.proofs.Math.Seq.{take-add}
 use Rattle.std.proofs.lemmas.Bool.Decides.{leb_tells}
 use Rattle.std.proofs.lemmas.List.{length-take-le, length-drop, drop-take}
@@ -52,20 +53,25 @@ both_within rest a b h l = let n : length (drop a rest) ≡ length rest - a = le
 
 -- A field behind more bytes.
 module _ (f : FieldData) (old new : Dictionary) (scratch piece : List ℕ) (source : ValueSource) where
-  pub gives_run : {r q : Reader Outcome} {u v w : List ℕ} → u ++ v ≡ w → Turns r u q → GivesField q v f source old new scratch piece → GivesField r w f source old new scratch piece
+  pub gives_run : {r q : Reader Outcome} {u v w : List ℕ} → u ++ v ≡ w → Turns r u q → GivesField q v f source old new scratch piece
+      → GivesField r w f source old new scratch piece
   gives_run {r} e t g = record { outcome = g.outcome; turns = subst (λ x. Turns r x (Done g.outcome)) e (turns_run t g.turns); settled = g.settled }
 
 -- The first unit is an integer, and the others stand behind it.
-pub gives_whole : {r q : Reader Outcome} (f : FieldData) (rest : List ℕ) (old new : Dictionary) (scratch : List ℕ) (source : ValueSource) (a b : ℕ) → (0 < a) × (a ≤ length rest) × Turns r (take a rest) q → b ≤ length (drop a rest)
+pub gives_whole : {r q : Reader Outcome} (f : FieldData) (rest : List ℕ) (old new : Dictionary) (scratch : List ℕ) (source : ValueSource)
+    (a b : ℕ) → (0 < a) × (a ≤ length rest) × Turns r (take a rest) q → b ≤ length (drop a rest)
     → GivesField q (take b (drop a rest)) f source old new scratch (take b (drop a rest)) → GivesWhole r f rest old new scratch source a (a + b)
 gives_whole {r} f rest old new scratch source a b (some, within, t) l g = (
   omega (arith, some),
   both_within rest a b within l,
-  subst (λ piece. GivesField r (take (a + b) rest) f source old new scratch piece) (sym (drop-take a b rest)) (gives_run f old new scratch (take b (drop a rest)) source (in_runs rest a b) t g),
+  subst (λ piece. GivesField r (take (a + b) rest) f source old new scratch piece) (sym (drop-take a b rest))
+      (gives_run f old new scratch (take b (drop a rest)) source (in_runs rest a b) t g),
 )
 
 -- A vector that is no delta: its size, or NULL.
-module _ (s : Bool) (l : Bounds) (f : FieldData) (rest : List ℕ) (old new : Dictionary) (scratch : List ℕ) (source : ValueSource) (is_text : family f.kind ≡ texts) (no_ascii : f.kind ≢ Ascii) (no_delta : f.operator ≢ Op.Delta) (no_constant : f.operator ≢ Op.Constant) where
+module _ (s : Bool) (l : Bounds) (f : FieldData) (rest : List ℕ) (old new : Dictionary) (scratch : List ℕ) (source : ValueSource)
+    (is_text : family f.kind ≡ texts) (no_ascii : f.kind ≢ Ascii) (no_delta : f.operator ≢ Op.Delta)
+    (no_constant : f.operator ≢ Op.Constant) where
   first : Reader Outcome
   first = reader_of s (field_term l f (previous_at f.entry old) true)
 
@@ -76,7 +82,8 @@ module _ (s : Bool) (l : Bounds) (f : FieldData) (rest : List ℕ) (old new : Di
   unfolding first behind
   size_here = ap (reader_of s) (size_field l f (previous_at f.entry old) is_text no_ascii no_delta no_constant)
 
-  size_turns : (x : Option ℕ) (a : ℕ) → IsFirstInt (λ y. option_map pos y) s (unsigned_range 32) f.optional (First.Whole x a) rest → (0 < a) × (a ≤ length rest) × Turns first (take a rest) (reader_of s (behind (option_map pos x)))
+  size_turns : (x : Option ℕ) (a : ℕ) → IsFirstInt (λ y. option_map pos y) s (unsigned_range 32) f.optional (First.Whole x a) rest
+      → (0 < a) × (a ≤ length rest) × Turns first (take a rest) (reader_of s (behind (option_map pos x)))
   size_turns x a given =
       let (some, within, t) = first_whole (λ y. option_map pos y) s (unsigned_range 32) f.optional D2 [] rest x a refl given in
       (some, within, unit_goes s (integer (unsigned_range 32) f.optional D2 give) behind first size_here (take a rest) (option_map pos x) t)
@@ -89,11 +96,14 @@ module _ (s : Bool) (l : Bounds) (f : FieldData) (rest : List ℕ) (old new : Di
       let (some, within, t) = first_whole (λ y. option_map pos y) s (unsigned_range 32) f.optional D2 [] rest None a refl given in (
         some,
         within,
-        gives_unit f old new scratch (drop a (take a rest)) source s (integer (unsigned_range 32) f.optional D2 give) behind first (take a rest) None (decide f (previous_at f.entry old) true null) size_here t refl (h (drop a (take a rest))),
+        gives_unit f old new scratch (drop a (take a rest)) source s (integer (unsigned_range 32) f.optional D2 give) behind first
+            (take a rest) None (decide f (previous_at f.entry old) true null) size_here t refl (h (drop a (take a rest))),
       )
 
-  pub vector_whole : (size a : ℕ) → IsFirstInt (λ y. option_map pos y) s (unsigned_range 32) f.optional (First.Whole (Some size) a) rest → size ≤ l.max_text → size ≤ length (drop a rest)
-      → IsTextDecided (decide f (previous_at f.entry old) true (sent_text f.kind (Some (take size (drop a rest))))) f old new scratch (take size (drop a rest)) (Ok source)
+  pub vector_whole : (size a : ℕ) → IsFirstInt (λ y. option_map pos y) s (unsigned_range 32) f.optional (First.Whole (Some size) a) rest
+      → size ≤ l.max_text → size ≤ length (drop a rest)
+      → IsTextDecided (decide f (previous_at f.entry old) true (sent_text f.kind (Some (take size (drop a rest))))) f old new scratch
+      (take size (drop a rest)) (Ok source)
       → GivesWhole (reader_of s (field_term l f (previous_at f.entry old) true)) f rest old new scratch source a (a + size)
   unfolding first behind
   vector_whole size a given room within h =
@@ -101,11 +111,13 @@ module _ (s : Bool) (l : Bounds) (f : FieldData) (rest : List ℕ) (old new : Di
       let text : List ℕ = take size (drop a rest) in
       let (same, fits, next) = size_fits l f p size size (room_tells size l.max_text room) in
       gives_whole f rest old new scratch source a size (size_turns (Some size) a given) within
-      (gives_unit f old new scratch text source s (raw size give) (λ v. behind_text l f p (Some v)) (reader_of s (behind (Some (pos size)))) text text (decide f p true (sent_text f.kind (Some text)))
+      (gives_unit f old new scratch text source s (raw size give) (λ v. behind_text l f p (Some v))
+      (reader_of s (behind (Some (pos size)))) text text (decide f p true (sent_text f.kind (Some text)))
       (ap (reader_of s) (next ∙ vector_field l f p size)) (run_whole s size text (length-take-le size (drop a rest) within)) refl h)
 
   -- The bytes behind its size are too few.
-  pub vector_begun : (size a : ℕ) → IsFirstInt (λ y. option_map pos y) s (unsigned_range 32) f.optional (First.Whole (Some size) a) rest → size ≤ l.max_text → length rest - a < size
+  pub vector_begun : (size a : ℕ) → IsFirstInt (λ y. option_map pos y) s (unsigned_range 32) f.optional (First.Whole (Some size) a) rest
+      → size ≤ l.max_text → length rest - a < size
       → HasBegun s l f (previous_at f.entry old) rest (Vector size) a
   unfolding first behind
   vector_begun size a given room short =
@@ -131,14 +143,17 @@ unkept Op.Delta e = absurd (cc e)
 unkept Op.Tail e = absurd (cc e)
 
 -- A vector that is not kept, or NULL, whole in the piece.
-module _ (s : Bool) (l : Bounds) (f : FieldData) (rest : List ℕ) (old : Dictionary) (scratch : List ℕ) (is_text : family f.kind ≡ texts) (no_ascii : f.kind ≢ Ascii) (no_constant : f.operator ≢ Op.Constant) (keeps_none : keeps_value f.operator ≡ false) where
+module _ (s : Bool) (l : Bounds) (f : FieldData) (rest : List ℕ) (old : Dictionary) (scratch : List ℕ) (is_text : family f.kind ≡ texts)
+    (no_ascii : f.kind ≢ Ascii) (no_constant : f.operator ≢ Op.Constant) (keeps_none : keeps_value f.operator ≡ false) where
   pub plain_null : (a : ℕ) → IsFirstInt (λ y. option_map pos y) s (unsigned_range 32) f.optional (First.Whole None a) rest
       → GivesWhole (reader_of s (field_term l f (previous_at f.entry old) true)) f rest old old scratch From.Absent a a
   plain_null a given =
       let (no_delta, plain) = unkept f.operator keeps_none in
-      null_whole s l f rest old old scratch From.Absent is_text no_ascii no_delta no_constant a given (λ piece. absent_left f old old scratch piece no_constant plain refl)
+      null_whole s l f rest old old scratch From.Absent is_text no_ascii no_delta no_constant a given
+      (λ piece. absent_left f old old scratch piece no_constant plain refl)
 
-  pub plain_vector : (size a : ℕ) → IsFirstInt (λ y. option_map pos y) s (unsigned_range 32) f.optional (First.Whole (Some size) a) rest → size ≤ l.max_text → size ≤ length (drop a rest)
+  pub plain_vector : (size a : ℕ) → IsFirstInt (λ y. option_map pos y) s (unsigned_range 32) f.optional (First.Whole (Some size) a) rest
+      → size ≤ l.max_text → size ≤ length (drop a rest)
       → checked_text f.kind (take size (drop a rest)) ≡ Ok (value_of_text f.kind (take size (drop a rest)))
       → GivesWhole (reader_of s (field_term l f (previous_at f.entry old) true)) f rest old old scratch From.Piece a (a + size)
   plain_vector size a given room within checked =

@@ -10,11 +10,17 @@ same_brackets : (b : Bool) (xs ys : List ℕ) → xs ≡ ys → ◌≡◌ {A = N
 same_brackets b xs ys e = rw e refl
 
 -- one bracket less
-pub popped : (b : Bool) (cells : List ℕ) (start : ℕ) → ◌≡◌ {A = Nesting} (record { is_first = false; brackets = drop (start + 1) cells }) (ended (record { is_first = b; brackets = drop start cells }))
+pub popped : (b : Bool) (cells : List ℕ) (start : ℕ) → ◌≡◌ {A = Nesting} (record {
+  is_first = false;
+  brackets = drop (start + 1) cells;
+}) (ended (record { is_first = b; brackets = drop start cells }))
 popped b cells start = same_brackets false (drop (start + 1) cells) (drop 1 (drop start cells)) (sym (drop-drop 1 start cells))
 
 -- there is none
-pub none_left : (b : Bool) (cells : List ℕ) (start : ℕ) → length cells ≤ start → ◌≡◌ {A = Nesting} (record { is_first = false; brackets = drop start cells }) (ended (record { is_first = b; brackets = drop start cells }))
+pub none_left : (b : Bool) (cells : List ℕ) (start : ℕ) → length cells ≤ start → ◌≡◌ {A = Nesting} (record {
+  is_first = false;
+  brackets = drop start cells;
+}) (ended (record { is_first = b; brackets = drop start cells }))
 none_left b cells start all =
     let none : drop start cells ≡ [] = drop_all start cells all in
     same_brackets false (drop start cells) (drop 1 (drop start cells)) (none ∙ sym (ap (drop 1) none))

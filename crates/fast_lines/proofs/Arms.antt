@@ -1,5 +1,6 @@
 -- What the first bytes of a text tell of it, and what is told on of what was read behind them.
-use Rattle.std.proofs.Common.{Bool, true, false, ◌≡◌, ◌≢◌, ℕ, suc, ◌<◌, ◌≤◌, ◌^◌, ◌-◌, List, [], ◌∷◌, ◌++◌, length, take, drop, slice_index_or, get_or, subst, sym, ◌∙◌, ap, ℤ, arith}
+use Rattle.std.proofs.Common.{Bool, true, false, ◌≡◌, ◌≢◌, ℕ, suc, ◌<◌, ◌≤◌, ◌^◌, ◌-◌, List, [], ◌∷◌, ◌++◌, length, take, drop}
+use Rattle.std.proofs.Common.{slice_index_or, get_or, subst, sym, ◌∙◌, ap, ℤ, arith}
 use Rattle.std.specs.Prelude.{decimal, Option, Some, None, Result, Ok, Err, IfSome, IfNone, IfOk, All, flat_map}
 use Rattle.std.specs.Option.{MatchOption, IsSomeAnd, is_some}
 use Rattle.std.specs.Fmt.{signed_decimal}
@@ -11,7 +12,8 @@ use Rattle.fast_lines.specs.meaning.Values.{IsHeld}
 use Rattle.fast_lines.proofs.OneValue.{behind_letter, letter, spelled, as_spelled}
 
 -- a text by its first two bytes
-pub behind_two : (text : List ℕ) (x y : ℕ) → 2 ≤ length text → slice_index_or text 0 0 ≡ x → slice_index_or text 1 0 ≡ y → text ≡ x ∷ y ∷ take (length text - 2) (drop 2 text)
+pub behind_two : (text : List ℕ) (x y : ℕ) → 2 ≤ length text → slice_index_or text 0 0 ≡ x → slice_index_or text 1 0 ≡ y
+    → text ≡ x ∷ y ∷ take (length text - 2) (drop 2 text)
 behind_two [] x y long first second = absurd (omega (arith, long))
 behind_two (a ∷ []) x y long first second = absurd (omega (arith, long))
 behind_two (a ∷ b ∷ text) x y long first second =
@@ -19,7 +21,8 @@ behind_two (a ∷ b ∷ text) x y long first second =
     cc (first, second, whole)
 
 -- what holds of a value that is mapped
-pub mapped : {A B : Type 0} (o : Option A) (r : Option B) (f : A → B) (P : A → Type 0) (Q : B → Type 0) → MatchOption o (r ≡ None) (λ x. IsSomeAnd r (λ y. y ≡ f x)) → IfSome o P
+pub mapped : {A B : Type 0} (o : Option A) (r : Option B) (f : A → B) (P : A → Type 0) (Q : B → Type 0)
+    → MatchOption o (r ≡ None) (λ x. IsSomeAnd r (λ y. y ≡ f x)) → IfSome o P
     → ((x : A) → P x → Q (f x)) → IfSome r Q
 mapped None None f P Q m h g = tt
 mapped None (Some y) f P Q m h g = cc m
@@ -44,7 +47,8 @@ read_none (Ok None) P Q h f = f h
 read_none (Err e) P Q h f = tt
 
 -- A text is no value if what stands behind its letter is none of that letter's.
-no_value : (x : ℕ) (text rest : List ℕ) → text ≡ x ∷ 32 ∷ rest → ((v : ScalarData) → IsHeld v → letter v ≡ x → rest ≢ spelled v) → (v : ScalarData) → IsHeld v → text ≢ written v
+no_value : (x : ℕ) (text rest : List ℕ) → text ≡ x ∷ 32 ∷ rest → ((v : ScalarData) → IsHeld v → letter v ≡ x → rest ≢ spelled v)
+    → (v : ScalarData) → IsHeld v → text ≢ written v
 no_value x text rest is none v held h = let p = behind_letter (letter v) x (spelled v) rest (sym (as_spelled v) ∙ sym h ∙ is) in none v held p.0 (sym p.1)
 
 pub no_unsigned : (text rest : List ℕ) → text ≡ 117 ∷ 32 ∷ rest → ((n : ℕ) → n < 2 ^ 64 → rest ≢ decimal n) → (v : ScalarData) → IsHeld v → text ≢ written v
@@ -54,14 +58,17 @@ no_unsigned text rest is none = no_value 117 text rest is at
     at (U n) held l e = none n held e
     at v held l e = absurd (omega (arith, l))
 
-pub no_signed : (text rest : List ℕ) → text ≡ 105 ∷ 32 ∷ rest → ((x : ℤ) → IsWithin (signed_range 63) x → rest ≢ signed_decimal x) → (v : ScalarData) → IsHeld v → text ≢ written v
+pub no_signed : (text rest : List ℕ) → text ≡ 105 ∷ 32 ∷ rest → ((x : ℤ) → IsWithin (signed_range 63) x → rest ≢ signed_decimal x)
+    → (v : ScalarData) → IsHeld v → text ≢ written v
 no_signed text rest is none = no_value 105 text rest is at
   where
     at : (v : ScalarData) → IsHeld v → letter v ≡ 105 → rest ≢ spelled v
     at (I x) held l e = none x held e
     at v held l e = absurd (omega (arith, l))
 
-pub no_decimal : (text rest : List ℕ) → text ≡ 100 ∷ 32 ∷ rest → ((e m : ℤ) → IsWithin (signed_range 31) e → IsWithin (signed_range 63) m → rest ≢ signed_decimal m ++ 0x65 ∷ signed_decimal e) → (v : ScalarData) → IsHeld v → text ≢ written v
+pub no_decimal : (text rest : List ℕ) → text ≡ 100 ∷ 32 ∷ rest
+    → ((e m : ℤ) → IsWithin (signed_range 31) e → IsWithin (signed_range 63) m → rest ≢ signed_decimal m ++ 0x65 ∷ signed_decimal e)
+    → (v : ScalarData) → IsHeld v → text ≢ written v
 no_decimal text rest is none = no_value 100 text rest is at
   where
     at : (v : ScalarData) → IsHeld v → letter v ≡ 100 → rest ≢ spelled v
@@ -83,7 +90,8 @@ no_unicode text rest is none = no_value 115 text rest is at
     at v held l e = absurd (omega (arith, l))
 
 -- a text by its first byte and its last
-pub between_two : (text : List ℕ) (x y : ℕ) → 2 ≤ length text → slice_index_or text 0 0 ≡ x → slice_index_or text (length text - 1) 0 ≡ y → text ≡ x ∷ take (length text - 1 - 1) (drop 1 text) ++ y ∷ []
+pub between_two : (text : List ℕ) (x y : ℕ) → 2 ≤ length text → slice_index_or text 0 0 ≡ x → slice_index_or text (length text - 1) 0 ≡ y
+    → text ≡ x ∷ take (length text - 1 - 1) (drop 1 text) ++ y ∷ []
 between_two [] x y long first last = absurd (omega (arith, long))
 between_two (a ∷ []) x y long first last = absurd (omega (arith, long))
 between_two (a ∷ b ∷ text) x y long first last =
@@ -91,7 +99,8 @@ between_two (a ∷ b ∷ text) x y long first last =
     let place : length (a ∷ b ∷ text) - 1 ≡ suc (length text) = omega arith in
     let at : get_or (b ∷ text) (length text) 0 ≡ y = subst (λ (i : ℕ). get_or (a ∷ b ∷ text) i 0 ≡ y) place last in
     let end : get_or (b ∷ text) (length text) 0 ∷ drop (suc (length text)) (b ∷ text) ≡ y ∷ [] = cc (at, after) in
-    let rest : b ∷ text ≡ take (length text) (b ∷ text) ++ y ∷ [] = split_at (b ∷ text) (length text) 0 (omega arith) ∙ ap (λ (ys : List ℕ). take (length text) (b ∷ text) ++ ys) end in
+    let rest : b ∷ text ≡ take (length text) (b ∷ text) ++ y ∷ [] = split_at (b ∷ text) (length text) 0 (omega arith)
+    ∙ ap (λ (ys : List ℕ). take (length text) (b ∷ text) ++ ys) end in
     let few : length (a ∷ b ∷ text) - 1 - 1 ≡ length text = omega arith in
     subst (λ (n : ℕ). a ∷ b ∷ text ≡ x ∷ take n (b ∷ text) ++ y ∷ []) (sym few) (cc (first, rest))
 
@@ -99,7 +108,8 @@ between_two (a ∷ b ∷ text) x y long first last =
 pub same_between : (s t : List ℕ) (x : ℕ) → x ∷ s ++ x ∷ [] ≡ x ∷ t ++ x ∷ [] → s ≡ t
 same_between s t x h = let same : s ++ x ∷ [] ≡ t ++ x ∷ [] = cc h in append_cancel_right s t (x ∷ []) same
 
-pub no_bytes : (text rest : List ℕ) → text ≡ 98 ∷ 32 ∷ rest → ((w : List ℕ) → All (λ c. c < 256) w → rest ≢ flat_map hex_byte w) → (v : ScalarData) → IsHeld v → text ≢ written v
+pub no_bytes : (text rest : List ℕ) → text ≡ 98 ∷ 32 ∷ rest → ((w : List ℕ) → All (λ c. c < 256) w → rest ≢ flat_map hex_byte w)
+    → (v : ScalarData) → IsHeld v → text ≢ written v
 no_bytes text rest is none = no_value 98 text rest is at
   where
     at : (v : ScalarData) → IsHeld v → letter v ≡ 98 → rest ≢ spelled v

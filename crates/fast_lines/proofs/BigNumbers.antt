@@ -18,7 +18,8 @@ signed_lack text h = elim h.how [
 ]
 
 -- the parts of a decimal
-pub decimal_split : (text front back : List ℕ) → Lacks 0x65 front → text ≡ front ++ 0x65 ∷ back → IsDecimalDigits text → IsSignedDigits front × IsSignedDigits back
+pub decimal_split : (text front back : List ℕ) → Lacks 0x65 front → text ≡ front ++ 0x65 ∷ back → IsDecimalDigits text
+    → IsSignedDigits front × IsSignedDigits back
 decimal_split text front back lacks split h =
     let parts = first_split 0x65 front h.mantissa back h.exponent lacks (signed_lack h.mantissa h.before) (sym split ∙ h.is) in
     rw (parts.0, parts.1) (h.before, h.behind)
@@ -35,7 +36,8 @@ pub and_true : (a b : Bool) → IsTrue a → IsTrue b → IsTrue (a && b)
 and_true a b p q = rw (p, q) refl
 
 -- a letter, a space and digits
-pub is_number_text : (text : List ℕ) (letter : ℕ) (digits : List ℕ) (r : Bool) → (IsTrue r → IsNumberOf letter digits) × (IsNumberOf letter digits → IsTrue r) → text ≡ letter ∷ 0x20 ∷ digits
+pub is_number_text : (text : List ℕ) (letter : ℕ) (digits : List ℕ) (r : Bool)
+    → (IsTrue r → IsNumberOf letter digits) × (IsNumberOf letter digits → IsTrue r) → text ≡ letter ∷ 0x20 ∷ digits
     → (IsTrue r → IsNumberText text) × (IsNumberText text → IsTrue r)
 is_number_text text letter digits r both split = (
   λ t. record { letter = letter; digits = digits; is = split; number = both.0 t },

@@ -59,7 +59,9 @@ same_first c d e f xs ys (inl m) (inl n) h = let g = rw (m.1, n.1) at h in (cc, 
 same_first c d e f xs ys (inl m) (inr (inl n)) h = let g = rw (m.1, n.1) at h in let k : c ≡ 0x78 = cc in absurd (no_mark c m.0 k)
 same_first c d e f xs ys (inl m) (inr (inr n)) h = let g = rw (m.1, n.1) at h in let k : 0x5C ≡ d = cc in absurd (n.0.3 (sym k))
 same_first c d e f xs ys (inr (inl m)) (inl n) h = let g = rw (m.1, n.1) at h in let k : 0x78 ≡ d = cc in absurd (no_mark d n.0 (sym k))
-same_first c d e f xs ys (inr (inl m)) (inr (inl n)) h = let g = rw (m.1, n.1) at h in let high : hex_digit (c / 16) ≡ hex_digit (d / 16) = cc in let low : hex_digit (c % 16) ≡ hex_digit (d % 16) = cc in (same_byte c d high low, cc)
+same_first c d e f xs ys (inr (inl m)) (inr (inl n)) h = let g = rw (m.1, n.1) at h in
+    let high : hex_digit (c / 16) ≡ hex_digit (d / 16) = cc in let low : hex_digit (c % 16) ≡ hex_digit (d % 16) = cc in
+    (same_byte c d high low, cc)
 same_first c d e f xs ys (inr (inl m)) (inr (inr n)) h = let g = rw (m.1, n.1) at h in let k : 0x5C ≡ d = cc in absurd (n.0.3 (sym k))
 same_first c d e f xs ys (inr (inr m)) (inl n) h = let g = rw (m.1, n.1) at h in let k : c ≡ 0x5C = cc in absurd (m.0.3 k)
 same_first c d e f xs ys (inr (inr m)) (inr (inl n)) h = let g = rw (m.1, n.1) at h in let k : c ≡ 0x5C = cc in absurd (m.0.3 k)
@@ -82,7 +84,8 @@ others_stand (c ∷ v) [] rest h = absurd (stands_shown c (flat_map escaped v ++
 others_stand (c ∷ v) (d ∷ w) rest h = others_stand v w rest (first_is_one c d _ _ (sym (append_assoc (escaped c) (flat_map escaped v) rest) ∙ h)).1
 
 -- What begins with no byte ends no text.
-pub no_other : (text v rest w : List ℕ) → text ≡ flat_map escaped v ++ rest → rest ≢ [] → ((c : ℕ) (t : List ℕ) → rest ≢ escaped c ++ t) → text ≢ flat_map escaped w
+pub no_other : (text v rest w : List ℕ) → text ≡ flat_map escaped v ++ rest → rest ≢ [] → ((c : ℕ) (t : List ℕ) → rest ≢ escaped c ++ t)
+    → text ≢ flat_map escaped w
 no_other text v rest w split some none h = let o = others_stand v w rest (sym split ∙ h) in at o.0 o.1
   where
     at : (t : List ℕ) → rest ≡ flat_map escaped t → ⊥

@@ -76,5 +76,8 @@ written_is_hex (c ∷ v) small =
     let byte = All-head (λ c. c < 256) c v small in
     let first = digit_is_hex (c / 16) (omega (arith, byte)) in
     let second = digit_is_hex (c % 16) (omega arith) in
-    let whole : c ≡ 16 * (c / 16) + c % 16 = omega arith in
-    ((c / 16, c % 16, v, first.0, second.0, others.0, ap (λ b. b ∷ v) whole), All-cons IsNotUpper (hex_digit (c / 16)) (hex_digit (c % 16) ∷ flat_map hex_byte v) first.1 (All-cons IsNotUpper (hex_digit (c % 16)) (flat_map hex_byte v) second.1 others.1))
+    let whole : c ≡ 16 * (c / 16) + c % 16 = omega arith in (
+      (c / 16, c % 16, v, first.0, second.0, others.0, ap (λ b. b ∷ v) whole),
+      All-cons IsNotUpper (hex_digit (c / 16)) (hex_digit (c % 16) ∷ flat_map hex_byte v) first.1
+          (All-cons IsNotUpper (hex_digit (c % 16)) (flat_map hex_byte v) second.1 others.1),
+    )

@@ -66,14 +66,18 @@ none_bad [] rest c all bad = absurd (bad (All-head IsHexOrBlank c rest all))
 none_bad (x ∷ front) rest c all bad = none_bad front rest c (All-tail IsHexOrBlank x (front ++ c ∷ rest) all) bad
 
 -- the text before the first bad character
-same_place : (xs ys rest more : List ℕ) (c d : ℕ) → xs ++ c ∷ rest ≡ ys ++ d ∷ more → All IsHexOrBlank xs → ¬ (IsHexOrBlank c) → All IsHexOrBlank ys → ¬ (IsHexOrBlank d) → xs ≡ ys
+same_place : (xs ys rest more : List ℕ) (c d : ℕ) → xs ++ c ∷ rest ≡ ys ++ d ∷ more → All IsHexOrBlank xs → ¬ (IsHexOrBlank c)
+    → All IsHexOrBlank ys → ¬ (IsHexOrBlank d) → xs ≡ ys
 same_place [] [] rest more c d e all bad every wrong = refl
-same_place [] (y ∷ ys) rest more c d e all bad every wrong = let same : y ≡ c = cc e in absurd (bad (subst IsHexOrBlank same (All-head IsHexOrBlank y ys every)))
-same_place (x ∷ xs) [] rest more c d e all bad every wrong = let same : x ≡ d = cc e in absurd (wrong (subst IsHexOrBlank same (All-head IsHexOrBlank x xs all)))
+same_place [] (y ∷ ys) rest more c d e all bad every wrong = let same : y ≡ c = cc e in
+    absurd (bad (subst IsHexOrBlank same (All-head IsHexOrBlank y ys every)))
+same_place (x ∷ xs) [] rest more c d e all bad every wrong = let same : x ≡ d = cc e in
+    absurd (wrong (subst IsHexOrBlank same (All-head IsHexOrBlank x xs all)))
 same_place (x ∷ xs) (y ∷ ys) rest more c d e all bad every wrong =
     let first : x ≡ y = cc e in
     let others : xs ++ c ∷ rest ≡ ys ++ d ∷ more = cc e in
-    ap₂ (λ (z : ℕ) (zs : List ℕ). z ∷ zs) first (same_place xs ys rest more c d others (All-tail IsHexOrBlank x xs all) bad (All-tail IsHexOrBlank y ys every) wrong)
+    ap₂ (λ (z : ℕ) (zs : List ℕ). z ∷ zs) first (same_place xs ys rest more c d others (All-tail IsHexOrBlank x xs all) bad
+    (All-tail IsHexOrBlank y ys every) wrong)
 
 odd_pairs : (ds v : List ℕ) → IsOddHex ds v → ArePairs ds v
 odd_pairs ds v h = inr (h.0, h.1, h.3, h.5)
@@ -88,8 +92,10 @@ one_unhexed t v w None None h i = (same_bytes (digits_in t) v w h.1 i.1, refl)
 one_unhexed t v w None (Some q) h i = no_other t v w q h i
 one_unhexed t v w (Some p) None h i = no_other t w v p i h
 one_unhexed t v w (Some p) (Some q) (inl h) (inl i) =
-    let same : h.0 ≡ i.0 = same_place h.0 i.0 h.1 i.1 h.2 i.2 (sym h.3 ∙ i.3) h.4 h.5 i.4 i.5 in
-    (same_pairs (digits_in i.0) v w (subst (λ (z : List ℕ). ArePairs (digits_in z) v) same h.6) i.6, ap (λ (n : ℕ). Some n) (h.7 ∙ ap (λ (z : List ℕ). length z) same ∙ sym i.7))
+    let same : h.0 ≡ i.0 = same_place h.0 i.0 h.1 i.1 h.2 i.2 (sym h.3 ∙ i.3) h.4 h.5 i.4 i.5 in (
+      same_pairs (digits_in i.0) v w (subst (λ (z : List ℕ). ArePairs (digits_in z) v) same h.6) i.6,
+      ap (λ (n : ℕ). Some n) (h.7 ∙ ap (λ (z : List ℕ). length z) same ∙ sym i.7),
+    )
 one_unhexed t v w (Some p) (Some q) (inl h) (inr i) = none_bad h.0 h.1 h.2 (subst (All IsHexOrBlank) h.3 i.0) h.5
 one_unhexed t v w (Some p) (Some q) (inr h) (inl i) = none_bad i.0 i.1 i.2 (subst (All IsHexOrBlank) i.3 h.0) i.5
 one_unhexed t v w (Some p) (Some q) (inr h) (inr i) =

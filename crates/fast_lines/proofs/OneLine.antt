@@ -9,7 +9,8 @@ use Rattle.std.proofs.lemmas.List.Elements.{All-head, All-tail}
 use Rattle.fast_lines.specs.declared.forms.Keyword.{Keyword}
 use Rattle.fast_lines.specs.declared.forms.Keyword.TheVariants as Key
 use Rattle.fast_lines.specs.meaning.Values.{Lacks}
-use Rattle.fast_lines.specs.meaning.Forms.{LineData, message, field, group, group_end, sequence, element, element_end, sequence_end, message_end, text_of_line, IsForm, keyword_of}
+use Rattle.fast_lines.specs.meaning.Forms.{LineData, message, field, group, group_end, sequence, element, element_end, sequence_end}
+use Rattle.fast_lines.specs.meaning.Forms.{message_end, text_of_line, IsForm, keyword_of}
 use Rattle.fast_lines.proofs.Words.{node_as_words, more_as_words, number_lacks}
 
 -- what stands before the first space, and behind it
@@ -23,7 +24,8 @@ after (c ∷ cs) = if nat_eq c 0x20 then cs else after cs
 
 -- the end of what
 abbrev ended : List ℕ → LineData
-ended word = if bytes_eq word (codes "group") then group_end else if bytes_eq word (codes "element") then element_end else if bytes_eq word (codes "sequence") then sequence_end else message_end
+ended word = if bytes_eq word (codes "group") then group_end else if bytes_eq word (codes "element") then element_end else if bytes_eq word
+    (codes "sequence") then sequence_end else message_end
 
 -- the line with this behind its keyword
 abbrev behind_keyword : Keyword → List ℕ → LineData
@@ -40,11 +42,17 @@ said text = behind_keyword (keyword_of (before text)) (after text)
 
 before_space : (word rest : List ℕ) → Lacks 0x20 word → before (word ++ 0x20 ∷ rest) ≡ word
 before_space [] rest lacks = refl
-before_space (c ∷ word) rest lacks = rw (ne_eqb c 0x20 (All-head (λ c. c ≢ 0x20) c word lacks), before_space word rest (All-tail (λ c. c ≢ 0x20) c word lacks)) refl
+before_space (c ∷ word) rest lacks = rw (
+  ne_eqb c 0x20 (All-head (λ c. c ≢ 0x20) c word lacks),
+  before_space word rest (All-tail (λ c. c ≢ 0x20) c word lacks),
+) refl
 
 after_space : (word rest : List ℕ) → Lacks 0x20 word → after (word ++ 0x20 ∷ rest) ≡ rest
 after_space [] rest lacks = refl
-after_space (c ∷ word) rest lacks = rw (ne_eqb c 0x20 (All-head (λ c. c ≢ 0x20) c word lacks), after_space word rest (All-tail (λ c. c ≢ 0x20) c word lacks)) refl
+after_space (c ∷ word) rest lacks = rw (
+  ne_eqb c 0x20 (All-head (λ c. c ≢ 0x20) c word lacks),
+  after_space word rest (All-tail (λ c. c ≢ 0x20) c word lacks),
+) refl
 
 -- a number's digits have its value
 number_said : (n : ℕ) → n < 2 ^ 32 → digits_value 10 (decimal n) ≡ n

@@ -66,4 +66,5 @@ same_spelled (ByteVector v) (ByteVector w) a b l h = ap ByteVector (same_bytes v
 same_spelled v w a b l h = absurd (omega (arith, l))
 
 pub same_value : (v w : ScalarData) → IsHeld v → IsHeld w → written v ≡ written w → v ≡ w
-same_value v w a b h = let parts = behind_letter (letter v) (letter w) (spelled v) (spelled w) (sym (as_spelled v) ∙ h ∙ as_spelled w) in same_spelled v w a b parts.0 parts.1
+same_value v w a b h = let parts = behind_letter (letter v) (letter w) (spelled v) (spelled w) (sym (as_spelled v) ∙ h ∙ as_spelled w) in
+    same_spelled v w a b parts.0 parts.1

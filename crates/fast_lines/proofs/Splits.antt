@@ -36,7 +36,8 @@ no_digit x c (inr big) low high e = omega (arith, big, high, e)
 pub decimal_lacks : (x n : ℕ) → n < 2 ^ 64 → (x < 48) ⊎ (57 < x) → Lacks x (decimal n)
 decimal_lacks x n small other =
     let digits = (decimal_is_IsNumeral n small).0 in
-    All-from_get_or (λ c. c ≢ x) (decimal n) 0 (λ i inside (e : get_or (decimal n) i 0 ≡ x). let d = digit_at (decimal n) i digits.1 inside in no_digit x (get_or (decimal n) i 0) other d.0 d.1 e)
+    All-from_get_or (λ c. c ≢ x) (decimal n) 0 (λ i inside (e : get_or (decimal n) i 0 ≡ x). let d =
+    digit_at (decimal n) i digits.1 inside in no_digit x (get_or (decimal n) i 0) other d.0 d.1 e)
 
 no_minus : (x : ℕ) → (x < 45) ⊎ (57 < x) → 45 ≢ x
 no_minus x (inl small) e = omega (arith, small, e)
@@ -44,4 +45,5 @@ no_minus x (inr big) e = omega (arith, big, e)
 
 pub signed_lacks : (x : ℕ) (z : ℤ) → mag z < 2 ^ 63 → (x < 45) ⊎ (57 < x) → Lacks x (signed_decimal z)
 signed_lacks x (pos n) small other = decimal_lacks x n (omega (arith, small)) (elim other [ inl low ↦ inl (omega (arith, low)) | inr high ↦ inr high ])
-signed_lacks x (negsuc n) small other = All-cons (λ c. c ≢ x) 45 (decimal (suc n)) (λ e. no_minus x other e) (decimal_lacks x (suc n) (omega (arith, small)) (elim other [ inl low ↦ inl (omega (arith, low)) | inr high ↦ inr high ]))
+signed_lacks x (negsuc n) small other = All-cons (λ c. c ≢ x) 45 (decimal (suc n)) (λ e. no_minus x other e)
+    (decimal_lacks x (suc n) (omega (arith, small)) (elim other [ inl low ↦ inl (omega (arith, low)) | inr high ↦ inr high ]))

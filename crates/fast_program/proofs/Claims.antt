@@ -16,18 +16,23 @@ use Rattle.fast_program.specs.device.Ops.{IsOpOf}
 use Rattle.fast_program.specs.declared.codes.Code.{Code}
 use Rattle.fast_program.specs.declared.codes.Code.TheVariants.{End}
 use Rattle.fast_program.specs.device.Runs.{is_end}
-use Rattle.fast_program.specs.device.Codes.{Claim, says, IsCoded, anything, never, field_of, constant_field, decimal_parts, changed_parts, group_of, sequence_of, IsFieldCoded, IsConstantCoded, IsPartsCoded, IsChangedPartsCoded, IsGroupCoded, IsSequenceCoded, IsClaimed}
+use Rattle.fast_program.specs.device.Codes.{Claim, says, IsCoded, anything, never, field_of, constant_field, decimal_parts, changed_parts}
+use Rattle.fast_program.specs.device.Codes.{group_of, sequence_of, IsFieldCoded, IsConstantCoded, IsPartsCoded, IsChangedPartsCoded}
+use Rattle.fast_program.specs.device.Codes.{IsGroupCoded, IsSequenceCoded, IsClaimed}
 
 -- a field's facts, of the field itself
 abbrev IsField : Kind → Operator → Bool → ℕ → FieldInstruction → Type 0
-IsField kind operator optional entry f = (f.kind ≡ kind) × (f.operator ≡ operator) × (f.optional ≡ optional) × (keeps_value operator ≡ true → f.entry ≡ Some entry)
+IsField kind operator optional entry f = (f.kind ≡ kind) × (f.operator ≡ operator) × (f.optional ≡ optional)
+    × (keeps_value operator ≡ true → f.entry ≡ Some entry)
 
-field_told : (kind : Kind) (operator : Operator) (optional : Bool) (entry : ℕ) (f : FieldInstruction) → IsFieldCoded kind operator optional entry (Field f) → IsField kind operator optional entry f
+field_told : (kind : Kind) (operator : Operator) (optional : Bool) (entry : ℕ) (f : FieldInstruction)
+    → IsFieldCoded kind operator optional entry (Field f) → IsField kind operator optional entry f
 field_told kind operator optional entry f (g, is, of_kind, under, may, kept) =
     let e : g ≡ f = cc in
     rw (sym e) (of_kind, under, may, kept)
 
-field_again : (kind : Kind) (operator : Operator) (optional : Bool) (entry : ℕ) (shape : Shape) → ∥ IsFieldCoded kind operator optional entry shape ∥₁ → IsFieldCoded kind operator optional entry shape
+field_again : (kind : Kind) (operator : Operator) (optional : Bool) (entry : ℕ) (shape : Shape)
+    → ∥ IsFieldCoded kind operator optional entry shape ∥₁ → IsFieldCoded kind operator optional entry shape
 field_again kind operator optional entry (Field f) h =
     let (of_kind, under, may, kept) = ∥∥₁_elim h (hlevel props) (field_told kind operator optional entry f) in
     (f, refl, of_kind, under, may, kept)
@@ -58,13 +63,15 @@ parts_again (a_sequence length body) h = absurd (∥∥₁_elim h (hlevel props)
 abbrev IsChanged : Operator → Bool → ℕ → FieldInstruction → FieldInstruction → Type 0
 IsChanged operator optional entry e m = (e.operator ≡ operator) × (e.optional ≡ optional) × (m.operator ≡ Delta) × (m.optional ≡ false) × (m.entry ≡ Some entry)
 
-changed_told : (operator : Operator) (optional : Bool) (entry : ℕ) (e m : FieldInstruction) → IsChangedPartsCoded operator optional entry (by_parts e m) → IsChanged operator optional entry e m
+changed_told : (operator : Operator) (optional : Bool) (entry : ℕ) (e m : FieldInstruction)
+    → IsChangedPartsCoded operator optional entry (by_parts e m) → IsChanged operator optional entry e m
 changed_told operator optional entry e m (own, its, is, under, may, by_delta, there, kept) =
     let first : own ≡ e = cc in
     let second : its ≡ m = cc in
     rw (sym first) (rw (sym second) (under, may, by_delta, there, kept))
 
-changed_again : (operator : Operator) (optional : Bool) (entry : ℕ) (shape : Shape) → ∥ IsChangedPartsCoded operator optional entry shape ∥₁ → IsChangedPartsCoded operator optional entry shape
+changed_again : (operator : Operator) (optional : Bool) (entry : ℕ) (shape : Shape)
+    → ∥ IsChangedPartsCoded operator optional entry shape ∥₁ → IsChangedPartsCoded operator optional entry shape
 changed_again operator optional entry (Field f) h = absurd (∥∥₁_elim h (hlevel props) (λ x. let e = x.2 in cc))
 changed_again operator optional entry (by_parts e m) h =
     let (under, may, by_delta, there, kept) = ∥∥₁_elim h (hlevel props) (changed_told operator optional entry e m) in
@@ -80,7 +87,8 @@ group_again optional (a_group own body) h =
     rw (sym e) (body, refl)
 group_again optional (a_sequence length body) h = absurd (∥∥₁_elim h (hlevel props) (λ x. let e = x.1 in cc))
 
-sequence_told : (optional : Bool) (length : FieldInstruction) (body : Vec ℕ Global) → IsSequenceCoded optional (a_sequence length body) → (length.operator ≡ no_operator) × (length.optional ≡ optional)
+sequence_told : (optional : Bool) (length : FieldInstruction) (body : Vec ℕ Global) → IsSequenceCoded optional (a_sequence length body)
+    → (length.operator ≡ no_operator) × (length.optional ≡ optional)
 sequence_told optional length body (own, its, is, under, may) =
     let e : own ≡ length = cc in
     rw (sym e) (under, may)

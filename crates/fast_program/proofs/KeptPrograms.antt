@@ -21,8 +21,12 @@ HasNode ns op = (x : Node) × (slice_get ns op.node ≡ Some x) × IsOpOf op op.
 
 node_again : (ns : List Node) (op : Op) (o : Option Node) → slice_get ns op.node ≡ o → ∥ HasNode ns op ∥₁ → HasNode ns op
 node_again ns op None none h = absurd (∥∥₁_elim h (hlevel props) (λ (p : HasNode ns op). let e = sym none ∙ p.1 in cc e))
-node_again ns op (Some x) found h =
-    (x, found, op_again op op.node x.shape (∥∥₁_map h (λ (p : HasNode ns op). let e = sym p.1 ∙ found in let same : p.0 ≡ x = cc e in subst (λ (y : Node). IsOpOf op op.node y.shape) same p.2)))
+node_again ns op (Some x) found h = (
+  x,
+  found,
+  op_again op op.node x.shape (∥∥₁_map h (λ (p : HasNode ns op). let e = sym p.1 ∙ found in let same : p.0 ≡ x = cc e in
+      subst (λ (y : Node). IsOpOf op op.node y.shape) same p.2)),
+)
 
 begins_again : (ops : List Op) (at : ℕ) (body : List ℕ) → ∥ Begins ops at body ∥₁ → Begins ops at body
 begins_again ops at body h = record { nodes = ∥∥₁_elim h (hlevel props) (λ b. b.nodes); run = ∥∥₁_elim h (hlevel props) (λ b. b.run) }
@@ -51,10 +55,12 @@ module _ (p : Program) (ts : List Template) (ns : List Node) (is : ∥ IsProgram
   body_starts = ∥∥₁_elim is (hlevel props) (λ of. as_many_starts BeginsNode p.ops.items p.body_starts.items ns of.bodies)
 
   pub template_start : (i : ℕ) (s : Start) (t : Template) → slice_get p.template_starts.items i ≡ Some s → slice_get ts i ≡ Some t → IsStartOf p.ops.items s t
-  template_start i s t here found = start_again p.ops.items s t (∥∥₁_map is (λ of. start_at IsStartOf p.ops.items i p.template_starts.items ts s t of.templates here found))
+  template_start i s t here found = start_again p.ops.items s t
+      (∥∥₁_map is (λ of. start_at IsStartOf p.ops.items i p.template_starts.items ts s t of.templates here found))
 
   pub start_number : (i : ℕ) (s : Start) → slice_get p.template_starts.items i ≡ Some s → s.number ≡ i
   start_number i s here = ∥∥₁_elim is (hlevel props) (λ of. of.order i s here)
 
   pub body_begins : (n at : ℕ) (x : Node) → slice_get p.body_starts.items n ≡ Some at → slice_get ns n ≡ Some x → Begins p.ops.items at (numbers_of x.shape)
-  body_begins n at x here found = begins_again p.ops.items at (numbers_of x.shape) (∥∥₁_map is (λ of. start_at BeginsNode p.ops.items n p.body_starts.items ns at x of.bodies here found))
+  body_begins n at x here found = begins_again p.ops.items at (numbers_of x.shape)
+      (∥∥₁_map is (λ of. start_at BeginsNode p.ops.items n p.body_starts.items ns at x of.bodies here found))

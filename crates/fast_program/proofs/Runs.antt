@@ -18,7 +18,8 @@ AreOps (op ∷ ops) [] = ⊥
 AreOps (op ∷ ops) (n ∷ ns) = (is_end op.code ≡ false) × (op.node ≡ n) × AreOps ops ns
 
 -- one more at the end
-pub one_more_op : (ops : List Op) (ns : List ℕ) (op : Op) (n : ℕ) → AreOps ops ns → is_end op.code ≡ false → op.node ≡ n → AreOps (ops ++ op ∷ []) (ns ++ n ∷ [])
+pub one_more_op : (ops : List Op) (ns : List ℕ) (op : Op) (n : ℕ) → AreOps ops ns → is_end op.code ≡ false → op.node ≡ n
+    → AreOps (ops ++ op ∷ []) (ns ++ n ∷ [])
 one_more_op [] [] op n h more is = (more, is, tt)
 one_more_op [] (m ∷ ms) op n h more is = absurd h
 one_more_op (o ∷ os) [] op n h more is = absurd h
@@ -30,7 +31,8 @@ closed_nodes [] [] end h ends = ap (λ b. if b then [] else end.node ∷ []) end
 closed_nodes [] (n ∷ ns) end h ends = absurd h
 closed_nodes (o ∷ os) [] end h ends = absurd h
 closed_nodes (o ∷ os) (n ∷ ns) end (first, named, rest) ends =
-    ap (λ b. if b then [] else o.node ∷ run_nodes (os ++ end ∷ [])) first ∙ ap (λ m. m ∷ run_nodes (os ++ end ∷ [])) named ∙ ap (λ ms. n ∷ ms) (closed_nodes os ns end rest ends)
+    ap (λ b. if b then [] else o.node ∷ run_nodes (os ++ end ∷ [])) first ∙ ap (λ m. m ∷ run_nodes (os ++ end ∷ [])) named
+    ∙ ap (λ ms. n ∷ ms) (closed_nodes os ns end rest ends)
 
 closed_run : (ops : List Op) (ns : List ℕ) (end : Op) → AreOps ops ns → is_end end.code ≡ true → HasEnd (ops ++ end ∷ [])
 closed_run [] [] end h ends = ap (λ b. if b then true else false) ends
@@ -40,14 +42,16 @@ closed_run (o ∷ os) (n ∷ ns) end (first, named, rest) ends = ap (λ b. if b 
 
 pub closed : (old ops : List Op) (ns : List ℕ) (end : Op) → AreOps ops ns → is_end end.code ≡ true → Begins ((old ++ ops) ++ end ∷ []) (length old) ns
 closed old ops ns end h ends =
-    let behind : drop (length old) ((old ++ ops) ++ end ∷ []) ≡ ops ++ end ∷ [] = ap (drop (length old)) (append_assoc old ops (end ∷ [])) ∙ drop-append_seam old (ops ++ end ∷ []) in
+    let behind : drop (length old) ((old ++ ops) ++ end ∷ []) ≡ ops ++ end ∷ [] = ap (drop (length old)) (append_assoc old ops (end ∷ []))
+    ∙ drop-append_seam old (ops ++ end ∷ []) in
     record {
       nodes = ap run_nodes behind ∙ closed_nodes ops ns end h ends;
       run = subst HasEnd (sym behind) (closed_run ops ns end h ends);
     }
 
 -- a run is the same whatever stands behind it
-nodes_by : (b : Bool) (n : ℕ) (new old : List ℕ) (more : Bool) → (if b then true else more) ≡ true → (more ≡ true → new ≡ old) → (if b then [] else n ∷ new) ≡ (if b then [] else n ∷ old)
+nodes_by : (b : Bool) (n : ℕ) (new old : List ℕ) (more : Bool) → (if b then true else more) ≡ true → (more ≡ true → new ≡ old)
+    → (if b then [] else n ∷ new) ≡ (if b then [] else n ∷ old)
 nodes_by true n new old more h same = refl
 nodes_by false n new old more h same = ap (λ ns. n ∷ ns) (same h)
 
@@ -90,7 +94,8 @@ last_or (o ∷ os) last (suc i) op h = last_or os last i op h
 pub numbered_none : AreNumbered []
 numbered_none i op here = absurd (cc here)
 
-pub last_at : {X : Type 0} (xs : List X) (last : X) (i : ℕ) (x : X) → slice_get (xs ++ last ∷ []) i ≡ Some x → (slice_get xs i ≡ Some x) ⊎ ((last ≡ x) × (i ≡ length xs))
+pub last_at : {X : Type 0} (xs : List X) (last : X) (i : ℕ) (x : X) → slice_get (xs ++ last ∷ []) i ≡ Some x
+    → (slice_get xs i ≡ Some x) ⊎ ((last ≡ x) × (i ≡ length xs))
 last_at [] last zero x h = inr (cc h, refl)
 last_at [] last (suc i) x h = absurd (cc h)
 last_at (y ∷ ys) last zero x h = inl h
@@ -109,7 +114,8 @@ numbered_more ops op numbered at i o here = elim (last_at ops op i o here) [
 pub suit_none : (ns : List Node) → SuitNodes [] ns
 suit_none ns i op here more = absurd (cc here)
 
-pub suit_more : (ns : List Node) (ops : List Op) (op : Op) (x : Node) → SuitNodes ops ns → slice_get ns op.node ≡ Some x → IsOpOf op op.node x.shape → SuitNodes (ops ++ op ∷ []) ns
+pub suit_more : (ns : List Node) (ops : List Op) (op : Op) (x : Node) → SuitNodes ops ns → slice_get ns op.node ≡ Some x
+    → IsOpOf op op.node x.shape → SuitNodes (ops ++ op ∷ []) ns
 suit_more ns ops op x suits found is i o here more = elim (last_or ops op i o here) [
   | inl before ↦ suits i o before more
   | inr same ↦ subst (λ (p : Op). (y : Node) × (slice_get ns p.node ≡ Some y) × IsOpOf p p.node y.shape) same (x, found, is)

@@ -29,7 +29,8 @@ order_more starts s order number i r here = elim (last_at starts s i r here) [
 ]
 
 -- they stay where each does
-pub kept_starts : {S X : Type 0} (Is : List Op → S → X → Type 0) (old new : List Op) (starts : List S) (xs : List X) → ((s : S) (x : X) → Is old s x → Is new s x) → AreStarts Is old starts xs → AreStarts Is new starts xs
+pub kept_starts : {S X : Type 0} (Is : List Op → S → X → Type 0) (old new : List Op) (starts : List S) (xs : List X)
+    → ((s : S) (x : X) → Is old s x → Is new s x) → AreStarts Is old starts xs → AreStarts Is new starts xs
 kept_starts Is old new [] [] each h = tt
 kept_starts Is old new [] (x ∷ xs) each h = absurd h
 kept_starts Is old new (s ∷ ss) [] each h = absurd h
@@ -43,14 +44,16 @@ pub kept_node : (ns : List Node) (old new : List Op) → Extends ns old new → 
 kept_node ns old new e at x h = e.kept at (numbers_of x.shape) h
 
 -- there are as many
-pub as_many_starts : {S X : Type 0} (Is : List Op → S → X → Type 0) (ops : List Op) (starts : List S) (xs : List X) → AreStarts Is ops starts xs → length starts ≡ length xs
+pub as_many_starts : {S X : Type 0} (Is : List Op → S → X → Type 0) (ops : List Op) (starts : List S) (xs : List X)
+    → AreStarts Is ops starts xs → length starts ≡ length xs
 as_many_starts Is ops [] [] h = refl
 as_many_starts Is ops [] (x ∷ xs) h = absurd h
 as_many_starts Is ops (s ∷ ss) [] h = absurd h
 as_many_starts Is ops (s ∷ ss) (x ∷ xs) h = ap suc (as_many_starts Is ops ss xs h.1)
 
 -- the start of one is its own
-pub start_at : {S X : Type 0} (Is : List Op → S → X → Type 0) (ops : List Op) (i : ℕ) (starts : List S) (xs : List X) (s : S) (x : X) → AreStarts Is ops starts xs → slice_get starts i ≡ Some s → slice_get xs i ≡ Some x → Is ops s x
+pub start_at : {S X : Type 0} (Is : List Op → S → X → Type 0) (ops : List Op) (i : ℕ) (starts : List S) (xs : List X) (s : S) (x : X)
+    → AreStarts Is ops starts xs → slice_get starts i ≡ Some s → slice_get xs i ≡ Some x → Is ops s x
 start_at Is ops i [] xs s x h here found = absurd (cc here)
 start_at Is ops i (r ∷ rs) [] s x h here found = absurd h
 start_at Is ops zero (r ∷ rs) (y ∷ ys) s x h here found =
@@ -61,7 +64,11 @@ start_at Is ops (suc i) (r ∷ rs) (y ∷ ys) s x h here found = start_at Is ops
 
 -- more behind more
 pub extends_both : (ns : List Node) (a b c : List Op) → Extends ns a b → Extends ns b c → Extends ns a c
-extends_both ns a b c first next = record { kept = λ at body h. next.kept at body (first.kept at body h); suit = λ s. next.suit (first.suit s); numbered = λ h. next.numbered (first.numbered h) }
+extends_both ns a b c first next = record {
+  kept = λ at body h. next.kept at body (first.kept at body h);
+  suit = λ s. next.suit (first.suit s);
+  numbered = λ h. next.numbered (first.numbered h);
+}
 
 -- none yet
 pub extends_none : (ns : List Node) (ops : List Op) → Extends ns ops ops

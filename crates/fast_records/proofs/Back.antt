@@ -3,7 +3,8 @@ use Rattle.std.proofs.Common.{◌≡◌, ℕ, ◌≤◌, List, [], ◌∷◌, ta
 use Rattle.std.specs.Prelude.{nat_eq, true, false, if◌then◌else◌}
 use Rattle.std.proofs.lemmas.Bool.{eqb-true}
 use Rattle.fast_value.specs.meaning.Kinds.{U, I, Dec, AsciiText, UnicodeText, ByteVector}
-use Rattle.fast_stream.specs.meaning.Events.{EventData, MessageStart, FieldValue, GroupStart, GroupEnd, SequenceStart, ElementStart, ElementEnd, SequenceEnd, MessageEnd}
+use Rattle.fast_stream.specs.meaning.Events.{EventData, MessageStart, FieldValue, GroupStart, GroupEnd, SequenceStart, ElementStart}
+use Rattle.fast_stream.specs.meaning.Events.{ElementEnd, SequenceEnd, MessageEnd}
 use Rattle.fast_records.specs.declared.records.Record.{Record}
 use Rattle.fast_records.specs.meaning.Records.{record_of, text_record, ending_at, unplaced, event_text}
 use Rattle.fast_records.specs.meaning.Lent.{Tells, AreTold}
@@ -21,16 +22,40 @@ module _ (n : ℕ) (r : Record) where
   pub ending_event : (text : List ℕ) → event_back (ending_at n r) text ≡ event_back r text
   ending_event text = by (nat_eq r.kind 14) refl
     where
-      by : (b : Bool) → nat_eq r.kind 14 ≡ b → event_back (if b then record { kind = r.kind; node = r.node; value = n; length = r.length; exponent = r.exponent } else r) text ≡ event_back r text
-      by true is = let k = eqb-true r.kind 14 is in ap (λ (m : ℕ). event_of_kind m (record { kind = r.kind; node = r.node; value = n; length = r.length; exponent = r.exponent }) text) k ∙ sym (ap (λ (m : ℕ). event_of_kind m r text) k)
+      by : (b : Bool) → nat_eq r.kind 14 ≡ b → event_back (if b then record {
+        kind = r.kind;
+        node = r.node;
+        value = n;
+        length = r.length;
+        exponent = r.exponent;
+      } else r) text ≡ event_back r text
+      by true is = let k = eqb-true r.kind 14 is in ap (λ (m : ℕ). event_of_kind m (record {
+        kind = r.kind;
+        node = r.node;
+        value = n;
+        length = r.length;
+        exponent = r.exponent;
+      }) text) k ∙ sym (ap (λ (m : ℕ). event_of_kind m r text) k)
       by false is = refl
 
   pub ending_last : (m : ℕ) → ending_at m (ending_at n r) ≡ ending_at m r
   ending_last m = by (nat_eq r.kind 14) refl
     where
-      by : (b : Bool) → nat_eq r.kind 14 ≡ b → ending_at m (if b then record { kind = r.kind; node = r.node; value = n; length = r.length; exponent = r.exponent } else r)
+      by : (b : Bool) → nat_eq r.kind 14 ≡ b → ending_at m (if b then record {
+        kind = r.kind;
+        node = r.node;
+        value = n;
+        length = r.length;
+        exponent = r.exponent;
+      } else r)
           ≡ (if b then record { kind = r.kind; node = r.node; value = m; length = r.length; exponent = r.exponent } else r)
-      by true is = ap (λ (b : Bool). if b then record { kind = r.kind; node = r.node; value = m; length = r.length; exponent = r.exponent } else record { kind = r.kind; node = r.node; value = n; length = r.length; exponent = r.exponent }) is
+      by true is = ap (λ (b : Bool). if b then record {
+        kind = r.kind;
+        node = r.node;
+        value = m;
+        length = r.length;
+        exponent = r.exponent;
+      } else record { kind = r.kind; node = r.node; value = n; length = r.length; exponent = r.exponent }) is
       by false is = ap (λ (b : Bool). if b then record { kind = r.kind; node = r.node; value = m; length = r.length; exponent = r.exponent } else r) is
 
 -- The record of an event has none.
@@ -73,9 +98,12 @@ kind_known r text MessageEnd h = let k = kind_is r text MessageEnd h in (omega (
 
 -- Records of no kind of text have none.
 pub no_text : (r : Record) (text : List ℕ) (e : EventData) → IsOf r text e → ¬ ((5 ≤ r.kind) × (r.kind ≤ 7)) → text ≡ []
-no_text r text (FieldValue n (AsciiText v)) h other = let k = kind_is r text (FieldValue n (AsciiText v)) h in absurd (other (omega (arith, k), omega (arith, k)))
-no_text r text (FieldValue n (UnicodeText v)) h other = let k = kind_is r text (FieldValue n (UnicodeText v)) h in absurd (other (omega (arith, k), omega (arith, k)))
-no_text r text (FieldValue n (ByteVector v)) h other = let k = kind_is r text (FieldValue n (ByteVector v)) h in absurd (other (omega (arith, k), omega (arith, k)))
+no_text r text (FieldValue n (AsciiText v)) h other = let k = kind_is r text (FieldValue n (AsciiText v)) h in
+    absurd (other (omega (arith, k), omega (arith, k)))
+no_text r text (FieldValue n (UnicodeText v)) h other = let k = kind_is r text (FieldValue n (UnicodeText v)) h in
+    absurd (other (omega (arith, k), omega (arith, k)))
+no_text r text (FieldValue n (ByteVector v)) h other = let k = kind_is r text (FieldValue n (ByteVector v)) h in
+    absurd (other (omega (arith, k), omega (arith, k)))
 no_text r text (FieldValue n (U x)) h other = sym h.text_is
 no_text r text (FieldValue n (I x)) h other = sym h.text_is
 no_text r text (FieldValue n (Dec x m)) h other = sym h.text_is
@@ -90,7 +118,8 @@ no_text r text MessageEnd h other = sym h.text_is
 
 -- what a record and a text stand for, by the record of an event
 from_event : (r : Record) (text : List ℕ) (e : EventData) → IsOf r text e → event_back r text ≡ event_back (record_of r.value e) (event_text e)
-from_event r text e h = sym (ending_event 0 r text) ∙ ap (λ (z : Record). event_back z text) h.record_is ∙ ap (λ (v : List ℕ). event_back (record_of r.value e) v) (sym h.text_is)
+from_event r text e h = sym (ending_event 0 r text) ∙ ap (λ (z : Record). event_back z text) h.record_is
+    ∙ ap (λ (v : List ℕ). event_back (record_of r.value e) v) (sym h.text_is)
 
 pub back_is : (r : Record) (text : List ℕ) (e : EventData) → IsOf r text e → event_back r text ≡ e
 back_is r text (MessageStart n) h = from_event r text (MessageStart n) h
@@ -113,7 +142,11 @@ pub mark_back : (r : Record) (e : EventData) → IsMark r e → event_back r [] 
 mark_back r e h = back_is r [] e (record { record_is = h.record_is r.value; text_is = h.text_is; held = h.held })
 
 pub text_back : (kind node : ℕ) (text : List ℕ) (e : EventData) → IsTextOf kind node text e → event_back (content kind node 0 (pos 0)) text ≡ e
-text_back kind node text e h = back_is (text_record kind node 0 text) text e (record { record_is = ap unplaced (h.record_is 0) ∙ unplaced_event 0 e; text_is = h.text_is; held = h.held })
+text_back kind node text e h = back_is (text_record kind node 0 text) text e (record {
+  record_is = ap unplaced (h.record_is 0) ∙ unplaced_event 0 e;
+  text_is = h.text_is;
+  held = h.held;
+})
 
 -- the event that a record tells is of it
 pub told_of : (texts : List ℕ) (r : Record) (e : EventData) → Tells texts r e → IsOf r (take r.length (drop r.value texts)) e

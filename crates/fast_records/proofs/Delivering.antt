@@ -1,5 +1,6 @@
 -- What a decoder says of a sink of records, said of lists of events.
-use Rattle.std.proofs.Common.{◌≡◌, ◌≢◌, ◌⊎◌, inl, inr, ℕ, zero, suc, ◌+◌, ◌-◌, ◌<◌, ◌≤◌, Bool, nat_lt, List, [], ◌∷◌, ◌++◌, length, map, take, refl, sym, ap, subst, ◌∙◌, append_assoc, append-nil, length-append, arith, Result, Ok, Err}
+use Rattle.std.proofs.Common.{◌≡◌, ◌≢◌, ◌⊎◌, inl, inr, ℕ, zero, suc, ◌+◌, ◌-◌, ◌<◌, ◌≤◌, Bool, nat_lt, List, [], ◌∷◌, ◌++◌, length, map}
+use Rattle.std.proofs.Common.{take, refl, sym, ap, subst, ◌∙◌, append_assoc, append-nil, length-append, arith, Result, Ok, Err}
 use Rattle.std.specs.Prelude.{Option, Some, None, is_some, IsSome, true, false, ◌==◌, ◌&&◌}
 use Rattle.std.proofs.lemmas.Bool.{ltb-false}
 use Rattle.std.proofs.lemmas.Bool.Decides.{eqb_tells}
@@ -28,19 +29,30 @@ use Rattle.fast_records.specs.meaning.Feeding.{Appends, Stays, Gives, OnStream, 
 -- a list takes events
 pub list_takes : (es xs : List EventData) → Takes Appends es xs (es ++ xs)
 list_takes es [] = append-nil es
-list_takes es (x ∷ xs) = (es ++ x ∷ [], refl, subst (λ (ys : List EventData). Takes Appends (es ++ x ∷ []) xs ys) (append_assoc es (x ∷ []) xs) (list_takes (es ++ x ∷ []) xs))
+list_takes es (x ∷ xs) = (
+  es ++ x ∷ [],
+  refl,
+  subst (λ (ys : List EventData). Takes Appends (es ++ x ∷ []) xs ys)
+      (append_assoc es (x ∷ []) xs) (list_takes (es ++ x ∷ []) xs),
+)
 
 -- so does what a sink shows
 pub shows_takes : (s s' : RecordSink) (es xs : List EventData) → Takes TakesRecord s xs s' → Shows s es → Shows s' (es ++ xs)
 shows_takes s s' es [] same h = rw append-nil (subst (λ (x : RecordSink). Shows x es) (sym same) h)
-shows_takes s s' es (x ∷ xs) h shown = subst (λ (ys : List EventData). Shows s' ys) (append_assoc es (x ∷ []) xs) (shows_takes h.0 s' (es ++ x ∷ []) xs h.2 (h.1.shows es shown))
+shows_takes s s' es (x ∷ xs) h shown = subst (λ (ys : List EventData). Shows s' ys) (append_assoc es (x ∷ []) xs)
+    (shows_takes h.0 s' (es ++ x ∷ []) xs h.2 (h.1.shows es shown))
 
 -- and the sink stays over its buffers
 pub same_takes : (s s' : RecordSink) (xs : List EventData) → Takes TakesRecord s xs s' → IsSameSink s s'
 same_takes s s' [] same = subst (λ (x : RecordSink). IsSameSink s x) (sym same) (record { records = refl; texts = refl; waiting = refl; long = refl })
 same_takes s s' (x ∷ xs) h =
     let rest = same_takes h.0 s' xs h.2 in let one = h.1.same in
-    record { records = cc (rest.records, one.records); texts = cc (rest.texts, one.texts); waiting = cc (rest.waiting, one.waiting); long = rest.long ∙ one.long }
+    record {
+      records = cc (rest.records, one.records);
+      texts = cc (rest.texts, one.texts);
+      waiting = cc (rest.waiting, one.waiting);
+      long = rest.long ∙ one.long;
+    }
 
 -- and it writes no fewer records than before
 grows_takes : (s s' : RecordSink) (xs : List EventData) → Takes TakesRecord s xs s' → s.filled ≤ s'.filled
@@ -48,7 +60,8 @@ grows_takes s s' [] same = let is = ap (λ (x : RecordSink). x.filled) same in o
 grows_takes s s' (x ∷ xs) h = let one = h.1.grows in let rest = grows_takes h.0 s' xs h.2 in omega (arith, one, rest)
 
 -- What a sink shows behind a call, as a list that the call has brought so far.
-pub record Listed (t : Tree) (l : Limits) (w : List ℕ) (es : List EventData) (fed : List ℕ) (before : List EventData) (r : Result Unit Fault) (new : DecoderData) (s s' : RecordSink) : Type 0 where
+pub record Listed (t : Tree) (l : Limits) (w : List ℕ) (es : List EventData) (fed : List ℕ) (before : List EventData)
+    (r : Result Unit Fault) (new : DecoderData) (s s' : RecordSink) : Type 0 where
   pub more : List EventData
   pub shows : Shows s' (before ++ more)
   pub same : IsSameSink s s'
@@ -56,16 +69,22 @@ pub record Listed (t : Tree) (l : Limits) (w : List ℕ) (es : List EventData) (
   pub followed : Followed Appends Stays t l w es fed before r new (before ++ more)
   pub so : OnStream r (HasRead new (w ++ fed) (es ++ more))
 
-module _ (old new : DecoderData) (w : List ℕ) (es : List EventData) (fed : List ℕ) (before : List EventData) (s s' : RecordSink) (shown : Shows s before) (same_tree : tree new ≡ tree old) (same_limits : new.limits ≡ old.limits) where
+module _ (old new : DecoderData) (w : List ℕ) (es : List EventData) (fed : List ℕ) (before : List EventData) (s s' : RecordSink)
+    (shown : Shows s before) (same_tree : tree new ≡ tree old) (same_limits : new.limits ≡ old.limits) where
   -- what was fed leads to the decoder
   abbrev Here : Result Unit Fault → Type 0
   Here r = Listed (tree old) old.limits w es fed before r new s s'
 
   follows_on : (h : Carries TakesRecord w es fed s new s') → Follows Appends (tree old) old.limits w es fed before new (before ++ h.more)
-  follows_on h = carries_follow Appends Stays (tree old) old.limits new w es fed before (before ++ h.more) same_tree same_limits (record { more = h.more; so = h.so; took = list_takes before h.more })
+  follows_on h = carries_follow Appends Stays (tree old) old.limits new w es fed before (before ++ h.more) same_tree same_limits (record {
+    more = h.more;
+    so = h.so;
+    took = list_takes before h.more;
+  })
 
   -- at each fault
-  listed_at : (c : FaultCode) (place : ℕ) → CarriesAt TakesRecord RefusesRecord old w es fed s c place new s' → FollowedAt TakesRecord RefusesRecord (tree old) old.limits w es fed s c place new s'
+  listed_at : (c : FaultCode) (place : ℕ) → CarriesAt TakesRecord RefusesRecord old w es fed s c place new s'
+      → FollowedAt TakesRecord RefusesRecord (tree old) old.limits w es fed s c place new s'
       → Here (Err (record { code = c; place = place }))
   listed_at (Why.Stream c) place h i = record {
     more = h.more;
@@ -80,15 +99,32 @@ module _ (old new : DecoderData) (w : List ℕ) (es : List EventData) (fed : Lis
     shows = shows_takes s s' before i.given i.took shown;
     same = same_takes s s' i.given i.took;
     grows = grows_takes s s' i.given i.took;
-    followed = record { before = i.before; unread = i.unread; fed_is = i.fed_is; place_is = i.place_is; many = i.many; given = i.given; end_before = i.end_before; until = i.until; took = list_takes before i.given; few = i.few };
+    followed = record {
+      before = i.before;
+      unread = i.unread;
+      fed_is = i.fed_is;
+      place_is = i.place_is;
+      many = i.many;
+      given = i.given;
+      end_before = i.end_before;
+      until = i.until;
+      took = list_takes before i.given;
+      few = i.few;
+    };
     so = tt;
   }
   listed_at Why.SinkStopped place h i =
-      let up_to = shows_takes s i.mid before (i.earlier ++ i.given) i.took shown in let first = same_takes s i.mid (i.earlier ++ i.given) i.took in let last = i.stopped.same in
+      let up_to = shows_takes s i.mid before (i.earlier ++ i.given) i.took shown in
+      let first = same_takes s i.mid (i.earlier ++ i.given) i.took in let last = i.stopped.same in
       record {
         more = i.earlier ++ i.given;
         shows = i.stopped.shows (before ++ (i.earlier ++ i.given)) up_to;
-        same = record { records = cc (first.records, last.records); texts = cc (first.texts, last.texts); waiting = cc (first.waiting, last.waiting); long = last.long ∙ first.long };
+        same = record {
+          records = cc (first.records, last.records);
+          texts = cc (first.texts, last.texts);
+          waiting = cc (first.waiting, last.waiting);
+          long = last.long ∙ first.long;
+        };
         grows = let up = grows_takes s i.mid (i.earlier ++ i.given) i.took in let end = i.stopped.grows in omega (arith, up, end);
         followed = record {
           before = i.before;
@@ -113,7 +149,8 @@ module _ (old new : DecoderData) (w : List ℕ) (es : List EventData) (fed : Lis
       }
 
   -- at each answer
-  pub listed : (r : Result Unit Fault) → Carried TakesRecord RefusesRecord old w es fed s r new s' → Followed TakesRecord RefusesRecord (tree old) old.limits w es fed s r new s' → Here r
+  pub listed : (r : Result Unit Fault) → Carried TakesRecord RefusesRecord old w es fed s r new s'
+      → Followed TakesRecord RefusesRecord (tree old) old.limits w es fed s r new s' → Here r
   listed (Ok u) h i = record {
     more = h.more;
     shows = shows_takes s s' before h.more h.took shown;
@@ -131,7 +168,8 @@ pub gives_by : (s : RecordSink) (es : List EventData) (records : List Record) (t
 gives_by s es records texts waits filled used shown records_is texts_is waits_is filled_is used_is = record {
   given = shown.given;
   are_records = record {
-    records_are = ap (map unplaced) (ap (λ (n : ℕ). take n records) filled_is ∙ ap (λ (rs : List Record). take s.filled rs) records_is) ∙ shown.filled.records_are;
+    records_are = ap (map unplaced) (ap (λ (n : ℕ). take n records) filled_is ∙ ap (λ (rs : List Record). take s.filled rs) records_is)
+        ∙ shown.filled.records_are;
     texts_are = ap (λ (n : ℕ). take n texts) used_is ∙ ap (λ (ts : List ℕ). take s.used ts) texts_is ∙ shown.filled.texts_are;
   };
   all = shown.all ∙ ap (λ (v : Waiting). shown.given ++ pending v) (sym waits_is);
@@ -158,48 +196,60 @@ given_long s es h =
     sym (long_records 0 h.given) ∙ ap length (sym h.filled.records_are) ∙ length-map (take s.filled s.records.now) unplaced ∙ taken
 
 -- While there is room for a record, all that waited is given: what waits then has come since.
-pub late_by : (s s' : RecordSink) (waited more : List EventData) → Shows s waited → Shows s' (waited ++ more) → s.filled ≤ s'.filled → s.filled < s.limit → (front : List EventData) × (more ≡ front ++ pending s'.waiting.now)
+pub late_by : (s s' : RecordSink) (waited more : List EventData) → Shows s waited → Shows s' (waited ++ more) → s.filled ≤ s'.filled
+    → s.filled < s.limit → (front : List EventData) × (more ≡ front ++ pending s'.waiting.now)
 late_by s s' waited more before after grows room =
     let all : waited ≡ before.given = before.all ∙ ap (λ (xs : List EventData). before.given ++ xs) (before.in_order room) ∙ append-nil before.given in
     let less : length waited ≤ length after.given = omega (arith, ap length all, given_long s waited before, given_long s' (waited ++ more) after, grows) in
     split waited more after.given (pending s'.waiting.now) after.all less
 
 -- What the records and texts are, in the words of the contract.
-pub delivers_by : (t : Tree) (l : Limits) (w : List ℕ) (es : List EventData) (piece fed : List ℕ) (count : ℕ) (waited : List EventData) (r : Result Unit Fault) (new : DecoderData) (s s' : RecordSink) (records : List Record)
-    (texts : List ℕ) (waits : Waiting) (filled used : ℕ) → fed ≡ take count piece → count ≤ length piece → Listed t l w es fed waited r new s s' → r ≡ answer new.fault
-    → records ≡ s'.records.now → texts ≡ s'.texts.now → waits ≡ s'.waiting.now → filled ≡ s'.filled → used ≡ s'.used → Shows s waited → (0 < count → s.filled < s.limit)
+pub delivers_by : (t : Tree) (l : Limits) (w : List ℕ) (es : List EventData) (piece fed : List ℕ) (count : ℕ) (waited : List EventData)
+    (r : Result Unit Fault) (new : DecoderData) (s s' : RecordSink) (records : List Record)
+    (texts : List ℕ) (waits : Waiting) (filled used : ℕ) → fed ≡ take count piece → count ≤ length piece
+    → Listed t l w es fed waited r new s s' → r ≡ answer new.fault
+    → records ≡ s'.records.now → texts ≡ s'.texts.now → waits ≡ s'.waiting.now → filled ≡ s'.filled → used ≡ s'.used → Shows s waited
+    → (0 < count → s.filled < s.limit)
     → Delivers t l w es piece waited new (take filled records) (take used texts) (pending waits)
-delivers_by t l w es piece fed count waited r new s s' records texts waits filled used fed_is within h r_is records_is texts_is waits_is filled_is used_is shown room =
-    let x = subst (λ (q : Result Unit Fault). Listed t l w es (take count piece) waited q new s s') r_is (subst (λ (v : List ℕ). Listed t l w es v waited r new s s') fed_is h) in
+delivers_by t l w es piece fed count waited r new s s' records texts waits filled used fed_is within h r_is records_is texts_is waits_is
+    filled_is used_is shown room =
+    let x = subst (λ (q : Result Unit Fault). Listed t l w es (take count piece) waited q new s s') r_is
+    (subst (λ (v : List ℕ). Listed t l w es v waited r new s s') fed_is h) in
     record {
       count = count;
       within = within;
       more = x.more;
       gives = gives_by s' (waited ++ x.more) records texts waits filled used x.shows records_is texts_is waits_is filled_is used_is;
-      late = λ some. subst (λ (v : Waiting). (front : List EventData) × (x.more ≡ front ++ pending v)) (sym waits_is) (late_by s s' waited x.more shown x.shows x.grows (room some));
+      late = λ some. subst (λ (v : Waiting). (front : List EventData) × (x.more ≡ front ++ pending v)) (sym waits_is)
+          (late_by s s' waited x.more shown x.shows x.grows (room some));
       followed = x.followed;
       so = x.so;
     }
 
 -- what is filled of the buffers is within them
-pub room_by : (s : RecordSink) (records : List Record) (texts : List ℕ) (filled used : ℕ) → records ≡ s.records.now → texts ≡ s.texts.now → filled ≡ s.filled → used ≡ s.used → (filled ≤ length records) × (used ≤ length texts)
+pub room_by : (s : RecordSink) (records : List Record) (texts : List ℕ) (filled used : ℕ) → records ≡ s.records.now → texts ≡ s.texts.now
+    → filled ≡ s.filled → used ≡ s.used → (filled ≤ length records) × (used ≤ length texts)
 room_by s records texts filled used records_is texts_is filled_is used_is =
     let longer = ap length records_is in let wider = ap length texts_is in
     (omega (arith, s.filled_within, s.limit_within, longer, filled_is), omega (arith, s.used_within, wider, used_is))
 
 -- how a call ends, in the words of its contract
-pub outcome_by : (o : Outcome) (waits nothing all none : Bool) (r : Result Unit Fault) (d : DecoderData) (v u : Waiting) → o ≡ outcome_of waits r all nothing → waits ≡ nat_lt 0 (length (pending u)) → v ≡ u → r ≡ answer d.fault → nothing ≡ none
+pub outcome_by : (o : Outcome) (waits nothing all none : Bool) (r : Result Unit Fault) (d : DecoderData) (v u : Waiting)
+    → o ≡ outcome_of waits r all nothing → waits ≡ nat_lt 0 (length (pending u)) → v ≡ u → r ≡ answer d.fault → nothing ≡ none
     → o ≡ outcome_of (nat_lt 0 (length (pending v))) (answer d.fault) all none
 outcome_by o waits nothing all none r d v u o_is waits_is v_is r_is nothing_is =
     let b = nat_lt 0 (length (pending v)) in
-    o_is ∙ ap (λ (x : Bool). outcome_of x r all nothing) (waits_is ∙ ap (λ (x : Waiting). nat_lt 0 (length (pending x))) (sym v_is)) ∙ ap (λ (q : Result Unit Fault). outcome_of b q all nothing) r_is
+    o_is ∙ ap (λ (x : Bool). outcome_of x r all nothing) (waits_is ∙ ap (λ (x : Waiting). nat_lt 0 (length (pending x))) (sym v_is))
+    ∙ ap (λ (q : Result Unit Fault). outcome_of b q all nothing) r_is
     ∙ ap (λ (x : Bool). outcome_of b (answer d.fault) all x) nothing_is
 
 -- so where the decoder had stopped before
-pub outcome_stopped : (o : Outcome) (waits all : Bool) (taken filled : ℕ) (f : Fault) (d : DecoderData) → o ≡ outcome_of waits (answer d.fault) all (taken == 0 && filled == 0) → d.fault ≡ Some f → taken ≡ 0
+pub outcome_stopped : (o : Outcome) (waits all : Bool) (taken filled : ℕ) (f : Fault) (d : DecoderData)
+    → o ≡ outcome_of waits (answer d.fault) all (taken == 0 && filled == 0) → d.fault ≡ Some f → taken ≡ 0
     → o ≡ outcome_of waits (Err f) false (filled == 0)
 outcome_stopped o waits all taken filled f d o_is fault_is taken_is =
-    o_is ∙ ap (λ (q : Option Fault). outcome_of waits (answer q) all (taken == 0 && filled == 0)) fault_is ∙ ap (λ (n : ℕ). outcome_of waits (Err f) all (n == 0 && filled == 0)) taken_is ∙ either waits
+    o_is ∙ ap (λ (q : Option Fault). outcome_of waits (answer q) all (taken == 0 && filled == 0)) fault_is
+    ∙ ap (λ (n : ℕ). outcome_of waits (Err f) all (n == 0 && filled == 0)) taken_is ∙ either waits
   where
     either : (b : Bool) → outcome_of b (Err f) all (filled == 0) ≡ outcome_of b (Err f) false (filled == 0)
     either true = refl
@@ -214,17 +264,23 @@ full_by s es records texts waits filled used shown records_is texts_is waits_is 
     let long : length s.records.now - s.filled ≡ length records - filled = omega (arith, ap length records_is, filled_is) in
     let wide : length s.texts.now - s.used ≡ length texts - used = omega (arith, ap length texts_is, used_is) in
     subst (λ (xs : List EventData). HasNoRoom (length records - filled) (length texts - used) xs) (sym here)
-    (subst (λ (n : ℕ). HasNoRoom (length records - filled) n (pending s.waiting.now)) wide (subst (λ (n : ℕ). HasNoRoom n (length s.texts.now - s.used) (pending s.waiting.now)) long (shown.full (λ none. some (here ∙ none)))))
+    (subst (λ (n : ℕ). HasNoRoom (length records - filled) n (pending s.waiting.now)) wide
+    (subst (λ (n : ℕ). HasNoRoom n (length s.texts.now - s.used) (pending s.waiting.now)) long
+    (shown.full (λ none. some (here ∙ none)))))
 
 -- A decoder without a fault has consumed all that led to it.
 consumed_all : (d : DecoderData) (w : List ℕ) (es : List EventData) → HasRead d w es → d.fault ≡ None → d.consumed ≡ length w
 consumed_all d w es so none = (subst (λ (f : Option Fault). IsAt f d (length w) so.position) none so.at).1
 
 -- So a call that ends without one has consumed what was fed.
-pub consumed_by : (old new : DecoderData) (w : List ℕ) (es : List EventData) (piece fed : List ℕ) (count : ℕ) (waited : List EventData) (r : Result Unit Fault) (s s' : RecordSink) → fed ≡ take count piece → count ≤ length piece → HasRead old w es
-    → Listed (tree old) old.limits w es fed waited r new s s' → r ≡ answer new.fault → (IsSome old.fault → (account new ≡ account old) × (s' ≡ s)) → new.fault ≡ None → new.consumed ≡ old.consumed + count
+pub consumed_by : (old new : DecoderData) (w : List ℕ) (es : List EventData) (piece fed : List ℕ) (count : ℕ) (waited : List EventData)
+    (r : Result Unit Fault) (s s' : RecordSink) → fed ≡ take count piece → count ≤ length piece → HasRead old w es
+    → Listed (tree old) old.limits w es fed waited r new s s' → r ≡ answer new.fault
+    → (IsSome old.fault → (account new ≡ account old) × (s' ≡ s)) → new.fault ≡ None → new.consumed ≡ old.consumed + count
 consumed_by old new w es piece fed count waited r s s' fed_is within so h r_is stopped none =
-    let here : HasRead new (w ++ fed) (es ++ h.more) = subst (λ (f : Option Fault). OnStream (answer f) (HasRead new (w ++ fed) (es ++ h.more))) none (subst (λ (q : Result Unit Fault). OnStream q (HasRead new (w ++ fed) (es ++ h.more))) r_is h.so) in
+    let here : HasRead new (w ++ fed) (es ++ h.more) = subst
+    (λ (f : Option Fault). OnStream (answer f) (HasRead new (w ++ fed) (es ++ h.more))) none
+    (subst (λ (q : Result Unit Fault). OnStream q (HasRead new (w ++ fed) (es ++ h.more))) r_is h.so) in
     let size : length fed ≡ count = ap length fed_is ∙ length-take-le count piece within in
     omega (arith, consumed_all new (w ++ fed) (es ++ h.more) here none, consumed_all old w es so (before old.fault refl), length-append w fed, size)
   where
@@ -233,13 +289,15 @@ consumed_by old new w es piece fed count waited r s s' fed_is within so h r_is s
     before (Some f) is = let both : None ≡ Some f = sym none ∙ ap (λ (a : Account). a.fault) (stopped (ap is_some is)).0 ∙ is in absurd (cc both)
 
 -- and never more than that
-pub few_by : (old new : DecoderData) (piece fed : List ℕ) (count : ℕ) → fed ≡ take count piece → count ≤ length piece → ConsumesAtMost (length fed) old new → new.consumed ≤ old.consumed + count
+pub few_by : (old new : DecoderData) (piece fed : List ℕ) (count : ℕ) → fed ≡ take count piece → count ≤ length piece
+    → ConsumesAtMost (length fed) old new → new.consumed ≤ old.consumed + count
 few_by old new piece fed count fed_is within h =
     let size : length fed ≡ count = ap length fed_is ∙ length-take-le count piece within in
     omega (arith, h.1, size)
 
 -- Where a call gives no record, no text was written, and nothing has waited or come if nothing waits.
-module _ (s s' : RecordSink) (waited more : List EventData) (before : Shows s waited) (after : Shows s' (waited ++ more)) (same : IsSameSink s s') (grows : s.filled ≤ s'.filled) (none_given : s'.filled ≡ 0) where
+module _ (s s' : RecordSink) (waited more : List EventData) (before : Shows s waited) (after : Shows s' (waited ++ more))
+    (same : IsSameSink s s') (grows : s.filled ≤ s'.filled) (none_given : s'.filled ≡ 0) where
   nothing_given : after.given ≡ []
   nothing_given = by after.given (given_long s' (waited ++ more) after ∙ none_given)
     where
@@ -269,7 +327,8 @@ module _ (s s' : RecordSink) (waited more : List EventData) (before : Shows s wa
       rest_nothing (x ∷ xs) ys is = absurd (cc is)
 
 -- when a call has no room
-no_room_of : (waits all nothing : Bool) (f : Option Fault) → outcome_of waits (answer f) all nothing ≡ Came.NoRoom → (nothing ≡ true) × ((waits ≡ true) ⊎ ((waits ≡ false) × (f ≡ None) × (all ≡ false)))
+no_room_of : (waits all nothing : Bool) (f : Option Fault) → outcome_of waits (answer f) all nothing ≡ Came.NoRoom
+    → (nothing ≡ true) × ((waits ≡ true) ⊎ ((waits ≡ false) × (f ≡ None) × (all ≡ false)))
 no_room_of true all true f is = (refl, inl refl)
 no_room_of true all false f is = absurd (cc is)
 no_room_of false true nothing None is = absurd (cc is)
@@ -299,16 +358,21 @@ less_of zero (suc n) zero_is is = omega arith
 less_of (suc m) n zero_is is = absurd (omega (arith, zero_is))
 
 -- So the buffers are too small for what is next.
-pub progress_by : (s s' : RecordSink) (waited more : List EventData) (records : List Record) (texts : List ℕ) (waits : Waiting) (filled used taken bytes : ℕ) (d : DecoderData) (o : Outcome)
-    → Shows s waited → Shows s' (waited ++ more) → IsSameSink s s' → s.filled ≤ s'.filled → records ≡ s'.records.now → texts ≡ s'.texts.now → waits ≡ s'.waiting.now → filled ≡ s'.filled → used ≡ s'.used
+pub progress_by : (s s' : RecordSink) (waited more : List EventData) (records : List Record) (texts : List ℕ) (waits : Waiting)
+    (filled used taken bytes : ℕ) (d : DecoderData) (o : Outcome)
+    → Shows s waited → Shows s' (waited ++ more) → IsSameSink s s' → s.filled ≤ s'.filled → records ≡ s'.records.now → texts ≡ s'.texts.now
+    → waits ≡ s'.waiting.now → filled ≡ s'.filled → used ≡ s'.used
     → o ≡ outcome_of (nat_lt 0 (length (pending waits))) (answer d.fault) (taken == bytes) (taken == 0 && filled == 0) → o ≡ Came.NoRoom
     → (d.fault ≡ None → taken ≡ 0 → 0 < bytes → s.limit ≤ s.filled) → HasNoRoom (length records) (length texts) (pending waits)
-progress_by s s' waited more records texts waits filled used taken bytes d o before after same grows records_is texts_is waits_is filled_is used_is o_is no_room idle =
+progress_by s s' waited more records texts waits filled used taken bytes d o before after same grows records_is texts_is waits_is filled_is
+    used_is o_is no_room idle =
     let (nothing, why) = no_room_of (nat_lt 0 (length (pending waits))) (taken == bytes) (taken == 0 && filled == 0) d.fault (sym o_is ∙ no_room) in
     let (none_taken, none_filled) = both_zero taken filled nothing in
     by none_taken (sym filled_is ∙ none_filled) why
   where
-    by : taken ≡ 0 → s'.filled ≡ 0 → (nat_lt 0 (length (pending waits)) ≡ true) ⊎ ((nat_lt 0 (length (pending waits)) ≡ false) × (d.fault ≡ None) × ((taken == bytes) ≡ false)) → HasNoRoom (length records) (length texts) (pending waits)
+    by : taken ≡ 0 → s'.filled ≡ 0 → (nat_lt 0 (length (pending waits)) ≡ true)
+        ⊎ ((nat_lt 0 (length (pending waits)) ≡ false) × (d.fault ≡ None) × ((taken == bytes) ≡ false))
+        → HasNoRoom (length records) (length texts) (pending waits)
     by none_taken none_given (inl some) =
         let used_none = no_text s s' waited more before after same grows none_given in
         let long : length records - filled ≡ length records = omega (arith, filled_is, none_given) in
@@ -317,4 +381,5 @@ progress_by s s' waited more records texts waits filled used taken bytes d o bef
         (full_by s' (waited ++ more) records texts waits filled used after records_is texts_is waits_is filled_is used_is (some_of (pending waits) some)))
     by none_taken none_given (inr (none, no_fault, part)) =
         let here = ap (λ (v : Waiting). pending v) (sym waits_is) ∙ none_of (pending waits) none in
-        inl (ap length records_is ∙ no_record s s' waited more before after same grows none_given (idle no_fault none_taken (less_of taken bytes none_taken part)) here)
+        inl (ap length records_is ∙ no_record s s' waited more before after same grows none_given
+        (idle no_fault none_taken (less_of taken bytes none_taken part)) here)

@@ -1,5 +1,6 @@
 -- What a sink of records shows.
-use Rattle.std.proofs.Common.{◌≡◌, ◌≢◌, inl, inr, ℕ, ◌-◌, ◌<◌, List, [], ◌∷◌, ◌++◌, length, map, take, refl, sym, ap, subst, ◌∙◌, append-nil, append_assoc, arith, Result, Ok, Err, OnOk, OnErr}
+use Rattle.std.proofs.Common.{◌≡◌, ◌≢◌, inl, inr, ℕ, ◌-◌, ◌<◌, List, [], ◌∷◌, ◌++◌, length, map, take, refl, sym, ap, subst, ◌∙◌}
+use Rattle.std.proofs.Common.{append-nil, append_assoc, arith, Result, Ok, Err, OnOk, OnErr}
 use Rattle.fast_stream.specs.declared.events.Stop.{Stop}
 use Rattle.fast_stream.specs.meaning.Events.{EventData}
 use Rattle.fast_records.specs.declared.records.Record.{Record}
@@ -21,7 +22,8 @@ full_same r r' es es' same es_is full some =
     let texts : length r.texts.now - r.used ≡ length r'.texts.now - r'.used = omega (arith, same.wide, same.used) in
     let there = full (λ none. some (es_is ∙ none)) in
     subst (λ (xs : List EventData). HasNoRoom (length r'.records.now - r'.filled) (length r'.texts.now - r'.used) xs) (sym es_is)
-    (subst (λ (n : ℕ). HasNoRoom (length r'.records.now - r'.filled) n es) texts (subst (λ (n : ℕ). HasNoRoom n (length r.texts.now - r.used) es) records there))
+    (subst (λ (n : ℕ). HasNoRoom (length r'.records.now - r'.filled) n es) texts
+    (subst (λ (n : ℕ). HasNoRoom n (length r.texts.now - r.used) es) records there))
 
 -- the first that waits has no room, and stays the first
 pub full_more : (r : Room) (es : List EventData) (e : EventData) → (es ≡ [] → IsOpen r) → IsFull r es → LacksRoom (event_text e) r → IsFull r (es ++ e ∷ [])
@@ -30,7 +32,8 @@ full_more r [] e unclosed full (inr long) some = inr long
 full_more r (x ∷ xs) e unclosed full lacks some = full (λ none. cc none)
 
 -- its record was added
-pub shows_put : (s s' : RecordSink) (e : EventData) (p : ℕ) (next : Record) (t : List ℕ) → p ≡ length (texts_in (room_of s)) → unplaced next ≡ record_of p e → t ≡ event_text e → Adds next t (room_of s) (room_of s') → s'.waiting.now ≡ s.waiting.now
+pub shows_put : (s s' : RecordSink) (e : EventData) (p : ℕ) (next : Record) (t : List ℕ) → p ≡ length (texts_in (room_of s))
+    → unplaced next ≡ record_of p e → t ≡ event_text e → Adds next t (room_of s) (room_of s') → s'.waiting.now ≡ s.waiting.now
     → (es : List EventData) → Shows s es → Shows s' (es ++ e ∷ [])
 shows_put s s' e p next t at is text adds same es h =
     let none : pending s'.waiting.now ≡ [] = ap (λ (v : Waiting). pending v) same ∙ h.in_order adds.had_room in
@@ -45,7 +48,8 @@ shows_put s s' e p next t at is text adds same es h =
     }
 
 -- a sink that is as it was shows what it did
-pub shows_same : (s s' : RecordSink) → IsUnchanged (room_of s) (room_of s') → pending s'.waiting.now ≡ pending s.waiting.now → (es : List EventData) → Shows s es → Shows s' es
+pub shows_same : (s s' : RecordSink) → IsUnchanged (room_of s) (room_of s') → pending s'.waiting.now ≡ pending s.waiting.now
+    → (es : List EventData) → Shows s es → Shows s' es
 shows_same s s' same waits es h = record {
   given = h.given;
   filled = holds_same (room_of s) (room_of s') h.given same.as_filled h.filled;
@@ -56,15 +60,18 @@ shows_same s s' same waits es h = record {
 }
 
 -- an event that has no room waits behind the others
-pub shows_wait : (s s' : RecordSink) (e : EventData) → LacksRoom (event_text e) (room_of s) → IsAsFilled (room_of s) (room_of s') → s'.limit ≡ s'.filled → pending s'.waiting.now ≡ pending s.waiting.now ++ e ∷ []
+pub shows_wait : (s s' : RecordSink) (e : EventData) → LacksRoom (event_text e) (room_of s) → IsAsFilled (room_of s) (room_of s')
+    → s'.limit ≡ s'.filled → pending s'.waiting.now ≡ pending s.waiting.now ++ e ∷ []
     → (es : List EventData) → Shows s es → Shows s' (es ++ e ∷ [])
 shows_wait s s' e lacks same closed waits es h = record {
   given = h.given;
   filled = holds_same (room_of s) (room_of s') h.given same h.filled;
-  all = ap (λ (xs : List EventData). xs ++ e ∷ []) h.all ∙ append_assoc h.given (pending s.waiting.now) (e ∷ []) ∙ ap (λ (xs : List EventData). h.given ++ xs) (sym waits);
+  all = ap (λ (xs : List EventData). xs ++ e ∷ []) h.all ∙ append_assoc h.given (pending s.waiting.now) (e ∷ [])
+      ∙ ap (λ (xs : List EventData). h.given ++ xs) (sym waits);
   in_order = λ lt. absurd (omega (arith, lt, closed));
   unclosed = λ none. absurd (not_nothing (pending s.waiting.now) e (sym waits ∙ none));
-  full = full_same (room_of s) (room_of s') (pending s.waiting.now ++ e ∷ []) (pending s'.waiting.now) same waits (full_more (room_of s) (pending s.waiting.now) e h.unclosed h.full lacks);
+  full = full_same (room_of s) (room_of s') (pending s.waiting.now ++ e ∷ []) (pending s'.waiting.now) same waits
+      (full_more (room_of s) (pending s.waiting.now) e h.unclosed h.full lacks);
 }
   where
     not_nothing : (xs : List EventData) (x : EventData) → xs ++ x ∷ [] ≢ []
@@ -73,21 +80,39 @@ shows_wait s s' e lacks same closed waits es h = record {
 
 -- one sink behind another over the same buffers
 pub same_after : (s s' new : RecordSink) → IsSameSink s s' → IsSameSink s' new → IsSameSink s new
-same_after s s' new same next = record { records = next.records ∙ same.records; texts = next.texts ∙ same.texts; waiting = next.waiting ∙ same.waiting; long = next.long ∙ same.long }
+same_after s s' new same next = record {
+  records = next.records ∙ same.records;
+  texts = next.texts ∙ same.texts;
+  waiting = next.waiting ∙ same.waiting;
+  long = next.long ∙ same.long;
+}
 
 -- what had no room waits
-pub takes_after : (s s' : RecordSink) (e : EventData) (new : RecordSink) (r : Result Unit Stop) → IsSameSink s s' → IsUnchanged (room_of s) (room_of s') → s'.waiting.now ≡ s.waiting.now → OnOk r (TakesRecord s' e new) → OnOk r (TakesRecord s e new)
-takes_after s s' e new (Ok u) same as_it_was waits h = record { same = same_after s s' new same h.same; grows = let more = h.grows in omega (arith, as_it_was.as_filled.filled, more); shows = λ es shown. h.shows es (shows_same s s' as_it_was (ap (λ (v : Waiting). pending v) waits) es shown) }
+pub takes_after : (s s' : RecordSink) (e : EventData) (new : RecordSink) (r : Result Unit Stop) → IsSameSink s s'
+    → IsUnchanged (room_of s) (room_of s') → s'.waiting.now ≡ s.waiting.now → OnOk r (TakesRecord s' e new) → OnOk r (TakesRecord s e new)
+takes_after s s' e new (Ok u) same as_it_was waits h = record {
+  same = same_after s s' new same h.same;
+  grows = let more = h.grows in omega (arith, as_it_was.as_filled.filled, more);
+  shows = λ es shown. h.shows es (shows_same s s' as_it_was (ap (λ (v : Waiting). pending v) waits) es shown);
+}
 takes_after s s' e new (Err x) same as_it_was waits h = h
 
 -- or is refused
-pub refuses_after : (s s' : RecordSink) (e : EventData) (new : RecordSink) (r : Result Unit Stop) → IsSameSink s s' → IsUnchanged (room_of s) (room_of s') → s'.waiting.now ≡ s.waiting.now → OnErr r (RefusesRecord s' e new) → OnErr r (RefusesRecord s e new)
+pub refuses_after : (s s' : RecordSink) (e : EventData) (new : RecordSink) (r : Result Unit Stop) → IsSameSink s s'
+    → IsUnchanged (room_of s) (room_of s') → s'.waiting.now ≡ s.waiting.now → OnErr r (RefusesRecord s' e new)
+    → OnErr r (RefusesRecord s e new)
 refuses_after s s' e new (Ok u) same as_it_was waits h = h
-refuses_after s s' e new (Err x) same as_it_was waits h = record { same = same_after s s' new same h.same; grows = let more = h.grows in omega (arith, as_it_was.as_filled.filled, more); shows = λ es shown. h.shows es (shows_same s s' as_it_was (ap (λ (v : Waiting). pending v) waits) es shown) }
+refuses_after s s' e new (Err x) same as_it_was waits h = record {
+  same = same_after s s' new same h.same;
+  grows = let more = h.grows in omega (arith, as_it_was.as_filled.filled, more);
+  shows = λ es shown. h.shows es (shows_same s s' as_it_was (ap (λ (v : Waiting). pending v) waits) es shown);
+}
 
 -- What waited moved into a room over the buffers of a sink: the sink shows what waited.
-pub shows_new : (s : RecordSink) (r₀ r : Room) (waited waits : Waiting) → Moves r₀ waited r waits → records_in r₀ ≡ [] → texts_in r₀ ≡ [] → (r.filled < r.limit → pending waits ≡ []) → (pending waits ≡ [] → IsOpen r) → IsFull r (pending waits)
-    → s.records.now ≡ r.records.now → s.texts.now ≡ r.texts.now → s.waiting.now ≡ waits → s.filled ≡ r.filled → s.limit ≡ r.limit → s.used ≡ r.used → Shows s (pending waited)
+pub shows_new : (s : RecordSink) (r₀ r : Room) (waited waits : Waiting) → Moves r₀ waited r waits → records_in r₀ ≡ [] → texts_in r₀ ≡ []
+    → (r.filled < r.limit → pending waits ≡ []) → (pending waits ≡ [] → IsOpen r) → IsFull r (pending waits)
+    → s.records.now ≡ r.records.now → s.texts.now ≡ r.texts.now → s.waiting.now ≡ waits → s.filled ≡ r.filled → s.limit ≡ r.limit
+    → s.used ≡ r.used → Shows s (pending waited)
 shows_new s r₀ r waited waits moves no_record no_text in_order unclosed full records_is texts_is waits_is filled_is limit_is used_is =
     let m = moves [] (record { records_are = ap (map unplaced) no_record; texts_are = no_text }) in
     let here : pending s.waiting.now ≡ pending waits = ap (λ (v : Waiting). pending v) waits_is in

@@ -8,6 +8,7 @@ columns_of_none at [] h = refl
 columns_of_none at (c ∷ cs) h = absurd (omega (arith, h))
 
 -- there are some
-pub columns_of_some : (at : ℕ) (bytes : List ℕ) → 0 < length bytes → cells at bytes ++ take (3 * (8 - length bytes) + 2) (codes "                          ") ≡ columns at bytes
+pub columns_of_some : (at : ℕ) (bytes : List ℕ) → 0 < length bytes
+    → cells at bytes ++ take (3 * (8 - length bytes) + 2) (codes "                          ") ≡ columns at bytes
 columns_of_some at [] h = absurd (omega (arith, h))
 columns_of_some at (c ∷ cs) h = refl

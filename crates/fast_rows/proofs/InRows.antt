@@ -1,5 +1,6 @@
 -- Rows that are written one after the other.
-use Rattle.std.proofs.Common.{◌≡◌, ◌∙◌, ℕ, ◌+◌, Bool, List, [], ◌∷◌, ◌++◌, Option, Result, Ok, Err, ap, sym, refl, length, length-append, flat_map, append-nil, append_assoc, add_assoc, add-zero, arith}
+use Rattle.std.proofs.Common.{◌≡◌, ◌∙◌, ℕ, ◌+◌, Bool, List, [], ◌∷◌, ◌++◌, Option, Result, Ok, Err, ap, sym, refl, length, length-append}
+use Rattle.std.proofs.Common.{flat_map, append-nil, append_assoc, add_assoc, add-zero, arith}
 use Rattle.std.proofs.lemmas.Grind.{flat_map-append}
 use Rattle.fast_tree.specs.meaning.Tree.{Tree}
 use Rattle.fast_text.specs.declared.streams.Failed.{Failed}
@@ -16,7 +17,8 @@ pub rows_append : (t : Tree) (at : ℕ) (xs ys : List Row) → rows_text t at (x
 rows_append t at [] ys = ap (λ (n : ℕ). rows_text t n ys) (sym (add-zero at))
 rows_append t at (x ∷ xs) ys =
     let here = at + length (row_bytes x) in
-    let there : here + length (bytes_in xs) ≡ at + length (bytes_in (x ∷ xs)) = add_assoc at (length (row_bytes x)) (length (bytes_in xs)) ∙ ap (λ (n : ℕ). at + n) (sym (length-append (row_bytes x) (bytes_in xs))) in
+    let there : here + length (bytes_in xs) ≡ at + length (bytes_in (x ∷ xs)) = add_assoc at (length (row_bytes x)) (length (bytes_in xs))
+    ∙ ap (λ (n : ℕ). at + n) (sym (length-append (row_bytes x) (bytes_in xs))) in
     ap (λ (ts : List ℕ). row_text t at x ++ ts) (rows_append t here xs ys ∙ ap (λ (n : ℕ). rows_text t here xs ++ rows_text t n ys) there)
     ∙ sym (append_assoc (row_text t at x) (rows_text t here xs) (rows_text t (at + length (bytes_in (x ∷ xs))) ys))
 
@@ -26,7 +28,8 @@ are_none t at held failed = record { rows = []; bytes_are = refl; lines_are = re
 
 -- rows, and then more
 pub are_both : (t : Tree) (at there : ℕ) (bs cs ks ls : List ℕ) (held mid new : Option (List ℕ)) (had mid_had has : Bool) (r : Result (Unit {0}) Failed)
-    → AreWritten t at bs ks held mid had mid_had (Ok tt) → there ≡ at + length bs → AreWritten t there cs ls mid new mid_had has r → AreWritten t at (bs ++ cs) (ks ++ ls) held new had has r
+    → AreWritten t at bs ks held mid had mid_had (Ok tt) → there ≡ at + length bs → AreWritten t there cs ls mid new mid_had has r
+    → AreWritten t at (bs ++ cs) (ks ++ ls) held new had has r
 are_both t at there bs cs ks ls held mid new had mid_had has r first place second =
     let xs = first.rows in
     let ys = second.rows in
@@ -67,22 +70,27 @@ rest_bytes bs = append-nil bs
 
 -- A line with its columns, and then rows of bytes.
 pub event_written : (t : Tree) (at there : ℕ) (bs cs text : List ℕ) (held h1 h2 new : Option (List ℕ)) (had f1 f2 has : Bool) (r : Result (Unit {0}) Failed)
-    → IsWritten held h1 had f1 (columns at bs) (Ok tt) → IsWritten h1 h2 f1 f2 (text ++ 0x0A ∷ []) (Ok tt) → there ≡ at + length bs → AreWritten t there cs [] h2 new f2 has r
+    → IsWritten held h1 had f1 (columns at bs) (Ok tt) → IsWritten h1 h2 f1 f2 (text ++ 0x0A ∷ []) (Ok tt) → there ≡ at + length bs
+    → AreWritten t there cs [] h2 new f2 has r
     → AreWritten t at (bs ++ cs) (text ++ 0x0A ∷ []) held new had has r
 event_written t at there bs cs text held h1 h2 new had f1 f2 has r first second place third =
     let line = text ++ 0x0A ∷ [] in
-    rw (sym (append-nil line)) (are_both t at there bs cs line [] held h2 new had f2 has r (line_row t at bs text held h2 had f2 (Ok tt) (is_both held h1 h2 had f1 f2 (columns at bs) line (Ok tt) first second)) place third)
+    rw (sym (append-nil line)) (are_both t at there bs cs line [] held h2 new had f2 has r
+    (line_row t at bs text held h2 had f2 (Ok tt) (is_both held h1 h2 had f1 f2 (columns at bs) line (Ok tt) first second)) place third)
 
 -- A front of a line with its columns.
 pub event_cut : (t : Tree) (at : ℕ) (bs cs text : List ℕ) (held new : Option (List ℕ)) (had has : Bool) (e : Failed)
     → IsWritten held new had has (columns at bs ++ (text ++ 0x0A ∷ [])) (Err e) → AreWritten t at (bs ++ cs) (text ++ 0x0A ∷ []) held new had has (Err e)
 event_cut t at bs cs text held new had has e h =
     let line = text ++ 0x0A ∷ [] in
-    rw (sym (append-nil line)) (are_cut t at bs cs line [] held new had has e (More cs ∷ []) (line_row t at bs text held new had has (Err e) h) (rest_bytes cs) refl)
+    rw (sym (append-nil line)) (are_cut t at bs cs line [] held new had has e (More cs ∷ [])
+    (line_row t at bs text held new had has (Err e) h) (rest_bytes cs) refl)
 
 -- one row of bytes more is put
-pub more_row : {T : Type 0} {written : T → Option (List ℕ)} {failed : T → Bool} {s u v : LineWriter T} (t : Tree) (start at : ℕ) (rows : List Row) (row : List ℕ) → at ≡ start + length (bytes_in rows)
-    → Writes written failed s (rows_text t start rows) u → Writes written failed u (cells at row ++ 0x0A ∷ []) v → Writes written failed s (rows_text t start (rows ++ More row ∷ [])) v
+pub more_row : {T : Type 0} {written : T → Option (List ℕ)} {failed : T → Bool} {s u v : LineWriter T} (t : Tree) (start at : ℕ)
+    (rows : List Row) (row : List ℕ) → at ≡ start + length (bytes_in rows)
+    → Writes written failed s (rows_text t start rows) u → Writes written failed u (cells at row ++ 0x0A ∷ []) v
+    → Writes written failed s (rows_text t start (rows ++ More row ∷ [])) v
 more_row t start at rows row place first second =
     let last = rows_append t start rows (More row ∷ []) in
     let there : rows_text t start rows ++ (cells at row ++ 0x0A ∷ []) ≡ rows_text t start (rows ++ More row ∷ []) =
@@ -92,7 +100,8 @@ more_row t start at rows row place first second =
     writes_same there (writes_both first second)
 
 -- its bytes are those of the rest that were taken
-pub more_bytes : (rows : List Row) (row others rest bytes : List ℕ) → row ++ others ≡ rest → bytes_in rows ++ rest ≡ bytes → bytes_in (rows ++ More row ∷ []) ++ others ≡ bytes
+pub more_bytes : (rows : List Row) (row others rest bytes : List ℕ) → row ++ others ≡ rest → bytes_in rows ++ rest ≡ bytes
+    → bytes_in (rows ++ More row ∷ []) ++ others ≡ bytes
 more_bytes rows row others rest bytes first all =
     ap (λ (xs : List ℕ). xs ++ others) (flat_map-append row_bytes rows (More row ∷ []) ∙ ap (λ (xs : List ℕ). bytes_in rows ++ xs) (append-nil row))
     ∙ append_assoc (bytes_in rows) row others ∙ ap (λ (xs : List ℕ). bytes_in rows ++ xs) first ∙ all
@@ -102,10 +111,12 @@ pub more_lines : (rows : List Row) (row : List ℕ) → lines_in rows ≡ [] →
 more_lines rows row none = flat_map-append row_line rows (More row ∷ []) ∙ ap (λ (xs : List ℕ). xs ++ []) none
 
 -- the place after it
-pub more_place : (rows : List Row) (row : List ℕ) (start at : ℕ) → at ≡ start + length (bytes_in rows) → at + length row ≡ start + length (bytes_in (rows ++ More row ∷ []))
+pub more_place : (rows : List Row) (row : List ℕ) (start at : ℕ) → at ≡ start + length (bytes_in rows)
+    → at + length row ≡ start + length (bytes_in (rows ++ More row ∷ []))
 more_place rows row start at place =
     let all : length (bytes_in (rows ++ More row ∷ [])) ≡ length (bytes_in rows) + length row =
-    ap (λ (xs : List ℕ). length xs) (flat_map-append row_bytes rows (More row ∷ []) ∙ ap (λ (xs : List ℕ). bytes_in rows ++ xs) (append-nil row)) ∙ length-append (bytes_in rows) row
+    ap (λ (xs : List ℕ). length xs) (flat_map-append row_bytes rows (More row ∷ [])
+    ∙ ap (λ (xs : List ℕ). bytes_in rows ++ xs) (append-nil row)) ∙ length-append (bytes_in rows) row
     in
     omega (arith, all, place)
 

@@ -19,7 +19,8 @@ keeps_target written failed s s' e (Ok u) took stopped = took.same_target
 keeps_target written failed s s' e (Err x) took stopped = stopped.same_target
 
 -- the line was written
-pub line_written : {T : Type 0} (written : T → Option (List ℕ)) (failed : T → Bool) (begun ended : T) (fronts : Bor Fronts) (s s' : LineSink T) (e : EventData) (r : Result (Unit {0}) Stop)
+pub line_written : {T : Type 0} (written : T → Option (List ℕ)) (failed : T → Bool) (begun ended : T) (fronts : Bor Fronts)
+    (s s' : LineSink T) (e : EventData) (r : Result (Unit {0}) Stop)
     → s.target.now ≡ begun → ended ≡ s'.target.now → s.templates.now ≡ (set_of fronts.now).now → OnOk r (TakesLine written failed s e s')
     → OnOk r (WritesLine written failed (record { fronts = fronts; target = begun }) e (record { fronts = fronts; target = ended }))
 line_written written failed begun ended fronts s s' e (Ok u) begins ends names h = record {
@@ -30,7 +31,8 @@ line_written written failed begun ended fronts s s' e (Ok u) begins ends names h
 line_written written failed begun ended fronts s s' e (Err x) begins ends names h = tt
 
 -- a front of it was written, and the target has failed
-pub line_failed : {T : Type 0} (written : T → Option (List ℕ)) (failed : T → Bool) (begun ended : T) (fronts : Bor Fronts) (s s' : LineSink T) (e : EventData) (r : Result (Unit {0}) Stop)
+pub line_failed : {T : Type 0} (written : T → Option (List ℕ)) (failed : T → Bool) (begun ended : T) (fronts : Bor Fronts)
+    (s s' : LineSink T) (e : EventData) (r : Result (Unit {0}) Stop)
     → s.target.now ≡ begun → ended ≡ s'.target.now → s.templates.now ≡ (set_of fronts.now).now → OnErr r (StopsInLine written failed s e s')
     → OnErr r (FailsInLine written failed (record { fronts = fronts; target = begun }) e (record { fronts = fronts; target = ended }))
 line_failed written failed begun ended fronts s s' e (Ok u) begins ends names h = tt

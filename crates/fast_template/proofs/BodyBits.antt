@@ -11,7 +11,8 @@ use Rattle.fast_tree.proofs.BodyNodes.{instruction_by}
 abbrev pub Uses : ℕ → Node → Type 0
 Uses bits v = (at : Label) (first : ℕ) (is : List Instruction) → bits ≡ bits_used (instruction_of at first is v.shape)
 
-bits_at : (nodes : List Node) (n bits : ℕ) (v : Node) → slice_get nodes n ≡ Some v → Uses bits v → bits ≡ bits_used (slice_index_or (instructions_from 0 nodes) (n - 0) no_instruction)
+bits_at : (nodes : List Node) (n bits : ℕ) (v : Node) → slice_get nodes n ≡ Some v → Uses bits v
+    → bits ≡ bits_used (slice_index_or (instructions_from 0 nodes) (n - 0) no_instruction)
 bits_at nodes n bits v found used =
     let less : n ≡ n - 0 = omega arith in
     used (label_of (n + 0) v) (suc (n + 0)) (instructions_from (suc (n + 0)) (drop (suc n) nodes))

@@ -61,7 +61,8 @@ mutual
       max-le (omega (arith, h, e)) (omega (arith, r, e))
 
 -- what holds of each template's nodes holds of the greatest
-greatest_within : (f : TemplateData → ℕ) (limit nodes : ℕ) (us : List TemplateData) → ((u : TemplateData) → length (body_labels u.body) ≤ nodes → f u ≤ limit) → length (template_labels us) ≤ nodes
+greatest_within : (f : TemplateData → ℕ) (limit nodes : ℕ) (us : List TemplateData)
+    → ((u : TemplateData) → length (body_labels u.body) ≤ nodes → f u ≤ limit) → length (template_labels us) ≤ nodes
     → greatest (map f us) ≤ limit
 greatest_within f limit nodes [] each few = omega arith
 greatest_within f limit nodes (u ∷ us) each few =
@@ -89,7 +90,8 @@ sum_cap_fits s l small =
     greatest_within (λ u. 2 + body_outer event_weights u.body + l.max_total * body_widest event_weights u.body) 18446744073709551615 65536 (tree_of s).templates
     (λ u h. one_fits u h) (few_labels s)
   where
-    one_fits : (u : TemplateData) → length (body_labels u.body) ≤ 65536 → 2 + body_outer event_weights u.body + l.max_total * body_widest event_weights u.body ≤ 18446744073709551615
+    one_fits : (u : TemplateData) → length (body_labels u.body) ≤ 65536
+        → 2 + body_outer event_weights u.body + l.max_total * body_widest event_weights u.body ≤ 18446744073709551615
     one_fits u h =
         let o = body_outer_within u.body in
         let w = body_widest_within u.body in

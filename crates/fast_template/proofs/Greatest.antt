@@ -40,7 +40,8 @@ greatest_next f ns ts p t found =
 -- the greatest so far, with the next template
 pub greatest_kept : (limit best : ℕ) (f : TemplateData → ℕ) (ns : List Node) (ts : List Template) (p : ℕ) (t : Template) → slice_get ts p ≡ Some t
     → max best (min (greatest_of f ns (drop p ts)) limit) ≡ min (greatest_of f ns ts) limit
-    → max (max best (min (f (template_data (instructions_from 0 ns) t)) limit)) (min (greatest_of f ns (drop (p + 1) ts)) limit) ≡ min (greatest_of f ns ts) limit
+    → max (max best (min (f (template_data (instructions_from 0 ns) t)) limit)) (min (greatest_of f ns (drop (p + 1) ts)) limit) ≡ min
+    (greatest_of f ns ts) limit
 greatest_kept limit best f ns ts p t found so_far =
     let x = f (template_data (instructions_from 0 ns) t) in
     let rest = greatest_of f ns (drop (p + 1) ts) in
@@ -51,4 +52,5 @@ greatest_kept limit best f ns ts p t found so_far =
 pub greatest_whole : (limit best : ℕ) (f : TemplateData → ℕ) (ns : List Node) (ts : List Template) (p : ℕ) → length ts ≤ p
     → max best (min (greatest_of f ns (drop p ts)) limit) ≡ min (greatest_of f ns ts) limit → best ≡ min (greatest_of f ns ts) limit
 greatest_whole limit best f ns ts p past so_far =
-    sym (max-zero best) ∙ ap (max best) (let e : 0 ≡ min 0 limit = sym (min-eq_left (omega arith)) in e) ∙ ap (λ us. max best (min (greatest_of f ns us) limit)) (sym (drop_all p ts past)) ∙ so_far
+    sym (max-zero best) ∙ ap (max best) (let e : 0 ≡ min 0 limit = sym (min-eq_left (omega arith)) in e)
+    ∙ ap (λ us. max best (min (greatest_of f ns us) limit)) (sym (drop_all p ts past)) ∙ so_far

@@ -1,6 +1,7 @@
 -- Sums, products and greatest numbers that stop at a limit.
 use Rattle.std.proofs.Common.{◌≡◌, ℕ, ◌≤◌, ◌+◌, ◌*◌, min, max, suc, zero, ap, sym, subst, ◌∙◌, arith, inl, inr}
-use Rattle.std.proofs.Math.Nat.{min-eq_left, min-eq_right, max-eq_left, max-eq_right, add_comm, mul_comm, mul-le-mul_left, min-le_left, min-le_right, le_trans, le_antisymm, max-le, le-max_left, le-max_right}
+use Rattle.std.proofs.Math.Nat.{min-eq_left, min-eq_right, max-eq_left, max-eq_right, add_comm, mul_comm, mul-le-mul_left, min-le_left}
+use Rattle.std.proofs.Math.Nat.{min-le_right, le_trans, le_antisymm, max-le, le-max_left, le-max_right}
 use Rattle.std.proofs.lemmas.Bool.{cases_lt}
 
 -- a sum whose first part had stopped

@@ -10,7 +10,8 @@ use Rattle.fast_notation.proofs.lists.Lists.{map_get_back}
 use Rattle.fast_notation.proofs.nodes.Walks.{instruction_of_node, instruction_of_later}
 
 -- the set's template behind the tree's
-pub template_behind : (s : Templates) (i : ℕ) (u : TemplateData) → slice_get (tree_of s).templates i ≡ Some u → (t : Template) × (slice_get (templates_of s) i ≡ Some t) × (u ≡ template_data (instructions_from 0 (nodes_of s)) t)
+pub template_behind : (s : Templates) (i : ℕ) (u : TemplateData) → slice_get (tree_of s).templates i ≡ Some u
+    → (t : Template) × (slice_get (templates_of s) i ≡ Some t) × (u ≡ template_data (instructions_from 0 (nodes_of s)) t)
 template_behind s i u found = map_get_back (template_data (instructions_from 0 (nodes_of s))) (templates_of s) i u found
 
 -- no two templates of a set have one identifier
@@ -24,4 +25,5 @@ distinct_ids s i j id a b at_i at_j id_of_a id_of_b =
 pub instruction_at : (s : Templates) (n : ℕ) (v : Node) (d : Instruction) → slice_get (nodes_of s) n ≡ Some v
     → slice_index_or (instructions_from 0 (nodes_of s)) n d ≡ instruction_of (label_of n v) 0 (instructions_from 0 (nodes_of s)) v.shape
 instruction_at s n v d found =
-    instruction_of_node n (nodes_of s) v d found ∙ instruction_of_later n (length (nodes_of s)) (nodes_of s) (label_of n v) v.shape (s.nodes_name_later_nodes n v found)
+    instruction_of_node n (nodes_of s) v d found ∙ instruction_of_later n (length (nodes_of s)) (nodes_of s) (label_of n v) v.shape
+    (s.nodes_name_later_nodes n v found)

@@ -13,7 +13,8 @@ two_set buf at a b room =
 
 -- the front of them, up to the LF
 pub value_cells : (buf digits more : List ℕ) (at a b c count room : ℕ) → at + 1 < length buf → drop (at + 1 + 1) buf ≡ digits ++ c ∷ more
-    → count ≡ suc (suc (length digits + 1)) → count ≤ room → take count (take room (drop at (slice_set (slice_set buf at a) (at + 1) b))) ≡ a ∷ b ∷ (digits ++ c ∷ [])
+    → count ≡ suc (suc (length digits + 1)) → count ≤ room
+    → take count (take room (drop at (slice_set (slice_set buf at a) (at + 1) b))) ≡ a ∷ b ∷ (digits ++ c ∷ [])
 value_cells buf digits more at a b c count room long written is few =
     take-take count room _ few
     ∙ ap (take count) (two_set buf at a b long ∙ ap (λ (xs : List ℕ). a ∷ b ∷ xs) written)

@@ -22,7 +22,8 @@ dropped_instructions own (suc k) (n ∷ ns) =
 
 -- the instruction of a node, by those behind it
 pub instruction_by : (own : ℕ) (ns : List Node) (k : ℕ) (v : Node) → slice_get ns k ≡ Some v
-    → slice_index_or (instructions_from own ns) k no_instruction ≡ instruction_of (label_of (k + own) v) (suc (k + own)) (instructions_from (suc (k + own)) (drop (suc k) ns)) v.shape
+    → slice_index_or (instructions_from own ns) k no_instruction ≡ instruction_of (label_of (k + own) v) (suc (k + own))
+    (instructions_from (suc (k + own)) (drop (suc k) ns)) v.shape
 instruction_by own [] k v h = absurd (cc h)
 instruction_by own (u ∷ ns) zero v h =
     let same : u ≡ v = cc h in
@@ -56,8 +57,10 @@ pub later_shape : (nodes : List Node) (n limit : ℕ) (at : Label) (s : Shape) �
     → instruction_of at (suc n) (instructions_from (suc n) (drop (suc n) nodes)) s ≡ instruction_among nodes at s
 later_shape nodes n limit at (Field f) h = refl
 later_shape nodes n limit at (Decimal e m) h = refl
-later_shape nodes n limit at (Group optional body) h = ap (group at optional) (later_body nodes (suc n) body.items (λ k below. let between = (h k below).0 in omega arith))
-later_shape nodes n limit at (Sequence length body) h = ap (sequence at (field_data length)) (later_body nodes (suc n) body.items (λ k below. let between = (h k below).0 in omega arith))
+later_shape nodes n limit at (Group optional body) h = ap (group at optional)
+    (later_body nodes (suc n) body.items (λ k below. let between = (h k below).0 in omega arith))
+later_shape nodes n limit at (Sequence length body) h =
+    ap (sequence at (field_data length)) (later_body nodes (suc n) body.items (λ k below. let between = (h k below).0 in omega arith))
 
 -- The instruction of a node of a set.
 pub node_instruction : (nodes : List Node) (n limit : ℕ) (v : Node) → slice_get nodes n ≡ Some v → AreBetween n limit (numbers_of v.shape)

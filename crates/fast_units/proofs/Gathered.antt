@@ -23,7 +23,8 @@ none_gathered w e = (subst HaveNoStop (sym e) (All-nil (λ b. b < 128)), subst (
 pub cut_gathered : (w v : List ℕ) → HaveNoStop w → length w < 10 → v ≡ w → HaveNoStop v × (length v < 10)
 cut_gathered w v o short e = (subst HaveNoStop (sym e) o, subst (λ (u : List ℕ). length u < 10) (sym e) short)
 
-pub gathered_all : (front rest after : List ℕ) (p : Progress (Unit {0})) → HaveNoStop front → HaveNoStop rest → length front + length rest < 10 → IsGathered front rest after p
+pub gathered_all : (front rest after : List ℕ) (p : Progress (Unit {0})) → HaveNoStop front → HaveNoStop rest
+    → length front + length rest < 10 → IsGathered front rest after p
     → (after ≡ front ++ rest) × HaveNoStop after × (length after < 10)
 gathered_all front rest after (Whole u n) o r few (some, within, entity, short, is) =
     absurd (no_entity (front ++ take n rest) (All-append (λ b. b < 128) front (take n rest) o (All-take (λ b. b < 128) n rest r)) entity)
@@ -37,14 +38,16 @@ gathered_all front rest after Cut o r few (none, short, is) =
 
 -- A byte below 128 has no stop bit.
 pub one_open : (w : List ℕ) → length w ≡ 1 → nat_le 128 (get_or w 0 0) ≡ false → HaveNoStop w
-one_open w one e = All-from_get_or (λ b. b < 128) w 0 (λ k h. let first : 0 ≡ k = omega (arith, one, h) in subst (λ (i : ℕ). get_or w i 0 < 128) first (leb-false 128 (get_or w 0 0) e))
+one_open w one e = All-from_get_or (λ b. b < 128) w 0 (λ k h. let first : 0 ≡ k = omega (arith, one, h) in
+    subst (λ (i : ℕ). get_or w i 0 < 128) first (leb-false 128 (get_or w 0 0) e))
 
 pub none_open : (w : List ℕ) (r : Option ℕ) → is_some r ≡ false → IfNone r ((k : ℕ) → k < length w → slice_index w k < 128) → HaveNoStop w
 none_open w None e h = All-from_get_or (λ b. b < 128) w 0 h
 none_open w (Some i) e h = absurd (cc e)
 
 -- One byte more.
-pub gathered_next : (front rest entity after : List ℕ) (i : ℕ) → entity ≡ front ++ take i rest → i < length rest → after ≡ entity ++ get_or rest i 0 ∷ [] → after ≡ front ++ take (i + 1) rest
+pub gathered_next : (front rest entity after : List ℕ) (i : ℕ) → entity ≡ front ++ take i rest → i < length rest
+    → after ≡ entity ++ get_or rest i 0 ∷ [] → after ≡ front ++ take (i + 1) rest
 gathered_next front rest entity after i e here is =
     is ∙ ap (λ w. w ++ get_or rest i 0 ∷ []) e ∙ append_assoc front (take i rest) (get_or rest i 0 ∷ []) ∙ ap (λ w. front ++ w) (sym (take_more rest i 0 here))
 

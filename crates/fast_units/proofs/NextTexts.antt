@@ -1,7 +1,8 @@
 -- What comes next of an ASCII text.
 use Rattle.std.proofs.Math.Nat.{min-le_left, min-le_right}
 use Rattle.std.proofs.Common.{refl, sym, ap, ◌∙◌, subst, arith, inl, inr, append_assoc, length-append, get_or}
-use Rattle.std.specs.Prelude.{min, not, slice_get, ◌==◌, ◌≡◌, ◌≢◌, ℕ, ◌+◌, ◌-◌, ◌<◌, ◌≤◌, Bool, true, false, List, [], ◌∷◌, ◌++◌, length, take, drop, Some, None}
+use Rattle.std.specs.Prelude.{min, not, slice_get, ◌==◌, ◌≡◌, ◌≢◌, ℕ, ◌+◌, ◌-◌, ◌<◌, ◌≤◌, Bool, true, false, List, [], ◌∷◌, ◌++◌, length}
+use Rattle.std.specs.Prelude.{take, drop, Some, None}
 use Rattle.std.proofs.lemmas.Bool.Decides.{nat_tests}
 use Rattle.std.proofs.lemmas.List.{length-take-le, take-append-drop, take_more, take-take, take_all, get_or-take}
 use Rattle.std.proofs.lemmas.List.Elements.{All-nil, All-append, All-push, All-from_get_or}
@@ -53,8 +54,10 @@ module _ (nullable : Bool) (room : ℕ) (front rest : List ℕ) (unstopped : Hav
   taken_begins n = begins_front (front ++ take n rest) (drop n rest) (subst BeginsWithCharacter (in_two front rest n) begins)
 
   -- A front of the rest is looked through, as far as there is room: it has a stop bit.
-  pub text_whole : (m last : ℕ) (more after : List ℕ) → m ≤ length rest → length front + m ≤ room → last < length (take m rest) → ((k : ℕ) → k < last → get_or (take m rest) k 0 < 128)
-      → 128 ≤ get_or (take m rest) last 0 → get_or rest last 0 < 256 → more ≡ front ++ take last (take m rest) → after ≡ more ++ (get_or (take m rest) last 0 - 128) ∷ []
+  pub text_whole : (m last : ℕ) (more after : List ℕ) → m ≤ length rest → length front + m ≤ room → last < length (take m rest)
+      → ((k : ℕ) → k < last → get_or (take m rest) k 0 < 128)
+      → 128 ≤ get_or (take m rest) last 0 → get_or rest last 0 < 256 → more ≡ front ++ take last (take m rest)
+      → after ≡ more ++ (get_or (take m rest) last 0 - 128) ∷ []
       → IsNextText nullable room front rest after (Whole true (last + 1))
   text_whole m last more after within short here before stop byte e i =
       let here_len : length (take m rest) ≡ m = length-take-le m rest within in
@@ -104,7 +107,8 @@ module _ (nullable : Bool) (room : ℕ) (front rest : List ℕ) (unstopped : Hav
       )
 
   -- It has none, and is all of the rest.
-  pub text_cut : (m : ℕ) (after : List ℕ) → length rest ≤ m → length front + length rest ≤ room → ((k : ℕ) → k < length (take m rest) → get_or (take m rest) k 0 < 128)
+  pub text_cut : (m : ℕ) (after : List ℕ) → length rest ≤ m → length front + length rest ≤ room
+      → ((k : ℕ) → k < length (take m rest) → get_or (take m rest) k 0 < 128)
       → after ≡ front ++ rest → IsNextText nullable room front rest after Cut
   text_cut m after all short none e =
       let len : length (front ++ rest) ≡ length front + length rest = length-append front rest in
@@ -112,7 +116,8 @@ module _ (nullable : Bool) (room : ℕ) (front rest : List ℕ) (unstopped : Hav
       ((inl (All-append (λ c. c < 128) front rest unstopped o, omega arith, no_zero (front ++ rest) begins), refl), e)
 
 -- A bare stop bit comes, or nothing.
-pub text_bare : (nullable : Bool) (room : ℕ) (front rest : List ℕ) (b : ℕ) → front ≡ [] → Some b ≡ slice_get rest 0 → b ≡ 0x80 → IsNextText nullable room front rest front (Whole (not nullable) 1)
+pub text_bare : (nullable : Bool) (room : ℕ) (front rest : List ℕ) (b : ℕ) → front ≡ [] → Some b ≡ slice_get rest 0 → b ≡ 0x80
+    → IsNextText nullable room front rest front (Whole (not nullable) 1)
 text_bare nullable room front [] b none e stop = absurd (cc e)
 text_bare false room front (c ∷ rest) b none e stop = let i : c ≡ 0x80 = cc in (omega arith, omega arith, rw (none, i) refl)
 text_bare true room front (c ∷ rest) b none e stop = let i : c ≡ 0x80 = cc in (omega arith, omega arith, (refl, rw (none, i) refl))
@@ -122,7 +127,8 @@ text_nothing nullable room front [] none e = rw none ((inl (All-nil (λ c. c < 1
 text_nothing nullable room front (c ∷ rest) none e = absurd (cc e)
 
 -- A zero is in hand only where NULL may be.
-pub zero_nullable : (nullable : Bool) (room : ℕ) (w v : List ℕ) → ascii_text nullable room w [] cut → false ≡ (length w == 0) → v ≡ w → get_or v 0 0 ≡ 0 → nullable ≡ true
+pub zero_nullable : (nullable : Bool) (room : ℕ) (w v : List ℕ) → ascii_text nullable room w [] cut → false ≡ (length w == 0) → v ≡ w
+    → get_or v 0 0 ≡ 0 → nullable ≡ true
 zero_nullable nullable room [] v h some e z = absurd (grind (arith, nat_tests))
 zero_nullable nullable room (b ∷ w) v (inl h, i) some e z = absurd (h.2 (w, ap (λ c. c ∷ w) (ap (λ u. get_or u 0 0) (sym e) ∙ z)))
 zero_nullable nullable room (b ∷ w) v (inr h, i) some e z = h.0
@@ -142,7 +148,8 @@ short_enough : (nullable : Bool) (room : ℕ) (v w : List ℕ) → SpellsAscii n
 short_enough nullable room [] w h = omega arith
 short_enough nullable room (c ∷ v) w h = h.2
 
-pub text_short : (nullable : Bool) (room : ℕ) (front rest after : List ℕ) (p : Progress Bool) → IsNextText nullable room front rest after p → (n : ℕ) → p ≡ Whole true n → length after ≤ room
+pub text_short : (nullable : Bool) (room : ℕ) (front rest after : List ℕ) (p : Progress Bool) → IsNextText nullable room front rest after p
+    → (n : ℕ) → p ≡ Whole true n → length after ≤ room
 text_short nullable room front rest after p h n e =
     let k : IsNextText nullable room front rest after (Whole true n) = subst (IsNextText nullable room front rest after) e h in
     short_enough nullable room after (front ++ take n rest) k.2
@@ -154,7 +161,8 @@ text_again nullable room front rest after p h e =
     (k.1, subst (λ (w : List ℕ). ascii_text nullable room w [] cut) (sym k.1) k.0)
 
 -- What stands in front of a stop bit has room, and the last character behind it.
-pub room_found : (text rest : List ℕ) (room held m last capacity : ℕ) → held ≡ length text → length text ≤ room → m ≡ min (length rest) (room - held) → last < length (take m rest) → room ≤ capacity
+pub room_found : (text rest : List ℕ) (room held m last capacity : ℕ) → held ≡ length text → length text ≤ room
+    → m ≡ min (length rest) (room - held) → last < length (take m rest) → room ≤ capacity
     → (length text + length (take last (take m rest)) ≤ capacity) × (length (text ++ take last (take m rest)) < capacity)
 room_found text rest room held m last capacity is short least here fits =
     let left = min-le_left (length rest) (room - held) in

@@ -1,6 +1,7 @@
 -- What the bytes in hand and those behind them make of a unit is what the unit's reader makes of them.
 use Rattle.std.proofs.Common.{refl, sym, ap, subst, arith, inl, inr, length-append}
-use Rattle.std.specs.Prelude.{◌≡◌, ℕ, zero, suc, ◌==◌, ◌<◌, Bool, true, false, List, [], ◌∷◌, ◌++◌, length, take, ℤ, pos, IsTrue, Option, Result, Ok, Err, IfOk, IfErr}
+use Rattle.std.specs.Prelude.{◌≡◌, ℕ, zero, suc, ◌==◌, ◌<◌, Bool, true, false, List, [], ◌∷◌, ◌++◌, length, take, ℤ, pos, IsTrue, Option}
+use Rattle.std.specs.Prelude.{Result, Ok, Err, IfOk, IfErr}
 use Rattle.std.proofs.lemmas.Bool.Decides.{nat_tests}
 use Rattle.std.proofs.lemmas.Int.{ints}
 use Rattle.fast_wire.specs.meaning.Entities.{IsEntity, IsOverlong, number}
@@ -85,7 +86,8 @@ module _ {T : Type 0} (meant : T → Option ℤ) (strict : Bool) (range : Range)
       → IsUnit (reader_of strict (integer range nullable outside give)) meant front rest (Whole x n)
   first_whole front rest x n e h = integer_unit front rest [] (Whole x n) (some_byte rest n h.1.form.entity, h.0, rw e h.1, refl)
 
-  pub first_wrong : (front rest : List ℕ) (fault : WireFault) (c : Code) (n : ℕ) → front ≡ [] → IsFirstInt meant strict range nullable (First.Wrong fault n) rest → 0 < n
+  pub first_wrong : (front rest : List ℕ) (fault : WireFault) (c : Code) (n : ℕ) → front ≡ []
+      → IsFirstInt meant strict range nullable (First.Wrong fault n) rest → 0 < n
       → WrongInt strict range nullable outside (take n rest) c → IsUnit (reader_of strict (integer range nullable outside give)) meant front rest (Wrong c n)
   first_wrong front rest fault c n e h some k = integer_unit front rest [] (Wrong c n) (some, h.0, rw e k)
 
@@ -102,23 +104,28 @@ refused_natural strict top w Wire.R6 h k = h refl
 refused_natural strict top w Wire.D2 h k = let (i, over) = k refl in (pos (number w), i, refl, λ m. absurd (omega (arith, ints, over, m.1)))
 
 -- Each fault of a read as it is named.
-pub refused_int : (strict : Bool) (range : Range) (nullable : Bool) (w : List ℕ) (fault : WireFault) → (fault ≡ Wire.R6 → IsTrue strict × IsOverlong (value range) w)
+pub refused_int : (strict : Bool) (range : Range) (nullable : Bool) (w : List ℕ) (fault : WireFault)
+    → (fault ≡ Wire.R6 → IsTrue strict × IsOverlong (value range) w)
     → (fault ≡ Wire.D2 → IsOutside strict range nullable w) → IsRefusedInt strict range nullable fault w
 refused_int strict range nullable w Wire.R6 h k = h refl
 refused_int strict range nullable w Wire.D2 h k = k refl
 
 pub refused_result : {T : Type 0} (strict : Bool) (low low' top top' : ℤ) (nullable : Bool) (w : List ℕ) (r : Result T WireFault) → low' ≡ low → top' ≡ top
-    → (r ≡ Err Wire.R6 → IsTrue strict × IsOverlong (value (signed_between low' top')) w) → (r ≡ Err Wire.D2 → IsOutside strict (signed_between low' top') nullable w)
+    → (r ≡ Err Wire.R6 → IsTrue strict × IsOverlong (value (signed_between low' top')) w)
+    → (r ≡ Err Wire.D2 → IsOutside strict (signed_between low' top') nullable w)
     → IfErr r (λ fault. IsRefusedInt strict (signed_between low top) nullable fault w)
 refused_result strict low low' top top' nullable w (Ok x) l t h k = tt
 refused_result strict low low' top top' nullable w (Err fault) l t h k =
-    let outside : fault ≡ Wire.D2 → IsOutside strict (signed_between low top) nullable w = λ i. subst (λ x. IsOutside strict (signed_between x top) nullable w) l (subst (λ x. IsOutside strict (signed_between low' x) nullable w) t (k (ap Err i))) in
+    let outside : fault ≡ Wire.D2 → IsOutside strict (signed_between low top) nullable w =
+    λ i. subst (λ x. IsOutside strict (signed_between x top) nullable w) l
+    (subst (λ x. IsOutside strict (signed_between low' x) nullable w) t (k (ap Err i))) in
     refused_int strict (signed_between low top) nullable w fault (λ i. h (ap Err i)) outside
 
 pub spelled_result : (strict : Bool) (low low' top top' : ℤ) (nullable : Bool) (w : List ℕ) (r : Result (Option ℤ) WireFault) → low' ≡ low → top' ≡ top
     → IfOk r (λ x. SpellsInt strict (signed_between low' top') nullable x w) → IfOk r (λ x. SpellsInt strict (signed_between low top) nullable x w)
 spelled_result strict low low' top top' nullable w r l t h =
-    subst (λ y. IfOk r (λ x. SpellsInt strict (signed_between y top) nullable x w)) l (subst (λ y. IfOk r (λ x. SpellsInt strict (signed_between low' y) nullable x w)) t h)
+    subst (λ y. IfOk r (λ x. SpellsInt strict (signed_between y top) nullable x w)) l
+    (subst (λ y. IfOk r (λ x. SpellsInt strict (signed_between low' y) nullable x w)) t h)
 
 -- Texts
 pub text_unit : (strict nullable : Bool) (room : ℕ) (front rest after : List ℕ) (p : Progress Bool) → IsNextText nullable room front rest after p

@@ -19,7 +19,9 @@ use Rattle.fast_stream.specs.meaning.Phrases.{cut}
 use Rattle.fast_stream.specs.meaning.Units.{ascii_text as ascii_phrase}
 use Rattle.fast_stream.specs.meaning.Grammar.{Grammar, give, integer, ascii_text, raw, presence_map, of_result}
 use Rattle.fast_stream.specs.device.GrammarReaders.{integer_reader, ascii_text_reader, raw_reader, presence_map_reader, reader_of}
-use Rattle.fast_stream.specs.meaning.Fields.{text, sized, sent_integer, sent_text, sent_decimal, decimal_from, integer_change, mantissa_change, decimal_change, part_change, text_change, item_in, item, change_in, sent, field_by, field_term}
+use Rattle.fast_stream.specs.meaning.Fields.{text, sized, sent_integer, sent_text, sent_decimal, decimal_from, integer_change}
+use Rattle.fast_stream.specs.meaning.Fields.{mantissa_change, decimal_change, part_change, text_change, item_in, item, change_in, sent}
+use Rattle.fast_stream.specs.meaning.Fields.{field_by, field_term}
 use Rattle.fast_stream.specs.device.Machine.{behind_kept, behind_part_size, stage_term}
 use Rattle.fast_units.specs.device.Stages.{term_behind, IsStageOf}
 use Rattle.fast_units.specs.device.UnitFronts.{IsAsciiFirst, IsNumberStage, IsBytesStage}
@@ -36,10 +38,13 @@ pub record IsOpen (w : List ℕ) : Type 0 where
   pub no_stop : HaveNoStop w
   pub short : length w < 10
 
-pub integer_open : {A : Type 0} (s : Bool) (range : Range) (nullable : Bool) (c : Code) (g : Option ℤ → Grammar A) (w : List ℕ) → IsOpen w → Stays (reader_of s (integer range nullable c g)) w
-integer_open s range nullable c g w h = runs_cut (integer_reader s range nullable c) (λ x. reader_of s (g x)) w ((reads-integer s range nullable c).takes w [] cut (h.no_stop, h.short, refl))
+pub integer_open : {A : Type 0} (s : Bool) (range : Range) (nullable : Bool) (c : Code) (g : Option ℤ → Grammar A) (w : List ℕ) → IsOpen w
+    → Stays (reader_of s (integer range nullable c g)) w
+integer_open s range nullable c g w h = runs_cut (integer_reader s range nullable c) (λ x. reader_of s (g x)) w
+    ((reads-integer s range nullable c).takes w [] cut (h.no_stop, h.short, refl))
 
-pub ascii_open : {A : Type 0} (s nullable : Bool) (room : ℕ) (g : Option (List ℕ) → Grammar A) (w : List ℕ) → ascii_phrase nullable room w [] cut → Stays (reader_of s (ascii_text nullable room g)) w
+pub ascii_open : {A : Type 0} (s nullable : Bool) (room : ℕ) (g : Option (List ℕ) → Grammar A) (w : List ℕ)
+    → ascii_phrase nullable room w [] cut → Stays (reader_of s (ascii_text nullable room g)) w
 ascii_open s nullable room g w h = runs_cut (ascii_text_reader nullable room) (λ x. reader_of s (g x)) w ((reads-ascii nullable room).takes w [] cut h)
 
 pub raw_open : {A : Type 0} (s : Bool) (n : ℕ) (g : List ℕ → Grammar A) (w : List ℕ) → length w < n → Stays (reader_of s (raw n g)) w
@@ -59,13 +64,15 @@ vector_open s Decimal nullable room w other h = integer_open s (unsigned_range 3
 vector_open s Unicode nullable room w other h = integer_open s (unsigned_range 32) nullable D2 (sized room) w h
 vector_open s Bytes nullable room w other h = integer_open s (unsigned_range 32) nullable D2 (sized room) w h
 
-text_open : (s : Bool) (kind : Kind) (nullable : Bool) (room : ℕ) (w : List ℕ) → kind ≡ Ascii → ascii_phrase nullable room w [] cut → Stays (reader_of s (text kind nullable room)) w
+text_open : (s : Bool) (kind : Kind) (nullable : Bool) (room : ℕ) (w : List ℕ) → kind ≡ Ascii → ascii_phrase nullable room w [] cut
+    → Stays (reader_of s (text kind nullable room)) w
 text_open s kind nullable room w e h = stays_as (ap (λ (k : Kind). reader_of s (text k nullable room)) e) (ascii_open s nullable room give w h)
 
 item_open : (s : Bool) (fam : Family) (l : Bounds) (f : FieldData) (w : List ℕ) → f.kind ≢ Ascii → IsOpen w → Stays (reader_of s (item_in fam l f)) w
 item_open s (integers range) l f w other h = integer_open s range f.optional D2 (λ x. give (sent_integer f.kind x)) w h
 item_open s decimals l f w other h = integer_open s exponent_range f.optional R1 decimal_from w h
-item_open s texts l f w other h = term_stays s (text f.kind f.optional l.max_text) (λ v. give (sent_text f.kind v)) (vector_open s f.kind f.optional l.max_text w other h)
+item_open s texts l f w other h = term_stays s (text f.kind f.optional l.max_text) (λ v. give (sent_text f.kind v))
+    (vector_open s f.kind f.optional l.max_text w other h)
 
 change_open : (s : Bool) (fam : Family) (l : Bounds) (f : FieldData) (p : PreviousData) (w : List ℕ) → IsOpen w → Stays (reader_of s (change_in fam l f p)) w
 change_open s (integers range) l f p w h = integer_open s delta_range f.optional D2 (integer_change f p) w h
@@ -75,7 +82,8 @@ change_open s texts l f p w h = integer_open s (signed_range 31) f.optional D7 (
 sent_open : (s : Bool) (l : Bounds) (f : FieldData) (p : PreviousData) (w : List ℕ) → f.kind ≢ Ascii → IsOpen w → Stays (reader_of s (sent l f p)) w
 sent_open s l f p w other h = term_stays s (item l f) (λ x. of_result (decide f p true x)) (item_open s (family f.kind) l f w other h)
 
-by_open : (s : Bool) (o : Operator) (l : Bounds) (f : FieldData) (p : PreviousData) (w : List ℕ) → (o ≢ Delta → f.kind ≢ Ascii) → o ≢ Constant → IsOpen w → Stays (reader_of s (field_by o true l f p)) w
+by_open : (s : Bool) (o : Operator) (l : Bounds) (f : FieldData) (p : PreviousData) (w : List ℕ) → (o ≢ Delta → f.kind ≢ Ascii)
+    → o ≢ Constant → IsOpen w → Stays (reader_of s (field_by o true l f p)) w
 by_open s no_operator l f p w other h i = sent_open s l f p w (other (λ e. absurd (cc e))) i
 by_open s Constant l f p w other h i = absurd (h refl)
 by_open s Default l f p w other h i = sent_open s l f p w (other (λ e. absurd (cc e))) i
@@ -85,16 +93,21 @@ by_open s Delta l f p w other h i = change_open s (family f.kind) l f p w i
 by_open s Tail l f p w other h i = sent_open s l f p w (other (λ e. absurd (cc e))) i
 
 -- A field that begins with an integer.
-pub field_open : (s : Bool) (l : Bounds) (f : FieldData) (p : PreviousData) (w : List ℕ) → ¬ (IsAsciiFirst f) → f.operator ≢ Constant → IsOpen w → Stays (reader_of s (field_term l f p true)) w
+pub field_open : (s : Bool) (l : Bounds) (f : FieldData) (p : PreviousData) (w : List ℕ) → ¬ (IsAsciiFirst f) → f.operator ≢ Constant
+    → IsOpen w → Stays (reader_of s (field_term l f p true)) w
 unfolding field_term
 field_open s l f p w other h i = by_open s f.operator l f p w (λ no_delta ascii. other (ascii, no_delta)) h i
 
-by_text : (s : Bool) (o : Operator) (l : Bounds) (f : FieldData) (p : PreviousData) (w : List ℕ) → f.kind ≡ Ascii → o ≢ Delta → o ≢ Constant → ascii_phrase f.optional l.max_text w [] cut → Stays (reader_of s (sent l f p)) w
+by_text : (s : Bool) (o : Operator) (l : Bounds) (f : FieldData) (p : PreviousData) (w : List ℕ) → f.kind ≡ Ascii → o ≢ Delta
+    → o ≢ Constant → ascii_phrase f.optional l.max_text w [] cut → Stays (reader_of s (sent l f p)) w
 by_text s o l f p w e h i j =
     term_stays s (item l f) (λ x. of_result (decide f p true x))
-    (stays_as (ap (λ (k : Kind). reader_of s (item_in (family k) l f)) e) (term_stays s (text f.kind f.optional l.max_text) (λ v. give (sent_text f.kind v)) (text_open s f.kind f.optional l.max_text w e j)))
+    (stays_as (ap (λ (k : Kind). reader_of s (item_in (family k) l f)) e)
+    (term_stays s (text f.kind f.optional l.max_text) (λ v. give (sent_text f.kind v))
+    (text_open s f.kind f.optional l.max_text w e j)))
 
-by_ascii : (s : Bool) (o : Operator) (l : Bounds) (f : FieldData) (p : PreviousData) (w : List ℕ) → f.kind ≡ Ascii → o ≢ Delta → o ≢ Constant → ascii_phrase f.optional l.max_text w [] cut → Stays (reader_of s (field_by o true l f p)) w
+by_ascii : (s : Bool) (o : Operator) (l : Bounds) (f : FieldData) (p : PreviousData) (w : List ℕ) → f.kind ≡ Ascii → o ≢ Delta
+    → o ≢ Constant → ascii_phrase f.optional l.max_text w [] cut → Stays (reader_of s (field_by o true l f p)) w
 by_ascii s no_operator l f p w e h i j = by_text s no_operator l f p w e h i j
 by_ascii s Constant l f p w e h i j = absurd (i refl)
 by_ascii s Default l f p w e h i j = by_text s Default l f p w e h i j
@@ -104,12 +117,14 @@ by_ascii s Delta l f p w e h i j = absurd (h refl)
 by_ascii s Tail l f p w e h i j = by_text s Tail l f p w e h i j
 
 -- A field that is an ASCII text.
-pub ascii_field_open : (s : Bool) (l : Bounds) (f : FieldData) (p : PreviousData) (w : List ℕ) → IsAsciiFirst f → f.operator ≢ Constant → ascii_phrase f.optional l.max_text w [] cut → Stays (reader_of s (field_term l f p true)) w
+pub ascii_field_open : (s : Bool) (l : Bounds) (f : FieldData) (p : PreviousData) (w : List ℕ) → IsAsciiFirst f → f.operator ≢ Constant
+    → ascii_phrase f.optional l.max_text w [] cut → Stays (reader_of s (field_term l f p true)) w
 unfolding field_term
 ascii_field_open s l f p w h i j = by_ascii s f.operator l f p w h.0 h.1 i j
 
 -- A later unit of a field that is an integer.
-pub number_open : (s : Bool) (l : Bounds) (f : FieldData) (p : PreviousData) (stage : Stage) (w : List ℕ) → IsStageOf l f p stage → IsNumberStage f stage → IsOpen w → Stays (reader_of s (term_behind l f p stage)) w
+pub number_open : (s : Bool) (l : Bounds) (f : FieldData) (p : PreviousData) (stage : Stage) (w : List ℕ) → IsStageOf l f p stage
+    → IsNumberStage f stage → IsOpen w → Stays (reader_of s (term_behind l f p stage)) w
 unfolding stage_term
 number_open s l f p (Mantissa e) w h i j = integer_open s (signed_range 63) false R1 (λ m. of_result (decide f p true (sent_decimal e m))) w j
 number_open s l f p (MantissaDelta e) w h i j = integer_open s delta_range false D2 (mantissa_change f p e) w j
@@ -120,14 +135,16 @@ number_open s l f p (Part k) w (fam, delta, (kept, e)) i j =
 number_open s l f p (PartVector k n) w h i j = absurd i
 
 -- A later unit of a field that is a text or a run of bytes.
-pub bytes_open : (s : Bool) (l : Bounds) (f : FieldData) (p : PreviousData) (stage : Stage) (w : List ℕ) → IsStageOf l f p stage → IsBytesStage l f p stage w → Stays (reader_of s (term_behind l f p stage)) w
+pub bytes_open : (s : Bool) (l : Bounds) (f : FieldData) (p : PreviousData) (stage : Stage) (w : List ℕ) → IsStageOf l f p stage
+    → IsBytesStage l f p stage w → Stays (reader_of s (term_behind l f p stage)) w
 unfolding stage_term
 bytes_open s l f p (Mantissa e) w h i = absurd i
 bytes_open s l f p (MantissaDelta e) w h i = absurd i
 bytes_open s l f p (Vector n) w h i = raw_open s n (λ v. of_result (decide f p true (sent_text f.kind (Some v)))) w i
 bytes_open s l f p (Part k) w h (ascii, (kept, e, open_front)) =
     stays_as (result_done s (subtraction_step f p k) (λ x. stage_term l f p (behind_kept x)) e)
-    (term_stays s (text f.kind false (l.max_text - kept_length kept)) (part_change f p kept) (text_open s f.kind false (l.max_text - kept_length kept) w ascii open_front))
+    (term_stays s (text f.kind false (l.max_text - kept_length kept)) (part_change f p kept)
+    (text_open s f.kind false (l.max_text - kept_length kept) w ascii open_front))
 bytes_open s l f p (PartVector k n) w (fam, other, delta, (kept, e, fits)) i =
     stays_as (result_done s (subtraction_step f p k) (λ x. stage_term l f p (behind_part_size x n)) e)
     (raw_open s n (λ v. part_change f p kept (Some v)) w i)

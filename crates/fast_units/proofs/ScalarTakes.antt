@@ -28,11 +28,13 @@ module _ (l : Limits) (r : Reader Outcome) (f : FieldData) (front rest : List �
   by_last Cut h = h
 
   -- A unit that was the last one of its field.
-  pub unit_settled : (p : Progress ValueSource) (q : Progress FieldStep) → q ≡ settled p → IsLastUnit r f front rest old new scratch p → IsFieldUnit l r f front rest old new scratch q
+  pub unit_settled : (p : Progress ValueSource) (q : Progress FieldStep) → q ≡ settled p → IsLastUnit r f front rest old new scratch p
+      → IsFieldUnit l r f front rest old new scratch q
   unit_settled p q e h = subst (λ x. IsFieldUnit l r f front rest old new scratch x) (sym e) (by_last p h)
 
   -- Of a decimal no run of bytes is next.
-  pub next_of_decimal : (p : Progress FieldStep) → family f.kind ≡ decimals → IsFieldUnit l r f front rest old new scratch p → IsNextOf (bounds l) f (previous_at f.entry old) p
+  pub next_of_decimal : (p : Progress FieldStep) → family f.kind ≡ decimals → IsFieldUnit l r f front rest old new scratch p
+      → IsNextOf (bounds l) f (previous_at f.entry old) p
   next_of_decimal (Whole (Settled source) n) d h = tt
   next_of_decimal (Whole (Next (Mantissa e)) n) d h = tt
   next_of_decimal (Whole (Next (MantissaDelta e)) n) d h = tt
@@ -50,7 +52,8 @@ stage_by l f p (Part k) h = tt
 stage_by l f p (PartVector k n) h = h
 
 -- A run of bytes that is next has some.
-pub next_of_text : (l : Bounds) (f : FieldData) (p : PreviousData) (q : Progress FieldStep) → ((step : FieldStep) (n : ℕ) → q ≡ Whole step n → HasBytes step) → IsNextOf l f p q
+pub next_of_text : (l : Bounds) (f : FieldData) (p : PreviousData) (q : Progress FieldStep)
+    → ((step : FieldStep) (n : ℕ) → q ≡ Whole step n → HasBytes step) → IsNextOf l f p q
 next_of_text l f p (Whole (Settled source) n) h = tt
 next_of_text l f p (Whole (Next stage) n) h = stage_by l f p stage (h (Next stage) n refl)
 next_of_text l f p (Wrong c n) h = tt
@@ -64,13 +67,15 @@ kept_entity front rest after (Wrong c n) whole cut = tt
 kept_entity front rest after Cut whole cut = cut refl
 
 -- the same of a unit that was the last one of its field
-pub kept_settled : (front rest after : List ℕ) (p : Progress ValueSource) (q : Progress FieldStep) → q ≡ settled p → ((x : ValueSource) (n : ℕ) → p ≡ Whole x n → after ≡ [])
+pub kept_settled : (front rest after : List ℕ) (p : Progress ValueSource) (q : Progress FieldStep) → q ≡ settled p
+    → ((x : ValueSource) (n : ℕ) → p ≡ Whole x n → after ≡ [])
     → IsKeptCut front rest after p → IsEntityKept front rest after q
 kept_settled front rest after (Whole x n) q e whole cut = subst (λ a. IsEntityKept front rest after a) (sym e) (whole x n refl)
 kept_settled front rest after (Wrong c n) q e whole cut = subst (λ a. IsEntityKept front rest after a) (sym e) tt
 kept_settled front rest after Cut q e whole cut = subst (λ a. IsEntityKept front rest after a) (sym e) (cut refl)
 
-pub next_settled : (l : Bounds) (f : FieldData) (before : PreviousData) (p : Progress ValueSource) (q : Progress FieldStep) → q ≡ settled p → IsNextOf l f before q
+pub next_settled : (l : Bounds) (f : FieldData) (before : PreviousData) (p : Progress ValueSource) (q : Progress FieldStep) → q ≡ settled p
+    → IsNextOf l f before q
 next_settled l f before (Whole x n) q e = subst (λ a. IsNextOf l f before a) (sym e) tt
 next_settled l f before (Wrong c n) q e = subst (λ a. IsNextOf l f before a) (sym e) tt
 next_settled l f before Cut q e = subst (λ a. IsNextOf l f before a) (sym e) tt
@@ -90,6 +95,7 @@ pub no_number : (f : FieldData) (stage : Stage) → ((n : ℕ) × (stage ≡ Vec
 no_number f stage (inl (n, e)) h = subst (λ s. IsNumberStage f s) e h
 no_number f stage (inr (k, n, e)) h = subst (λ s. IsNumberStage f s) e h
 
-pub no_bytes : (l : Bounds) (f : FieldData) (p : PreviousData) (stage : Stage) (front : List ℕ) → ((e : ℤ) × (stage ≡ Mantissa e)) ⊎ ((e : ℤ) × (stage ≡ MantissaDelta e)) → IsBytesStage l f p stage front → ⊥
+pub no_bytes : (l : Bounds) (f : FieldData) (p : PreviousData) (stage : Stage) (front : List ℕ)
+    → ((e : ℤ) × (stage ≡ Mantissa e)) ⊎ ((e : ℤ) × (stage ≡ MantissaDelta e)) → IsBytesStage l f p stage front → ⊥
 no_bytes l f p stage front (inl (e, i)) h = subst (λ s. IsBytesStage l f p s front) i h
 no_bytes l f p stage front (inr (e, i)) h = subst (λ s. IsBytesStage l f p s front) i h

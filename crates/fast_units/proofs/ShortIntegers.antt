@@ -33,7 +33,8 @@ pub no_texts : (f : FieldData) → family f.kind ≡ integers (range_of f.kind) 
 no_texts f e i = absurd (cc (e, i))
 
 -- An integer, or NULL, that is whole in the piece is the last unit of its field.
-pub item_unit : (k : Kind) (b strict : Bool) (l : Bounds) (f : FieldData) (rest : List ℕ) (old new : Dictionary) (scratch : List ℕ) (x : Option ℤ) (n : ℕ) (sent : Sent) (source : ValueSource)
+pub item_unit : (k : Kind) (b strict : Bool) (l : Bounds) (f : FieldData) (rest : List ℕ) (old new : Dictionary) (scratch : List ℕ)
+    (x : Option ℤ) (n : ℕ) (sent : Sent) (source : ValueSource)
     → k ≡ f.kind → b ≡ f.optional → family f.kind ≡ integers (range_of f.kind) → f.operator ≢ Op.Delta → f.operator ≢ Op.Constant
     → IsFirstInt (λ y. y) strict (range_of k) b (First.Whole x n) rest → sent ≡ sent_integer k x
     → IsDecided (decide f (previous_at f.entry old) true sent) f old new (Ok source)
@@ -41,7 +42,8 @@ pub item_unit : (k : Kind) (b strict : Bool) (l : Bounds) (f : FieldData) (rest 
 item_unit k b strict l f rest old new scratch x n sent source ke be is no_delta no_constant given as_kind decided =
     let p = previous_at f.entry old in
     let first : IsFirstInt (λ y. y) strict (range_of f.kind) f.optional (First.Whole x n) rest =
-    subst (λ (q : Kind). IsFirstInt (λ y. y) strict (range_of q) f.optional (First.Whole x n) rest) ke (subst (λ (q : Bool). IsFirstInt (λ y. y) strict (range_of k) q (First.Whole x n) rest) be given) in
+    subst (λ (q : Kind). IsFirstInt (λ y. y) strict (range_of q) f.optional (First.Whole x n) rest) ke
+    (subst (λ (q : Bool). IsFirstInt (λ y. y) strict (range_of k) q (First.Whole x n) rest) be given) in
     let same : sent ≡ sent_integer f.kind x = as_kind ∙ ap (λ q. sent_integer q x) ke in
     last_unit strict (integer (range_of f.kind) f.optional D2 give) (behind_integer l f p) (reader_of strict (field_term l f p true))
     (integer_here strict l f p (range_of f.kind) refl is no_delta no_constant)
@@ -50,14 +52,16 @@ item_unit k b strict l f rest old new scratch x n sent source ke be is no_delta 
     (first_whole (λ y. y) strict (range_of f.kind) f.optional D2 [] rest x n refl first)
 
 -- So is a delta, or NULL.
-pub delta_unit : (b strict : Bool) (l : Bounds) (f : FieldData) (rest : List ℕ) (old new : Dictionary) (scratch : List ℕ) (x : Option ℤ) (n : ℕ) (d : Result Outcome Code) (source : ValueSource)
+pub delta_unit : (b strict : Bool) (l : Bounds) (f : FieldData) (rest : List ℕ) (old new : Dictionary) (scratch : List ℕ) (x : Option ℤ)
+    (n : ℕ) (d : Result Outcome Code) (source : ValueSource)
     → b ≡ f.optional → family f.kind ≡ integers (range_of f.kind) → f.operator ≡ Op.Delta
     → IsFirstInt (λ y. y) strict delta_range b (First.Whole x n) rest → integer_change f (previous_at f.entry old) x ≡ of_result d
     → IsDecided d f old new (Ok source)
     → IsLastUnit (reader_of strict (field_term l f (previous_at f.entry old) true)) f [] rest old new scratch (Whole source n)
 delta_unit b strict l f rest old new scratch x n d source be is delta given same decided =
     let p = previous_at f.entry old in
-    let first : IsFirstInt (λ y. y) strict delta_range f.optional (First.Whole x n) rest = subst (λ (q : Bool). IsFirstInt (λ y. y) strict delta_range q (First.Whole x n) rest) be given in
+    let first : IsFirstInt (λ y. y) strict delta_range f.optional (First.Whole x n) rest =
+    subst (λ (q : Bool). IsFirstInt (λ y. y) strict delta_range q (First.Whole x n) rest) be given in
     last_unit strict (integer delta_range f.optional D2 give) (integer_change f p) (reader_of strict (field_term l f p true))
     (ap (reader_of strict) (integer_delta_field l f p (range_of f.kind) is delta))
     f [] rest old new scratch x n d (Ok source) same decided
@@ -69,9 +73,11 @@ keeps_none o o' same (inl e) = ap keeps_value (sym same ∙ e)
 keeps_none o o' same (inr e) = ap keeps_value (sym same ∙ e)
 
 -- A number, or NULL, that is sent under no delta, and is not kept.
-pub item_decided : {n : ℕ} {t : Terms} (f : FieldData) → Serves n t f → family f.kind ≡ integers (range_of f.kind) → (old new : Dictionary) (item : Option Number)
+pub item_decided : {n : ℕ} {t : Terms} (f : FieldData) → Serves n t f → family f.kind ≡ integers (range_of f.kind)
+    → (old new : Dictionary) (item : Option Number)
     → f.operator ≢ Op.Delta → f.operator ≢ Op.Constant → ((q : PreviousData) → new ≡ write_at f.entry q old)
     → IsDecided (decide f (previous_at f.entry old) true (sent_number item)) f old new (Ok (source_of item))
 item_decided f serves is old new None no_delta no_constant same = null_decided f serves (no_texts f is) old new no_delta no_constant (same empty)
 item_decided f serves is old new (Some x) no_delta no_constant same =
-    value_decided f serves (no_texts f is) old new (number_data x) (source_of (Some x)) no_delta no_constant (same (assigned f.kind (number_data x))) (item_value (Some x) f)
+    value_decided f serves (no_texts f is) old new (number_data x) (source_of (Some x)) no_delta no_constant
+    (same (assigned f.kind (number_data x))) (item_value (Some x) f)

@@ -1,6 +1,7 @@
 -- The units of text fields: the terms that they stand in front of, and what they make of the field.
 use Rattle.std.proofs.Common.{refl, sym, ap, ◌∙◌, subst, arith, inl, inr}
-use Rattle.std.specs.Prelude.{◌≡◌, ◌≢◌, ◌⊎◌, ℕ, ◌-◌, ◌<◌, ◌≤◌, Bool, true, false, nat_le, if◌then◌else◌, List, [], ◌++◌, length, take, ℤ, pos, Option, Some, Result, Ok, Err, IfOk}
+use Rattle.std.specs.Prelude.{◌≡◌, ◌≢◌, ◌⊎◌, ℕ, ◌-◌, ◌<◌, ◌≤◌, Bool, true, false, nat_le, if◌then◌else◌, List, [], ◌++◌, length, take, ℤ}
+use Rattle.std.specs.Prelude.{pos, Option, Some, Result, Ok, Err, IfOk}
 use Rattle.std.proofs.lemmas.Bool.Decides.{leb_tells}
 use Rattle.fast_wire.specs.meaning.Integers.{unsigned_range, signed_range}
 use Rattle.fast_value.specs.declared.codes.Code.{Code}
@@ -33,37 +34,51 @@ use Rattle.fast_units.specs.declared.stages.FieldStep.TheVariants.{Settled, Next
 use Rattle.fast_units.proofs.Turning.{turns_as, term_turns}
 
 -- A unit g in front of what is read behind it.
-module _ {X : Type 0} (s : Bool) (g : Grammar X) (k : X → Grammar Outcome) (r : Reader Outcome) (here : r ≡ reader_of s (g >>= k)) (f : FieldData) (front rest : List ℕ) (old new : Dictionary) (scratch : List ℕ) (n : ℕ) (x : X)
+module _ {X : Type 0} (s : Bool) (g : Grammar X) (k : X → Grammar Outcome) (r : Reader Outcome) (here : r ≡ reader_of s (g >>= k))
+    (f : FieldData) (front rest : List ℕ) (old new : Dictionary) (scratch : List ℕ) (n : ℕ) (x : X)
     (unit : (0 < n) × (n ≤ length rest) × Turns (reader_of s g) (front ++ take n rest) (Done x)) where
   turned : (q : Reader Outcome) → reader_of s (k x) ≡ q → Turns r (front ++ take n rest) q
   turned q e = turns_as here (sym e) (term_turns s g k unit.2)
 
-  gives : (source : ValueSource) (o : Outcome) → reader_of s (k x) ≡ Done o → IsSettled o f source old new scratch (take n rest) → GivesField r (front ++ take n rest) f source old new scratch (take n rest)
+  gives : (source : ValueSource) (o : Outcome) → reader_of s (k x) ≡ Done o → IsSettled o f source old new scratch (take n rest)
+      → GivesField r (front ++ take n rest) f source old new scratch (take n rest)
   gives source o e h = record { outcome = o; turns = turned (Done o) e; settled = h }
 
-  last_by : (d : Result Outcome Code) (answer : Result ValueSource Code) → k x ≡ of_result d → IsTextDecided d f old new scratch (take n rest) answer → IsLastUnit r f front rest old new scratch (answered answer n)
+  last_by : (d : Result Outcome Code) (answer : Result ValueSource Code) → k x ≡ of_result d
+      → IsTextDecided d f old new scratch (take n rest) answer → IsLastUnit r f front rest old new scratch (answered answer n)
   last_by d (Ok source) e (o, i, h) = (unit.0, unit.1, gives source o (ap (reader_of s) e ∙ ap (λ q. reader_of s (of_result q)) i) h)
   last_by d (Err c) e i = (unit.0, unit.1, turned (Stop c) (ap (reader_of s) e ∙ ap (λ q. reader_of s (of_result q)) i))
 
   -- The unit is the last one of the field.
-  pub text_last : (d : Result Outcome Code) (answer : Result ValueSource Code) (result : Progress ValueSource) → result ≡ answered answer n → k x ≡ of_result d → IsTextDecided d f old new scratch (take n rest) answer
+  pub text_last : (d : Result Outcome Code) (answer : Result ValueSource Code) (result : Progress ValueSource) → result ≡ answered answer n
+      → k x ≡ of_result d → IsTextDecided d f old new scratch (take n rest) answer
       → IsLastUnit r f front rest old new scratch result
   text_last d answer result a e h = subst (λ q. IsLastUnit r f front rest old new scratch q) (sym a) (last_by d answer e h)
 
 -- The same of a unit that another one may follow.
-module _ {X : Type 0} (l : Limits) (g : Grammar X) (k : X → Grammar Outcome) (r : Reader Outcome) (here : r ≡ reader_of l.strict (g >>= k)) (f : FieldData) (front rest : List ℕ) (old new : Dictionary) (scratch : List ℕ) (n : ℕ) (x : X)
+module _ {X : Type 0} (l : Limits) (g : Grammar X) (k : X → Grammar Outcome) (r : Reader Outcome) (here : r ≡ reader_of l.strict (g >>= k))
+    (f : FieldData) (front rest : List ℕ) (old new : Dictionary) (scratch : List ℕ) (n : ℕ) (x : X)
     (unit : (0 < n) × (n ≤ length rest) × Turns (reader_of l.strict g) (front ++ take n rest) (Done x)) where
-  next_by : (answer : Result FieldStep Code) → IsStepped l (reader_of l.strict (k x)) f old new scratch (take n rest) answer → IsFieldUnit l r f front rest old new scratch (answered answer n)
+  next_by : (answer : Result FieldStep Code) → IsStepped l (reader_of l.strict (k x)) f old new scratch (take n rest) answer
+      → IsFieldUnit l r f front rest old new scratch (answered answer n)
   next_by (Ok (Settled source)) (o, e, h) = (unit.0, unit.1, gives l.strict g k r here f front rest old new scratch n x unit source o e h)
   next_by (Ok (Next stage)) (same, is_stage, e) = (unit.0, unit.1, same, is_stage, turned l.strict g k r here f front rest old new scratch n x unit _ e)
   next_by (Err c) e = (unit.0, unit.1, turned l.strict g k r here f front rest old new scratch n x unit (Stop c) e)
 
-  pub text_next : (answer : Result FieldStep Code) (result : Progress FieldStep) → result ≡ answered answer n → IsStepped l (reader_of l.strict (k x)) f old new scratch (take n rest) answer
+  pub text_next : (answer : Result FieldStep Code) (result : Progress FieldStep) → result ≡ answered answer n
+      → IsStepped l (reader_of l.strict (k x)) f old new scratch (take n rest) answer
       → IsFieldUnit l r f front rest old new scratch result
   text_next answer result a h = subst (λ q. IsFieldUnit l r f front rest old new scratch q) (sym a) (next_by answer h)
 
-  pub text_settled : (d : Result Outcome Code) (source : ValueSource) → k x ≡ of_result d → IsTextDecided d f old new scratch (take n rest) (Ok source) → IsFieldUnit l r f front rest old new scratch (Whole (Settled source) n)
-  text_settled d source e (o, i, h) = (unit.0, unit.1, gives l.strict g k r here f front rest old new scratch n x unit source o (ap (reader_of l.strict) e ∙ ap (λ q. reader_of l.strict (of_result q)) i) h)
+  pub text_settled : (d : Result Outcome Code) (source : ValueSource) → k x ≡ of_result d
+      → IsTextDecided d f old new scratch (take n rest) (Ok source)
+      → IsFieldUnit l r f front rest old new scratch (Whole (Settled source) n)
+  text_settled d source e (o, i, h) = (
+    unit.0,
+    unit.1,
+    gives l.strict g k r here f front rest old new scratch n x unit source o
+        (ap (reader_of l.strict) e ∙ ap (λ q. reader_of l.strict (of_result q)) i) h,
+  )
 
 -- A kind of texts.
 pub ascii_is_text : (kind : Kind) → kind ≡ Ascii → family kind ≡ texts
@@ -102,13 +117,19 @@ module _ (l : Bounds) (f : FieldData) (p : PreviousData) where
   unfolding field_term
   item_field e i j = sent_by f.operator l f p i j ∙ ap (λ q. item_in q l f >>= (λ x. of_result (decide f p true x))) e
 
-  pub text_field : f.kind ≡ Ascii → f.operator ≢ Op.Delta → f.operator ≢ Op.Constant → field_term l f p true ≡ ascii_text f.optional l.max_text give >>= behind_text
-  text_field e i j = item_field (ascii_is_text f.kind e) i j ∙ ap (λ q. (q >>= (λ v. give (sent_text f.kind v))) >>= (λ x. of_result (decide f p true x))) (text_ascii f.kind f.optional l.max_text e)
+  pub text_field : f.kind ≡ Ascii → f.operator ≢ Op.Delta → f.operator ≢ Op.Constant
+      → field_term l f p true ≡ ascii_text f.optional l.max_text give >>= behind_text
+  text_field e i j = item_field (ascii_is_text f.kind e) i j
+      ∙ ap (λ q. (q >>= (λ v. give (sent_text f.kind v))) >>= (λ x. of_result (decide f p true x)))
+      (text_ascii f.kind f.optional l.max_text e)
 
-  pub size_field : family f.kind ≡ texts → f.kind ≢ Ascii → f.operator ≢ Op.Delta → f.operator ≢ Op.Constant → field_term l f p true ≡ integer (unsigned_range 32) f.optional D2 give >>= behind_size l f p
-  size_field e n i j = item_field e i j ∙ ap (λ q. (q >>= (λ v. give (sent_text f.kind v))) >>= (λ x. of_result (decide f p true x))) (text_vector f.kind f.optional l.max_text n)
+  pub size_field : family f.kind ≡ texts → f.kind ≢ Ascii → f.operator ≢ Op.Delta → f.operator ≢ Op.Constant
+      → field_term l f p true ≡ integer (unsigned_range 32) f.optional D2 give >>= behind_size l f p
+  size_field e n i j = item_field e i j ∙ ap (λ q. (q >>= (λ v. give (sent_text f.kind v))) >>= (λ x. of_result (decide f p true x)))
+      (text_vector f.kind f.optional l.max_text n)
 
-  pub subtraction_field : family f.kind ≡ texts → f.operator ≡ Op.Delta → field_term l f p true ≡ integer (signed_range 31) f.optional D7 give >>= text_change l f p
+  pub subtraction_field : family f.kind ≡ texts → f.operator ≡ Op.Delta
+      → field_term l f p true ≡ integer (signed_range 31) f.optional D7 give >>= text_change l f p
   unfolding field_term
   subtraction_field e i = ap (λ o. field_by o true l f p) i ∙ ap (λ q. change_in q l f p) e
 
@@ -120,26 +141,32 @@ module _ (l : Bounds) (f : FieldData) (p : PreviousData) where
   unfolding stage_term
   part_here k = refl
 
-  kept_field : (k : ℤ) (kept : Kept) → subtraction_step f p k ≡ Ok kept → term_behind l f p (Part k) ≡ text f.kind false (l.max_text - kept_length kept) >>= part_change f p kept
+  kept_field : (k : ℤ) (kept : Kept) → subtraction_step f p k ≡ Ok kept
+      → term_behind l f p (Part k) ≡ text f.kind false (l.max_text - kept_length kept) >>= part_change f p kept
   unfolding stage_term
   kept_field k kept e = rw e refl
 
-  pub part_field : (k : ℤ) (kept : Kept) → subtraction_step f p k ≡ Ok kept → f.kind ≡ Ascii → term_behind l f p (Part k) ≡ ascii_text false (l.max_text - kept_length kept) give >>= part_change f p kept
+  pub part_field : (k : ℤ) (kept : Kept) → subtraction_step f p k ≡ Ok kept → f.kind ≡ Ascii
+      → term_behind l f p (Part k) ≡ ascii_text false (l.max_text - kept_length kept) give >>= part_change f p kept
   part_field k kept e i = kept_field k kept e ∙ ap (λ q. q >>= part_change f p kept) (text_ascii f.kind false (l.max_text - kept_length kept) i)
 
-  pub part_size_field : (k : ℤ) (kept : Kept) → subtraction_step f p k ≡ Ok kept → f.kind ≢ Ascii → term_behind l f p (Part k) ≡ integer (unsigned_range 32) false D2 give >>= behind_part_size l f p kept
+  pub part_size_field : (k : ℤ) (kept : Kept) → subtraction_step f p k ≡ Ok kept → f.kind ≢ Ascii
+      → term_behind l f p (Part k) ≡ integer (unsigned_range 32) false D2 give >>= behind_part_size l f p kept
   part_size_field k kept e n = kept_field k kept e ∙ ap (λ q. q >>= part_change f p kept) (text_vector f.kind false (l.max_text - kept_length kept) n)
 
-  pub part_vector_field : (k : ℤ) (kept : Kept) (n : ℕ) → subtraction_step f p k ≡ Ok kept → term_behind l f p (PartVector k n) ≡ raw n give >>= (λ v. part_change f p kept (Some v))
+  pub part_vector_field : (k : ℤ) (kept : Kept) (n : ℕ) → subtraction_step f p k ≡ Ok kept
+      → term_behind l f p (PartVector k n) ≡ raw n give >>= (λ v. part_change f p kept (Some v))
   unfolding stage_term
   part_vector_field k kept n e = rw e refl
 
   -- Behind a size: there is room for the bytes, or there is not.
-  pub size_fits : (n size : ℕ) → (if nat_le n l.max_text then Ok n else Err L1) ≡ Ok size → (size ≡ n) × (n ≤ l.max_text) × (behind_size l f p (Some (pos n)) ≡ term_behind l f p (Vector n))
+  pub size_fits : (n size : ℕ) → (if nat_le n l.max_text then Ok n else Err L1) ≡ Ok size
+      → (size ≡ n) × (n ≤ l.max_text) × (behind_size l f p (Some (pos n)) ≡ term_behind l f p (Vector n))
   unfolding stage_term
   size_fits n size = by (leb_tells n l.max_text)
     where
-      by : ((nat_le n l.max_text ≡ true) × (n ≤ l.max_text)) ⊎ ((nat_le n l.max_text ≡ false) × (l.max_text < n)) → (if nat_le n l.max_text then Ok n else Err L1) ≡ Ok size
+      by : ((nat_le n l.max_text ≡ true) × (n ≤ l.max_text)) ⊎ ((nat_le n l.max_text ≡ false) × (l.max_text < n))
+          → (if nat_le n l.max_text then Ok n else Err L1) ≡ Ok size
           → (size ≡ n) × (n ≤ l.max_text) × (behind_size l f p (Some (pos n)) ≡ stage_term l f p (size_stage n))
       by (inl t) e = let i : Ok n ≡ Ok size = rw t.0 at e in let j : n ≡ size = cc i in (sym j, t.1, rw t.0 refl)
       by (inr t) e = let i : Err L1 ≡ Ok size = rw t.0 at e in absurd (cc i)
@@ -147,7 +174,8 @@ module _ (l : Bounds) (f : FieldData) (p : PreviousData) where
   pub size_wrong : (n : ℕ) (c : Code) → (if nat_le n l.max_text then Ok n else Err L1) ≡ Err c → behind_size l f p (Some (pos n)) ≡ fault c
   size_wrong n c = by (leb_tells n l.max_text)
     where
-      by : ((nat_le n l.max_text ≡ true) × (n ≤ l.max_text)) ⊎ ((nat_le n l.max_text ≡ false) × (l.max_text < n)) → (if nat_le n l.max_text then Ok n else Err L1) ≡ Err c
+      by : ((nat_le n l.max_text ≡ true) × (n ≤ l.max_text)) ⊎ ((nat_le n l.max_text ≡ false) × (l.max_text < n))
+          → (if nat_le n l.max_text then Ok n else Err L1) ≡ Err c
           → behind_size l f p (Some (pos n)) ≡ fault c
       by (inl t) e = let i : Ok n ≡ Err c = rw t.0 at e in absurd (cc i)
       by (inr t) e = let i : Err L1 ≡ Err c = rw t.0 at e in let j : L1 ≡ c = cc i in rw t.0 (ap fault j)
@@ -158,16 +186,19 @@ module _ (l : Bounds) (f : FieldData) (p : PreviousData) where
     unfolding stage_term
     part_size_fits n size = by (leb_tells n (l.max_text - kept_length kept))
       where
-        by : ((nat_le n (l.max_text - kept_length kept) ≡ true) × (n ≤ l.max_text - kept_length kept)) ⊎ ((nat_le n (l.max_text - kept_length kept) ≡ false) × (l.max_text - kept_length kept < n))
+        by : ((nat_le n (l.max_text - kept_length kept) ≡ true) × (n ≤ l.max_text - kept_length kept))
+            ⊎ ((nat_le n (l.max_text - kept_length kept) ≡ false) × (l.max_text - kept_length kept < n))
             → (if nat_le n (l.max_text - kept_length kept) then Ok n else Err L1) ≡ Ok size
             → (size ≡ n) × (n ≤ l.max_text - kept_length kept) × (behind_part_size l f p kept (Some (pos n)) ≡ stage_term l f p (part_stage kept n))
         by (inl t) e = let i : Ok n ≡ Ok size = rw t.0 at e in let j : n ≡ size = cc i in (sym j, t.1, rw t.0 refl)
         by (inr t) e = let i : Err L1 ≡ Ok size = rw t.0 at e in absurd (cc i)
 
-    pub part_size_wrong : (n : ℕ) (c : Code) → (if nat_le n (l.max_text - kept_length kept) then Ok n else Err L1) ≡ Err c → behind_part_size l f p kept (Some (pos n)) ≡ fault c
+    pub part_size_wrong : (n : ℕ) (c : Code) → (if nat_le n (l.max_text - kept_length kept) then Ok n else Err L1) ≡ Err c
+        → behind_part_size l f p kept (Some (pos n)) ≡ fault c
     part_size_wrong n c = by (leb_tells n (l.max_text - kept_length kept))
       where
-        by : ((nat_le n (l.max_text - kept_length kept) ≡ true) × (n ≤ l.max_text - kept_length kept)) ⊎ ((nat_le n (l.max_text - kept_length kept) ≡ false) × (l.max_text - kept_length kept < n))
+        by : ((nat_le n (l.max_text - kept_length kept) ≡ true) × (n ≤ l.max_text - kept_length kept))
+            ⊎ ((nat_le n (l.max_text - kept_length kept) ≡ false) × (l.max_text - kept_length kept < n))
             → (if nat_le n (l.max_text - kept_length kept) then Ok n else Err L1) ≡ Err c → behind_part_size l f p kept (Some (pos n)) ≡ fault c
         by (inl t) e = let i : Ok n ≡ Err c = rw t.0 at e in absurd (cc i)
         by (inr t) e = let i : Err L1 ≡ Err c = rw t.0 at e in let j : L1 ≡ c = cc i in rw t.0 (ap fault j)
@@ -181,7 +212,8 @@ pub one_kept : {r : Result Kept Code} (a b : Kept) → r ≡ Ok a → r ≡ Ok b
 one_kept {r} a b h k = let e : Ok a ≡ Ok b = sym h ∙ k in cc e
 
 -- What is decided with no unit more.
-pub stepped : (l : Limits) (r : Reader Outcome) (f : FieldData) (old new : Dictionary) (scratch piece : List ℕ) (d : Result Outcome Code) (answer : Result ValueSource Code) → r ≡ reader_of l.strict (of_result d)
+pub stepped : (l : Limits) (r : Reader Outcome) (f : FieldData) (old new : Dictionary) (scratch piece : List ℕ) (d : Result Outcome Code)
+    (answer : Result ValueSource Code) → r ≡ reader_of l.strict (of_result d)
     → IsTextDecided d f old new scratch piece answer → IsStepped l r f old new scratch piece (settled answer)
 stepped l r f old new scratch piece d (Ok source) e (o, i, h) = (o, e ∙ ap (λ q. reader_of l.strict (of_result q)) i, h)
 stepped l r f old new scratch piece d (Err c) e i = e ∙ ap (λ q. reader_of l.strict (of_result q)) i
@@ -195,7 +227,8 @@ size_none s l f p n size e z =
     let none : n ≡ 0 = omega (arith, same, z) in
     ap (reader_of s) (next ∙ ap (λ m. stage_term l f p (size_stage m)) none)
 
-pub part_size_none : (s : Bool) (l : Bounds) (f : FieldData) (p : PreviousData) (kept : Kept) (n size : ℕ) → (if nat_le n (l.max_text - kept_length kept) then Ok n else Err L1) ≡ Ok size → size ≤ 0
+pub part_size_none : (s : Bool) (l : Bounds) (f : FieldData) (p : PreviousData) (kept : Kept) (n size : ℕ)
+    → (if nat_le n (l.max_text - kept_length kept) then Ok n else Err L1) ≡ Ok size → size ≤ 0
     → reader_of s (behind_part_size l f p kept (Some (pos n))) ≡ reader_of s (of_result (text_step f kept []))
 unfolding stage_term
 part_size_none s l f p kept n size e z =
@@ -204,12 +237,14 @@ part_size_none s l f p kept n size e z =
     ap (reader_of s) (next ∙ ap (λ m. stage_term l f p (part_stage kept m)) none)
 
 -- The part of a delta's vector, behind its size.
-pub part_vector_here : (l : Bounds) (f : FieldData) (p : PreviousData) (kept : Kept) (k : ℤ) (n : ℕ) → subtraction_step f p k ≡ Ok kept → stage_term l f p (part_stage kept n) ≡ term_behind l f p (PartVector k n)
+pub part_vector_here : (l : Bounds) (f : FieldData) (p : PreviousData) (kept : Kept) (k : ℤ) (n : ℕ) → subtraction_step f p k ≡ Ok kept
+    → stage_term l f p (part_stage kept n) ≡ term_behind l f p (PartVector k n)
 part_vector_here l f p kept k n e = sym (ap (λ r. of_result r >>= (λ q. stage_term l f p (part_stage q n))) e)
 
 -- The last unit of a field, and what is decided behind it.
 module _ (f : FieldData) (old new : Dictionary) (scratch piece : List ℕ) (source : ValueSource) where
-  pub gives_unit : {X : Type 0} (s : Bool) (g : Grammar X) (k : X → Grammar Outcome) (r : Reader Outcome) (w : List ℕ) (x : X) (d : Result Outcome Code) → r ≡ reader_of s (g >>= k) → Turns (reader_of s g) w (Done x)
+  pub gives_unit : {X : Type 0} (s : Bool) (g : Grammar X) (k : X → Grammar Outcome) (r : Reader Outcome) (w : List ℕ) (x : X)
+      (d : Result Outcome Code) → r ≡ reader_of s (g >>= k) → Turns (reader_of s g) w (Done x)
       → k x ≡ of_result d → IsTextDecided d f old new scratch piece (Ok source) → GivesField r w f source old new scratch piece
   gives_unit s g k r w x d here t e (o, i, h) = record {
     outcome = o;

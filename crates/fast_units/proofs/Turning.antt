@@ -68,10 +68,12 @@ turns_run {r = r} {u = u} {v = v} h j = record {
 }
 
 -- The same of the readers of terms: what a term reads, it reads in front of another one.
-pub term_turns : {A B : Type 0} (s : Bool) (g : Grammar A) (k : A → Grammar B) {w : List ℕ} {a : A} → Turns (reader_of s g) w (Done a) → Turns (reader_of s (g >>= k)) w (reader_of s (k a))
+pub term_turns : {A B : Type 0} (s : Bool) (g : Grammar A) (k : A → Grammar B) {w : List ℕ} {a : A} → Turns (reader_of s g) w (Done a)
+    → Turns (reader_of s (g >>= k)) w (reader_of s (k a))
 term_turns s g k h = turns_as (reader-then s g k) refl (turns_done (λ x. reader_of s (k x)) h)
 
-pub term_stops : {A B : Type 0} (s : Bool) (g : Grammar A) (k : A → Grammar B) {w : List ℕ} {c : Code} → Turns (reader_of s g) w (Stop c) → Turns (reader_of s (g >>= k)) w (Stop c)
+pub term_stops : {A B : Type 0} (s : Bool) (g : Grammar A) (k : A → Grammar B) {w : List ℕ} {c : Code} → Turns (reader_of s g) w (Stop c)
+    → Turns (reader_of s (g >>= k)) w (Stop c)
 term_stops s g k h = turns_as (reader-then s g k) refl (turns_stop (λ x. reader_of s (k x)) h)
 
 pub term_stays : {A B : Type 0} (s : Bool) (g : Grammar A) (k : A → Grammar B) {w : List ℕ} → Stays (reader_of s g) w → Stays (reader_of s (g >>= k)) w

@@ -13,18 +13,21 @@ use Rattle.clap.proofs.OnLiterals.{clap_on_literals}
 use Rattle.fast_usage.specs.meaning.Commands.{MakesApp, fastcat_app, with_options}
 
 -- one more argument
-pub makes_rule : (app : App) (r : Rule) (old new : Command) (a : Arg) → MakesApp app old → rule_of a ≡ r → a.global ≡ false → AddsArg old a new → MakesApp (with_rule app r) new
+pub makes_rule : (app : App) (r : Rule) (old new : Command) (a : Arg) → MakesApp app old → rule_of a ≡ r → a.global ≡ false
+    → AddsArg old a new → MakesApp (with_rule app r) new
 makes_rule app r old new a before rule local adds = record {
   is = adds.shape local ∙ ap₂ with_rule before.is rule;
   local = adds.globals ∙ ap₂ (λ x y. x || y) before.local local;
 }
 
 -- one more argument leaves a command without global ones
-pub still_local : (old new : Command) (a : Arg) → (out-Command old).has_globals ≡ false → a.global ≡ false → AddsArg old a new → (out-Command new).has_globals ≡ false
+pub still_local : (old new : Command) (a : Arg) → (out-Command old).has_globals ≡ false → a.global ≡ false → AddsArg old a new
+    → (out-Command new).has_globals ≡ false
 still_local old new a before local adds = adds.globals ∙ ap₂ (λ x y. x || y) before local
 
 -- one more subcommand
-pub makes_command : (app sub : App) (old given new : Command) → MakesApp app old → MakesApp sub given → AddsSubcommand old given new → MakesApp (with_subcommand app sub.top) new
+pub makes_command : (app sub : App) (old given new : Command) → MakesApp app old → MakesApp sub given → AddsSubcommand old given new
+    → MakesApp (with_subcommand app sub.top) new
 makes_command app sub old given new before inner adds = record {
   is = adds.shape inner.local ∙ ap₂ with_subcommand before.is (ap (λ (a : App). a.top) inner.is);
   local = adds.globals ∙ ap₂ (λ x y. x || y) before.local inner.local;

@@ -35,6 +35,7 @@ digits_value-below ds digits short =
     omega (arith, small, p)
 
 -- one digit more is read
-pub digits_value-more : (ds : List ℕ) (i d n : ℕ) → i < length ds → n ≡ digits_value (take i ds) → n * 10 + (get_or ds i d - 0x30) ≡ digits_value (take (i + 1) ds)
+pub digits_value-more : (ds : List ℕ) (i d n : ℕ) → i < length ds → n ≡ digits_value (take i ds)
+    → n * 10 + (get_or ds i d - 0x30) ≡ digits_value (take (i + 1) ds)
 digits_value-more ds i d n inside read =
     ap (λ m. m * 10 + (get_or ds i d - 0x30)) read ∙ sym (ap digits_value (take_more ds i d inside) ∙ digits_value-push (take i ds) (get_or ds i d))

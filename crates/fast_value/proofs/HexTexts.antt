@@ -62,8 +62,11 @@ hex_is_pairs i (c ∷ d ∷ text) v h =
     let high : value_at c i ≡ Ok h.0 = ap (digit_or_error c i) (digit_reads c h.0 h.3) in
     let low : value_at d (i + 1) ≡ Ok h.1 = ap (digit_or_error d (i + 1)) (digit_reads d h.1 h.4) in
     let pair : pair_value c d i ≡ Ok (h.0 * 16 + h.1) = rw (high, low) refl in
-    let same : h.0 * 16 + h.1 ≡ 16 * h.0 + h.1 = omega arith in
-    (omega (arith, even), decode_pairs-ok_pair i c d (h.0 * 16 + h.1) text pair ∙ ap (cons_byte (h.0 * 16 + h.1)) ih.1 ∙ ap (λ b. Ok (b ∷ h.2)) same ∙ ap Ok (sym h.6))
+    let same : h.0 * 16 + h.1 ≡ 16 * h.0 + h.1 = omega arith in (
+      omega (arith, even),
+      decode_pairs-ok_pair i c d (h.0 * 16 + h.1) text pair ∙ ap (cons_byte (h.0 * 16 + h.1)) ih.1
+          ∙ ap (λ b. Ok (b ∷ h.2)) same ∙ ap Ok (sym h.6),
+    )
 
 -- what is decoded is what the digits mean
 pub decoded_is_hex : (text v : List ℕ) → decode_of text ≡ Ok v → IsHex text v

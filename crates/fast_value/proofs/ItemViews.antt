@@ -24,7 +24,8 @@ row_mapped [] = refl
 row_mapped (None ∷ xs) = ap absent (row_mapped xs)
 row_mapped (Some x ∷ xs) = ap (present (item_data x)) (row_mapped xs)
 
-rows_mapped : (rs : List (Vec (Option Item) Global)) → elements_of (map (mapped {H = Global} (former-Item-Sequence-0-at-1.map Item ItemData item_data)) rs) ≡ elements_data rs
+rows_mapped : (rs : List (Vec (Option Item) Global)) → elements_of
+    (map (mapped {H = Global} (former-Item-Sequence-0-at-1.map Item ItemData item_data)) rs) ≡ elements_data rs
 rows_mapped [] = refl
 rows_mapped (r ∷ rs) =
     ap (λ s. element s (elements_of (map (mapped {H = Global} (former-Item-Sequence-0-at-1.map Item ItemData item_data)) rs))) (row_mapped r.items)

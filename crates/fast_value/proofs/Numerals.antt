@@ -1,5 +1,6 @@
 -- Integers as decimal digits: one text, one integer; and where an `e` stands.
-use Rattle.std.proofs.Common.{◌≡◌, ◌≢◌, ℕ, suc, zero, ◌+◌, ◌<◌, inl, inr, List, [], ◌∷◌, ◌++◌, length, take, drop, ap, sym, ◌∙◌, subst, arith, length-append, drop-cons, drop_at, append_assoc}
+use Rattle.std.proofs.Common.{◌≡◌, ◌≢◌, ℕ, suc, zero, ◌+◌, ◌<◌, inl, inr, List, [], ◌∷◌, ◌++◌, length, take, drop, ap, sym, ◌∙◌, subst}
+use Rattle.std.proofs.Common.{arith, length-append, drop-cons, drop_at, append_assoc}
 use Rattle.std.specs.Prelude.{ℤ, pos, neg_ℤ, slice_index}
 use Rattle.std.specs.Char.{IsAsciiDigit}
 use Rattle.std.proofs.Math.Seq.{get_or-append_seam}
@@ -74,7 +75,8 @@ back_is text front back k split long =
     sym (drop_at (front ++ 0x65 ∷ []) back (k + 1) s) ∙ ap (drop (k + 1)) (append_assoc front (0x65 ∷ []) back) ∙ sym (ap (drop (k + 1)) split)
 
 -- a text without `e` is a decimal only as an integer
-pub decimal_without_e : (text : List ℕ) (e m : ℤ) → ((j : ℕ) → j < length text → slice_index text j ≢ 0x65) → IsDecimal text e m → IsInteger (signed_range 63) text m
+pub decimal_without_e : (text : List ℕ) (e m : ℤ) → ((j : ℕ) → j < length text → slice_index text j ≢ 0x65) → IsDecimal text e m
+    → IsInteger (signed_range 63) text m
 decimal_without_e text e m free (inl h) = h.0
 decimal_without_e text e m free (inr h) =
     let front = h.0 in
@@ -87,8 +89,10 @@ pub decimal_parts : (text : List ℕ) (k : ℕ) (e m : ℤ) → k < length text 
     → IsDecimal text e m → IsInteger (signed_range 63) (take k text) m × IsInteger exponent_range (drop (k + 1) text) e
 decimal_parts text k e m inside here before (inl h) = absurd (integer_no_e (signed_range 63) text m h.0 k inside here)
 decimal_parts text k e m inside here before (inr h) =
-    let long = front_ends text h.0 h.1 k inside here before h.2 (integer_no_e (signed_range 63) h.0 m h.3) in
-    (subst (λ ts. IsInteger (signed_range 63) ts m) (front_is text h.0 h.1 k h.2 long) h.3, subst (λ ts. IsInteger exponent_range ts e) (back_is text h.0 h.1 k h.2 long) h.4)
+    let long = front_ends text h.0 h.1 k inside here before h.2 (integer_no_e (signed_range 63) h.0 m h.3) in (
+      subst (λ ts. IsInteger (signed_range 63) ts m) (front_is text h.0 h.1 k h.2 long) h.3,
+      subst (λ ts. IsInteger exponent_range ts e) (back_is text h.0 h.1 k h.2 long) h.4,
+    )
 
 -- a decimal by its two parts
 pub decimal_of_parts : (text : List ℕ) (k : ℕ) (e m : ℤ) → k < length text → slice_index text k ≡ 0x65

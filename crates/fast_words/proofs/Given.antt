@@ -14,11 +14,14 @@ flag_is : (o : Option Text) (b : Bool) → (o ≡ None → b ≡ false) → (o �
 flag_is None b none there not_there = none refl
 flag_is (Some t) b none there not_there = ((λ e. there (ap Some e)), (λ e. not_there (ap Some e)))
 
-pub flag_read : (f : Found) (name : Text) (b : Bool) → (one_text f name ≡ None → b ≡ false) → (one_text f name ≡ Some (codes "true") → b ≡ true) → (one_text f name ≡ Some (codes "false") → b ≡ false) → IsFlagAt name (rows_of f) b
+pub flag_read : (f : Found) (name : Text) (b : Bool) → (one_text f name ≡ None → b ≡ false)
+    → (one_text f name ≡ Some (codes "true") → b ≡ true) → (one_text f name ≡ Some (codes "false") → b ≡ false)
+    → IsFlagAt name (rows_of f) b
 flag_read f name b none there not_there = subst (λ o. IsFlag o b) (one_text-rows f name) (flag_is (one_text f name) b none there not_there)
 
 -- a number of 32 bits
-number_is : {E : Type 0} (gives : Text → Result ℕ E → Type 0) (o : Option Text) (r : Option ℕ) (otherwise : ℕ) → (o ≡ None → r ≡ None) → ((t : Text) → o ≡ Some t → ReadsOne gives t r)
+number_is : {E : Type 0} (gives : Text → Result ℕ E → Type 0) (o : Option Text) (r : Option ℕ) (otherwise : ℕ) → (o ≡ None → r ≡ None)
+    → ((t : Text) → o ≡ Some t → ReadsOne gives t r)
     → ((t : Text) (x : Result ℕ E) → gives t x → ParsesUnsigned 32 10 t x) → IsNumberOr otherwise o (unwrap_or r otherwise)
 number_is gives None r otherwise none read parses = ap (λ x. unwrap_or x otherwise) (none refl)
 number_is gives (Some t) (Some v) otherwise none read parses =
@@ -28,8 +31,10 @@ number_is gives (Some t) None otherwise none read parses =
     let e = read t refl in
     ((λ h. absurd (parses t (Err e.0) e.1 h)), (λ not. refl))
 
-pub number_read : {E : Type 0} {gives : Text → Result ℕ E → Type 0} (f : Found) (name : Text) (r : Option ℕ) (otherwise : ℕ) → (one_text f name ≡ None → r ≡ None)
-    → ((t : Text) → one_text f name ≡ Some t → ReadsOne gives t r) → ((t : Text) (x : Result ℕ E) → gives t x → ParsesUnsigned 32 10 t x) → IsNumberAt name (rows_of f) otherwise (unwrap_or r otherwise)
+pub number_read : {E : Type 0} {gives : Text → Result ℕ E → Type 0} (f : Found) (name : Text) (r : Option ℕ) (otherwise : ℕ)
+    → (one_text f name ≡ None → r ≡ None)
+    → ((t : Text) → one_text f name ≡ Some t → ReadsOne gives t r) → ((t : Text) (x : Result ℕ E) → gives t x → ParsesUnsigned 32 10 t x)
+    → IsNumberAt name (rows_of f) otherwise (unwrap_or r otherwise)
 number_read {E} {gives} f name r otherwise none read parses =
     subst (λ o. IsNumberOr otherwise o (unwrap_or r otherwise)) (one_text-rows f name) (number_is gives (one_text f name) r otherwise none read parses)
 

@@ -38,7 +38,9 @@ one_named a words required none =
     let inside = entered_fault a w.stopped in
     let walks = walk_fault a.top (names_of a) (walk_from nothing_held) words in
     let checked : checks ≡ [] =
-    last_none defaults checks (last_none settles (or_else defaults checks) (last_none inside (or_else settles (or_else defaults checks)) (last_none walks (or_else inside (or_else settles (or_else defaults checks))) none))) in
+    last_none defaults checks (last_none settles (or_else defaults checks)
+    (last_none inside (or_else settles (or_else defaults checks))
+    (last_none walks (or_else inside (or_else settles (or_else defaults checks))) none))) in
     let help = not has && (a.top.arg_required_else_help && not (list_any (λ r. explicit_source r.source) rows)) in
     let argument = not (a.top.subcommand_negates_reqs && has) && list_any (λ q. q.required && not (is_given q.id rows)) a.top.rules in
     is_there has a.top.subcommand_required required (not_missed help (not has && a.top.subcommand_required) argument checked)

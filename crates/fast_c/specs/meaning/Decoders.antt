@@ -38,10 +38,13 @@ pub record IsReset (old new : Decoding) : Type 0 where
 
 -- What a feed writes, of a decoder to which these bytes have led: the records and texts in front of both buffers are those that `feed_records`
 -- gives, and the status is that of its end.
-pub record IsFed (old : Decoding) (w : List ℕ) (es : List EventData) (piece : List ℕ) (records : List Record) (texts : List ℕ) (fed : FastFed) (new : Decoding) : Type 0 where
-  pub delivers : Delivers (tree old.decoder) old.decoder.limits w es piece (pending old.waiting) new.decoder (take fed.records records) (take fed.texts texts) (pending new.waiting)
+pub record IsFed (old : Decoding) (w : List ℕ) (es : List EventData) (piece : List ℕ) (records : List Record) (texts : List ℕ)
+    (fed : FastFed) (new : Decoding) : Type 0 where
+  pub delivers : Delivers (tree old.decoder) old.decoder.limits w es piece (pending old.waiting) new.decoder (take fed.records records)
+      (take fed.texts texts) (pending new.waiting)
   pub room : (fed.records ≤ length records) × (fed.texts ≤ length texts)
-  pub status : fed.status ≡ status_number (ended (outcome_of (nat_lt 0 (length (pending new.waiting))) (answer new.decoder.fault) (fed.taken == length piece) (fed.taken == 0 && fed.records == 0)))
+  pub status : fed.status ≡ status_number (ended (outcome_of (nat_lt 0 (length (pending new.waiting))) (answer new.decoder.fault)
+      (fed.taken == length piece) (fed.taken == 0 && fed.records == 0)))
 
 -- what is answered behind a packet that was cut, of a decoder that has consumed so many bytes
 abbrev pub cut_fed : ℕ → FastFed
@@ -62,7 +65,14 @@ ends_inside fed = fed.status == status_number To.Done && fed.between == 0
 
 -- the same, called cut
 abbrev pub told_cut : FastFed → FastFed
-told_cut fed = record { taken = fed.taken; records = fed.records; texts = fed.texts; consumed = fed.consumed; between = fed.between; status = status_number To.Truncated }
+told_cut fed = record {
+  taken = fed.taken;
+  records = fed.records;
+  texts = fed.texts;
+  consumed = fed.consumed;
+  between = fed.between;
+  status = status_number To.Truncated;
+}
 
 abbrev pub cut_off : Decoding → Decoding
 cut_off d = record { decoder = d.decoder; waiting = d.waiting; is_cut = true }
@@ -73,7 +83,8 @@ Starts true old start = IsReset old start
 Starts false old start = start ≡ old
 
 -- A packet is fed as its bytes are, but for a packet that ends inside a message: that is told, and the decoder is cut off.
-pub record FeedsPacket (is_reset : Bool) (old : Decoding) (packet : List ℕ) (records : List Record) (texts : List ℕ) (fed : FastFed) (new : Decoding) : Type 0 where
+pub record FeedsPacket (is_reset : Bool) (old : Decoding) (packet : List ℕ) (records : List Record) (texts : List ℕ) (fed : FastFed)
+    (new : Decoding) : Type 0 where
   pub start : Decoding
   pub starts : Starts is_reset old start
   pub bytes : FastFed

@@ -19,7 +19,12 @@ use Rattle.fast_records.specs.meaning.Status.{status_number}
 
 -- the limits of a call
 abbrev pub limits_of : ℕ → ℕ → ℕ → ℕ → Limits
-limits_of strict max_text max_elements max_total = record { strict = not (strict == 0); max_text = max_text; max_elements = max_elements; max_total = max_total }
+limits_of strict max_text max_elements max_total = record {
+  strict = not (strict == 0);
+  max_text = max_text;
+  max_elements = max_elements;
+  max_total = max_total;
+}
 
 -- the text is UTF-8, and the set stands for the tree of its document
 abbrev pub IsSetOf : List ℕ → Templates → Type 0
@@ -32,7 +37,8 @@ HasNoTree text = (document : Members) (t : Tree) → parse_document text ≡ Som
 -- Why there is no set of a text: it is not UTF-8; it has the fault of the first pass that finds one; or memory was refused.
 abbrev pub IsNoSet : List ℕ → Status → Type 0
 IsNoSet text To.NotText = ¬ (IsUtf8 text)
-IsNoSet text (To.Set c) = IsUtf8 text × (template : Option ℕ) × IsAtFault (parse_document text) c template × IsFirstFault (parse_document text) c template × (c ≢ Memory → HasNoTree text)
+IsNoSet text (To.Set c) = IsUtf8 text × (template : Option ℕ) × IsAtFault (parse_document text) c template
+    × IsFirstFault (parse_document text) c template × (c ≢ Memory → HasNoTree text)
 IsNoSet text (To.Make Make.Memory) = IsUtf8 text
 IsNoSet text s = ⊥
 

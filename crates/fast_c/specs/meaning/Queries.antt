@@ -1,5 +1,6 @@
 -- What the functions of include/fast.h return that ask a template set.
-use Rattle.std.specs.Prelude.{◌≡◌, ℕ, suc, ◌<◌, ◌==◌, Bool, false, if◌then◌else◌, List, [], ◌∷◌, slice_get, Option, Some, None, IfSome, IfNone, is_some, string_bytes}
+use Rattle.std.specs.Prelude.{◌≡◌, ℕ, suc, ◌<◌, ◌==◌, Bool, false, if◌then◌else◌, List, [], ◌∷◌, slice_get, Option, Some, None, IfSome}
+use Rattle.std.specs.Prelude.{IfNone, is_some, string_bytes}
 use Rattle.std.specs.List.{list_any}
 use Rattle.std.specs.Int.{from_bool}
 use Rattle.std.specs.Str.{bytes_eq}
@@ -65,13 +66,34 @@ template_info t = record { has_id = from_bool (is_some t.id); id = id_or_zero t.
 
 -- what a field instruction says of a node of this type
 abbrev pub field_info : ℕ → FieldInstruction → FastNodeInfo
-field_info kind f = record { kind = kind; optional = from_bool f.optional; op = operator_number f.operator; entry = number_or_none f.entry; mantissa_op = 0; mantissa_entry = no_number }
+field_info kind f = record {
+  kind = kind;
+  optional = from_bool f.optional;
+  op = operator_number f.operator;
+  entry = number_or_none f.entry;
+  mantissa_op = 0;
+  mantissa_entry = no_number;
+}
 
 -- the instruction of a shape, without its body
 abbrev pub shape_info : Shape → FastNodeInfo
 shape_info (Is.Field f) = field_info (kind_number f.kind) f
-shape_info (Is.Decimal e m) = record { kind = 9; optional = from_bool e.optional; op = operator_number e.operator; entry = number_or_none e.entry; mantissa_op = operator_number m.operator; mantissa_entry = number_or_none m.entry }
-shape_info (Is.Group optional body) = record { kind = 10; optional = from_bool optional; op = 0; entry = no_number; mantissa_op = 0; mantissa_entry = no_number }
+shape_info (Is.Decimal e m) = record {
+  kind = 9;
+  optional = from_bool e.optional;
+  op = operator_number e.operator;
+  entry = number_or_none e.entry;
+  mantissa_op = operator_number m.operator;
+  mantissa_entry = number_or_none m.entry;
+}
+shape_info (Is.Group optional body) = record {
+  kind = 10;
+  optional = from_bool optional;
+  op = 0;
+  entry = no_number;
+  mantissa_op = 0;
+  mantissa_entry = no_number;
+}
 shape_info (Is.Sequence length body) = field_info 11 length
 
 -- the instruction of a node, without its name and its body

@@ -83,7 +83,10 @@ pub record Known : Type 0 where
 -- what is known behind an event
 abbrev pub learn : Columns → List ℕ → Known → EventData → Known
 learn c q k (FieldValue n (AsciiText v)) = if nat_eq n c.symbol then record { is_ours = bytes_eq v q; price = k.price } else k
-learn c q k (FieldValue n (Dec x m)) = if nat_eq n c.price && k.is_ours then record { is_ours = k.is_ours; price = Some (record { exponent = x; mantissa = m }) } else k
+learn c q k (FieldValue n (Dec x m)) = if nat_eq n c.price && k.is_ours then record {
+  is_ours = k.is_ours;
+  price = Some (record { exponent = x; mantissa = m });
+} else k
 learn c q k e = k
 
 -- what is known behind events
@@ -103,7 +106,10 @@ pub record TakesPrice (old : LastPrice) (e : EventData) (new : LastPrice) : Type
 
 -- The stream has no fault, and this is the last price of the symbol, if it has one.
 abbrev pub HasLastPrice : Tree → Limits → Columns → List ℕ → List ℕ → Option Price → Type 0
-HasLastPrice t l c q w p = (es : List EventData) × (e : End) × Stream t l w es e × HasNoFault e × (p ≡ (learn_all c q (record { is_ours = false; price = None }) es).price)
+HasLastPrice t l c q w p = (es : List EventData) × (e : End) × Stream t l w es e × HasNoFault e × (p ≡ (learn_all c q (record {
+  is_ours = false;
+  price = None;
+}) es).price)
 
 -- what is told of where a stream was left
 abbrev pub told : Stopped → Account

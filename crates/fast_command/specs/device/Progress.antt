@@ -96,7 +96,8 @@ pub record GoesOn (t : Tree) (l : Limits) (hex : Bool) (s : Show) (text : List �
 
 -- The run has ended behind the text, at the end of the input or not. It has written what was to be written behind these
 -- events. A target that has failed is told.
-pub record Ended (t : Tree) (l : Limits) (hex : Bool) (AtEnd : Type 0) (text : List ℕ) (es : List EventData) (w : Change) (r : Result ShowEnd RunFault) : Type 0 where
+pub record Ended (t : Tree) (l : Limits) (hex : Bool) (AtEnd : Type 0) (text : List ℕ) (es : List EventData) (w : Change)
+    (r : Result ShowEnd RunFault) : Type 0 where
   pub out : List ℕ
   pub written : Appends w.held w.holds out
   pub shown : IsShown t l hex (λ _. ⊥) AtEnd ⊥ (IsTrue w.has_failed) text (lines t es ++ out) r

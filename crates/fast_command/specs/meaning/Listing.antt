@@ -74,7 +74,8 @@ flag_word flag = if flag then codes "true" else codes "false"
 
 -- the line of a template: its number, its name, its identifier, whether it resets, and how many bits its map has at most
 abbrev pub template_line : ℕ → TemplateData → List ℕ
-template_line n t = codes "template " ++ decimal n ++ codes " " ++ t.name ++ codes " id " ++ id_words t.id ++ codes " reset " ++ flag_word t.reset ++ codes " bits " ++ decimal (message_bits t) ++ 0x0A ∷ []
+template_line n t = codes "template " ++ decimal n ++ codes " " ++ t.name ++ codes " id " ++ id_words t.id ++ codes " reset "
+    ++ flag_word t.reset ++ codes " bits " ++ decimal (message_bits t) ++ 0x0A ∷ []
 
 -- the lines of a template and of its nodes
 abbrev pub lines_of_template : ℕ → TemplateData → List ℕ

@@ -35,5 +35,6 @@ pub record IsSetRead (left_old left_new : Option (List ℕ)) (t : Templates) : T
 
 -- Why there is no set: the text was not read; or all of it was, and it is none.
 abbrev pub IsSetRefused : (left_old left_new : Option (List ℕ)) → (HasFailed : Type 0) → RunFault → Type 0
-IsSetRefused left_old left_new HasFailed (Refused f) = (text : List ℕ) × Reads left_old left_new text × IsAtEnd left_new × (length text ≤ text_limit) × IsNoSet text f
+IsSetRefused left_old left_new HasFailed (Refused f) = (text : List ℕ) × Reads left_old left_new text × IsAtEnd left_new
+    × (length text ≤ text_limit) × IsNoSet text f
 IsSetRefused left_old left_new HasFailed fault = IsUnread text_limit left_old left_new HasFailed fault

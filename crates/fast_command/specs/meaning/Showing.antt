@@ -71,19 +71,23 @@ IsClosing AtEnd place b e line = line ≡ closing b e
 
 -- What was shown of a text that was read, and what the end of the run says of it. The run can say for which cause
 -- no decoder is made, that the input is at its end, that it reads no more, and that the writer has failed.
-abbrev pub IsShown : Tree → Limits → Bool → (Refuses : MakeError → Type 0) → (AtEnd ReadsNoMore HasFailed : Type 0) → List ℕ → List ℕ → Result ShowEnd RunFault → Type 0
+abbrev pub IsShown : Tree → Limits → Bool → (Refuses : MakeError → Type 0) → (AtEnd ReadsNoMore HasFailed : Type 0) → List ℕ → List ℕ
+    → Result ShowEnd RunFault → Type 0
 IsShown t l hex Refuses AtEnd ReadsNoMore HasFailed text out (Ok Good) =
     (b : List ℕ) × (es : List EventData) × IsStreamOf t l hex text None b es between × (out ≡ lines t es) × AtEnd
 IsShown t l hex Refuses AtEnd ReadsNoMore HasFailed text out (Ok (Faulted f)) =
-    (place : Option ℕ) × (b : List ℕ) × (es : List EventData) × (c : Code) × IsStreamOf t l hex text place b es (faulted c f.place) × (f.code ≡ FaultOfStream c) × (out ≡ lines t es ++ fault_line f.code f.place)
+    (place : Option ℕ) × (b : List ℕ) × (es : List EventData) × (c : Code) × IsStreamOf t l hex text place b es (faulted c f.place)
+    × (f.code ≡ FaultOfStream c) × (out ≡ lines t es ++ fault_line f.code f.place)
 IsShown t l hex Refuses AtEnd ReadsNoMore HasFailed text out (Ok (Truncated n)) =
     (b : List ℕ) × (es : List EventData) × IsStreamOf t l hex text None b es inside × (n ≡ length b) × (out ≡ lines t es ++ truncated_line n) × AtEnd
 IsShown t l hex Refuses AtEnd ReadsNoMore HasFailed text out (Err (BadHex n)) =
     (b : List ℕ) × (es : List EventData) × (e : End) × IsStreamOf t l hex text (Some n) b es e × IsGoodEnd e × (out ≡ lines t es) × ((n < length text) ⊎ AtEnd)
 IsShown t l hex Refuses AtEnd ReadsNoMore HasFailed text out (Err Read) =
-    (place : Option ℕ) × (b : List ℕ) × (es : List EventData) × (e : End) × IsStreamOf t l hex text place b es e × IsGoodEnd e × (out ≡ lines t es) × ReadsNoMore
+    (place : Option ℕ) × (b : List ℕ) × (es : List EventData) × (e : End) × IsStreamOf t l hex text place b es e × IsGoodEnd e
+    × (out ≡ lines t es) × ReadsNoMore
 IsShown t l hex Refuses AtEnd ReadsNoMore HasFailed text out (Err Write) =
-    (place : Option ℕ) × (b : List ℕ) × (es : List EventData) × (e : End) × (line rest : List ℕ) × StandsFor hex text b place × Stream t l b es e × IsClosing AtEnd place b e line × (lines t es ++ line ≡ out ++ rest) × HasFailed
+    (place : Option ℕ) × (b : List ℕ) × (es : List EventData) × (e : End) × (line rest : List ℕ) × StandsFor hex text b place
+    × Stream t l b es e × IsClosing AtEnd place b e line × (lines t es ++ line ≡ out ++ rest) × HasFailed
 IsShown t l hex Refuses AtEnd ReadsNoMore HasFailed text out (Err (Refused fault)) = ⊥
 IsShown t l hex Refuses AtEnd ReadsNoMore HasFailed text out (Err (Text line kind)) = ⊥
 IsShown t l hex Refuses AtEnd ReadsNoMore HasFailed text out (Err (Encode message fault)) = ⊥

@@ -18,7 +18,8 @@ IsOfClass c Other = ¬ (IsHexOrBlank c)
 abbrev pub StandsAt : Place → List ℕ → List ℕ → Type 0
 StandsAt Between t v = All IsHexOrBlank t × IsHex (digits_in t) v
 StandsAt (InPair d) t v = All IsHexOrBlank t × ((front : List ℕ) × (n : ℕ) × (digits_in t ≡ front ++ d ∷ []) × IsHexDigit d n × IsHex front v)
-StandsAt (Bad place) t v = (front rest : List ℕ) × (c : ℕ) × (t ≡ front ++ c ∷ rest) × All IsHexOrBlank front × ¬ (IsHexOrBlank c) × ArePairs (digits_in front) v × (place ≡ length front)
+StandsAt (Bad place) t v = (front rest : List ℕ) × (c : ℕ) × (t ≡ front ++ c ∷ rest) × All IsHexOrBlank front × ¬ (IsHexOrBlank c)
+    × ArePairs (digits_in front) v × (place ≡ length front)
 
 -- The text was taken, and has given the bytes.
 pub record Unhexes (u : Unhexer) (t v : List ℕ) : Type 0 where

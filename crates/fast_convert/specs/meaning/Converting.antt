@@ -55,7 +55,8 @@ pub record AreCodedTo (t : Tree) (l : Limits) (d : Dictionary) (all front later 
 
 -- What is written of messages: the bytes of all; or of those before one that the encoder refuses; or, where the target has failed, a front
 -- of them; or of those before one for which there was no memory.
-abbrev pub AreWritten : Tree → Limits → (hex : Bool) → Dictionary → List MessageData → (held holds : Option (List ℕ)) → (HasFailed : Type 0) → Result (Unit {0}) RunFault → Type 0
+abbrev pub AreWritten : Tree → Limits → (hex : Bool) → Dictionary → List MessageData → (held holds : Option (List ℕ))
+    → (HasFailed : Type 0) → Result (Unit {0}) RunFault → Type 0
 AreWritten t l hex d ms held holds HasFailed (Ok u) =
     (ws : List (List ℕ)) × (next : Dictionary) × AreCoded t l d ms ws next × Appends held holds (flat_map (form hex) ws)
 AreWritten t l hex d ms held holds HasFailed (Err (Encode k fault)) =
@@ -76,7 +77,8 @@ pub record IsWhole (left_old left_new : Option (List ℕ)) (text : List ℕ) : T
   pub short : length text ≤ line_limit
 
 -- The whole text was read, it is the lines of messages, and this is written of them.
-pub record IsTurned (t : Tree) (l : Limits) (hex : Bool) (left_old left_new held holds : Option (List ℕ)) (HasFailed : Type 0) (r : Result (Unit {0}) RunFault) : Type 0 where
+pub record IsTurned (t : Tree) (l : Limits) (hex : Bool) (left_old left_new held holds : Option (List ℕ)) (HasFailed : Type 0)
+    (r : Result (Unit {0}) RunFault) : Type 0 where
   pub text : List ℕ
   pub messages : List MessageData
   pub whole : IsWhole left_old left_new text
@@ -85,7 +87,8 @@ pub record IsTurned (t : Tree) (l : Limits) (hex : Bool) (left_old left_new held
 
 -- What a run has read and written. Where there is no encoder nothing was read; where the text is not read, nothing was written; nor where
 -- it is refused, and then it is the lines of no messages whose values can be read back.
-abbrev pub IsConverted : Templates → Limits → (hex : Bool) → (left_old left_new held holds : Option (List ℕ)) → (ReaderFailed WriterFailed : Type 0) → Result (Unit {0}) RunFault → Type 0
+abbrev pub IsConverted : Templates → Limits → (hex : Bool) → (left_old left_new held holds : Option (List ℕ))
+    → (ReaderFailed WriterFailed : Type 0) → Result (Unit {0}) RunFault → Type 0
 IsConverted set l hex left_old left_new held holds ReaderFailed WriterFailed (Err (Make cause)) =
     Reads left_old left_new [] × Appends held holds [] × IsRefusal set l cause
 IsConverted set l hex left_old left_new held holds ReaderFailed WriterFailed (Err Read) =

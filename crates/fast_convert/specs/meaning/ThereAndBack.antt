@@ -36,12 +36,14 @@ IsShownAgain text out (Err Memory) = out ≡ []
 IsShownAgain text out (Err fault) = ⊥
 
 -- what a run of show ensures of its answer by `shown`, where it has read this text
-abbrev pub IsRunOfShow : Templates → Limits → (hex : Bool) → (left : Option (List ℕ)) → (max_reads : ℕ) → (reader_failed writer_failed : Bool) → List ℕ → List ℕ → Result ShowEnd RunFault → Type 0
+abbrev pub IsRunOfShow : Templates → Limits → (hex : Bool) → (left : Option (List ℕ)) → (max_reads : ℕ)
+    → (reader_failed writer_failed : Bool) → List ℕ → List ℕ → Result ShowEnd RunFault → Type 0
 IsRunOfShow set l hex left max_reads reader_failed writer_failed text out r =
     IsShown (tree_of set) l hex (IsRefusal set l) (IsAtEnd left) (IsTrue reader_failed ⊎ (max_reads ≤ length text)) (IsTrue writer_failed) text out r
 
 -- What a run of convert ensures of its answer by `converted`, `bad_limits` and `long_initial`.
-pub record IsAnswerOfConvert (set : Templates) (l : Limits) (hex : Bool) (left_old left_new held holds : Option (List ℕ)) (reader_failed writer_failed : Bool) (r : Result (Unit {0}) RunFault) : Type 0 where
+pub record IsAnswerOfConvert (set : Templates) (l : Limits) (hex : Bool) (left_old left_new held holds : Option (List ℕ))
+    (reader_failed writer_failed : Bool) (r : Result (Unit {0}) RunFault) : Type 0 where
   pub converted : IsConverted set l hex left_old left_new held holds (IsTrue reader_failed) (IsTrue writer_failed) r
   pub bad_limits : AreBadLimits l → r ≡ Err (Make BadLimits)
   pub long_initial : IsRefusal set l InitialTooLong → r ≡ Err (Make InitialTooLong)
@@ -56,7 +58,8 @@ pub record IsBack (set : Templates) (l : Limits) (hex : Bool) (left_old left_new
       → IsRunOfShow set (in_mode mode l) hex left max_reads reader_failed writer_failed stream out r → IsShownAgain text out r
 
 -- What a run of show ensures of its answer by `shown`, `bad_limits` and `long_initial`.
-pub record IsAnswerOfShow (set : Templates) (l : Limits) (hex : Bool) (left : Option (List ℕ)) (max_reads : ℕ) (reader_failed writer_failed : Bool) (text out : List ℕ) (r : Result ShowEnd RunFault) : Type 0 where
+pub record IsAnswerOfShow (set : Templates) (l : Limits) (hex : Bool) (left : Option (List ℕ)) (max_reads : ℕ)
+    (reader_failed writer_failed : Bool) (text out : List ℕ) (r : Result ShowEnd RunFault) : Type 0 where
   pub shown : IsRunOfShow set l hex left max_reads reader_failed writer_failed text out r
   pub bad_limits : AreBadLimits l → r ≡ Err (Make BadLimits)
   pub long_initial : IsRefusal set l InitialTooLong → r ≡ Err (Make InitialTooLong)

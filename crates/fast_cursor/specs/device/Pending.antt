@@ -8,6 +8,8 @@ use Rattle.fast_cursor.specs.declared.pending.MapFront.TheVariants as Map
 -- The bytes in the cells and those after them, of which some complete the map, or make it too long, or all of them are in the cells, and
 -- the map is split.
 abbrev pub IsNextMap : ℕ → List ℕ → List ℕ → List ℕ → MapFront → Type 0
-IsNextMap len cells rest after (Map.Whole n) = (0 < n) × (n ≤ length rest) × (len + n ≤ map_limit) × (take (len + n) after ≡ take len cells ++ take n rest) × IsEntity (take len cells ++ take n rest)
+IsNextMap len cells rest after (Map.Whole n) = (0 < n) × (n ≤ length rest) × (len + n ≤ map_limit)
+    × (take (len + n) after ≡ take len cells ++ take n rest) × IsEntity (take len cells ++ take n rest)
 IsNextMap len cells rest after (Map.TooLong n) = (0 < n) × (n ≤ length rest) × (len + n ≡ map_limit) × HaveNoStop (take len cells ++ take n rest)
-IsNextMap len cells rest after Map.Cut = (len + length rest < map_limit) × (take (len + length rest) after ≡ take len cells ++ rest) × HaveNoStop (take len cells ++ rest)
+IsNextMap len cells rest after Map.Cut = (len + length rest < map_limit) × (take (len + length rest) after ≡ take len cells ++ rest)
+    × HaveNoStop (take len cells ++ rest)

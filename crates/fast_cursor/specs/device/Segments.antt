@@ -34,7 +34,13 @@ map_at cells start len = take len (drop start cells)
 
 -- a frame, whose map's cells begin at an index
 abbrev pub frame_data : List Op → List ℕ → ℕ → Frame → FrameData
-frame_data ops cells start f = record { after = run_at ops f.after; map = map_at cells start f.map.len; used = used_at (map_at cells start f.map.len) f.map.end f.map.word; ends = f.map.end; elements = option_map (elements_data ops) (frame_elements f) }
+frame_data ops cells start f = record {
+  after = run_at ops f.after;
+  map = map_at cells start f.map.len;
+  used = used_at (map_at cells start f.map.len) f.map.end f.map.word;
+  ends = f.map.end;
+  elements = option_map (elements_data ops) (frame_elements f);
+}
 
 -- Frames, the outermost first, on those around them: the cells of the first one's map begin at the index.
 abbrev pub frames_on : List Op → List ℕ → ℕ → List Frame → List FrameData → List FrameData

@@ -16,15 +16,18 @@ use Rattle.fast_stream.proofs.streams.Bound.{consumed-bound}
 use Rattle.fast_stream.proofs.streams.Caps.{stream_begins, begun_bound}
 use Rattle.fast_decoder.proofs.streams.Ends.{read-stream}
 
-sum : (t j b e dep H k max km km2 : ℕ) → t ≡ max → j ≡ max → b + e ≤ km + k → dep ≡ H → km2 ≡ km + 2 * max → t + j + b + e + dep + 146 * (dep + 1) ≤ km2 + k + 147 * (H + 1)
+sum : (t j b e dep H k max km km2 : ℕ) → t ≡ max → j ≡ max → b + e ≤ km + k → dep ≡ H → km2 ≡ km + 2 * max
+    → t + j + b + e + dep + 146 * (dep + 1) ≤ km2 + k + 147 * (H + 1)
 sum t j b e dep H k max km km2 text joined slots depth product = omega (arith, text, joined, slots, depth, product)
 
 -- A machine that is supplied stores no more than the cap.
 pub stored-bound : (set : Set) (l : Limits) (m : Machine) → IsSupplied set l m → held (stored_by m) ≤ stored_cap (tree_in set) l
 stored-bound set l m h =
     let slots = subst (λ k. vec_len m.slots.block + vec_len m.slots.entries ≤ k * l.max_text + k) (slots_sized m.slots ∙ h.entries)
-    (subst (λ n. vec_len m.slots.block + vec_len m.slots.entries ≤ length (slots_dictionary m.slots) * n + length (slots_dictionary m.slots)) h.max_text (slots_bounded m.slots)) in
-    sum m.text.capacity m.joined.capacity (vec_len m.slots.block) (vec_len m.slots.entries) m.cursor.depth (set_depth (tree_in set)) set.entries l.max_text (set.entries * l.max_text) ((set.entries + 2) * l.max_text)
+    (subst (λ n. vec_len m.slots.block + vec_len m.slots.entries ≤ length (slots_dictionary m.slots) * n + length
+    (slots_dictionary m.slots)) h.max_text (slots_bounded m.slots)) in
+    sum m.text.capacity m.joined.capacity (vec_len m.slots.block) (vec_len m.slots.entries) m.cursor.depth
+    (set_depth (tree_in set)) set.entries l.max_text (set.entries * l.max_text) ((set.entries + 2) * l.max_text)
     h.text_room h.joined_room slots h.depth (add-mul set.entries 2 l.max_text)
 
 -- A decoder that bytes led to stores no more than the cap.
@@ -38,7 +41,8 @@ read-events d w es so =
     subst (λ (s : Account). length es ≤ s.consumed * message_cap (tree d) d.limits) (sym ends) (consumed-bound (tree d) d.limits w es e stream)
 
 -- Nor more than its cap for each message begun.
-pub read-messages : (d : DecoderData) (w : List ℕ) (es : List EventData) → HasRead d w es → (e : End) × (n : ℕ) × (account d ≡ account_at w e) × Begins (tree d) d.limits w e n × (length es ≤ n * message_cap (tree d) d.limits)
+pub read-messages : (d : DecoderData) (w : List ℕ) (es : List EventData) → HasRead d w es
+    → (e : End) × (n : ℕ) × (account d ≡ account_at w e) × Begins (tree d) d.limits w e n × (length es ≤ n * message_cap (tree d) d.limits)
 read-messages d w es so =
     let (e, stream, ends) = read-stream d w es so in
     let (n, begins) = stream_begins (tree d) d.limits w es e stream in

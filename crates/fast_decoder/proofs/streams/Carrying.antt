@@ -32,7 +32,10 @@ pair {A} {B} {x} {y} e i = ap (λ (a : A). (a, x.1)) e ∙ ap (λ (b : B). (y.0,
 
 -- what is read of bytes behind others
 read_behind : (d : DecoderData) (w v : List ℕ) (es : List EventData) (at : Position Dictionary) → reading (tree d) d.limits w ≡ (es, at)
-    → reading (tree d) d.limits (w ++ v) ≡ (es ++ (run (message_begun (tree d) d.limits) (length w) at v).0, (run (message_begun (tree d) d.limits) (length w) at v).1)
+    → reading (tree d) d.limits (w ++ v) ≡ (
+      es ++ (run (message_begun (tree d) d.limits) (length w) at v).0,
+      (run (message_begun (tree d) d.limits) (length w) at v).1,
+    )
 read_behind d w v es at e =
     let parts = reading-append (tree d) d.limits w v in
     pair
@@ -43,7 +46,8 @@ both_bytes : (w v : List ℕ) → AreBytes w → AreBytes v → AreBytes (w ++ v
 both_bytes w v h i = All-append (λ b. b < 256) w v h i
 
 -- a decoder without a fault stands where its machine does
-running : (d : DecoderData) (w : List ℕ) (es : List EventData) (so : HasRead d w es) → d.fault ≡ None → (so.position ≡ waiting_at (meaning d.set d.limits d.machine)) × (d.consumed ≡ length w)
+running : (d : DecoderData) (w : List ℕ) (es : List EventData) (so : HasRead d w es) → d.fault ≡ None
+    → (so.position ≡ waiting_at (meaning d.set d.limits d.machine)) × (d.consumed ≡ length w)
 running d w es so e = subst (λ (f : Option Fault). IsAt f d (length w) so.position) e so.at
 
 -- the bytes of a slice
@@ -62,14 +66,18 @@ take_front (suc n) (x ∷ w) = ap (λ t. x ∷ t) (take_front n w)
 -- a front without its last byte
 front_of : (w u : List ℕ) (b : ℕ) → take (length u + 1) w ≡ u ++ b ∷ [] → take (length u) w ≡ u
 front_of w u b h =
-    let shorter : take (length u) (take (length u + 1) w) ≡ take (length u) w = ap (λ n. take (length u) (take n w)) (let one : length u + 1 ≡ suc (length u) = omega arith in one) ∙ take_front (length u) w in
+    let shorter : take (length u) (take (length u + 1) w) ≡ take (length u) w =
+    ap (λ n. take (length u) (take n w)) (let one : length u + 1 ≡ suc (length u) = omega arith in one) ∙ take_front (length u) w in
     sym shorter ∙ ap (take (length u)) h ∙ take-append_seam u (b ∷ [])
 
 module _ {S : Type 0} (takes stops : S → EventData → S → Type 0) where
   -- All of the piece was taken.
-  pub carry_ok : (d : DecoderData) (m m' : Machine) (k : ℕ) (f : Option Fault) (w : List ℕ) (es : List EventData) (piece : List ℕ) (s s' : S) → d.fault ≡ None → f ≡ None → k ≡ length piece
-      → meaning d.set d.limits m ≡ meaning d.set d.limits d.machine → AreBytes piece → IsReady d.set d.limits m' → IsSupplied d.set d.limits m' → IsWithinMessage d.set d.limits m'
-      → TookEvents takes (tree d) d.limits (waiting_at (meaning d.set d.limits m)) piece s s' (waiting_at (meaning d.set d.limits m')) → HasRead d w es → Carries takes w es piece s (fed_data d m' k f) s'
+  pub carry_ok : (d : DecoderData) (m m' : Machine) (k : ℕ) (f : Option Fault) (w : List ℕ) (es : List EventData) (piece : List ℕ)
+      (s s' : S) → d.fault ≡ None → f ≡ None → k ≡ length piece
+      → meaning d.set d.limits m ≡ meaning d.set d.limits d.machine → AreBytes piece → IsReady d.set d.limits m'
+      → IsSupplied d.set d.limits m' → IsWithinMessage d.set d.limits m'
+      → TookEvents takes (tree d) d.limits (waiting_at (meaning d.set d.limits m)) piece s s' (waiting_at (meaning d.set d.limits m'))
+      → HasRead d w es → Carries takes w es piece s (fed_data d m' k f) s'
   carry_ok d m m' k f w es piece s s' none still all same bytes ready supplied within took so =
       let at = running d w es so none in
       let start : waiting_at (meaning d.set d.limits m) ≡ so.position = ap waiting_at same ∙ sym at.0 in
@@ -78,17 +86,24 @@ module _ {S : Type 0} (takes stops : S → EventData → S → Type 0) where
       record {
         more = took.events;
         so = record {
-          sound = record { later = so.sound.later; supplied = supplied; at = subst (λ (g : Option Fault). IsSoundAt g d.set d.limits m' (d.consumed + k)) (sym still) ready; paid = subst (λ (g : Option Fault). IsPaidAt g d.set d.limits m') (sym still) within };
+          sound = record {
+            later = so.sound.later;
+            supplied = supplied;
+            at = subst (λ (g : Option Fault). IsSoundAt g d.set d.limits m' (d.consumed + k)) (sym still) ready;
+            paid = subst (λ (g : Option Fault). IsPaidAt g d.set d.limits m') (sym still) within;
+          };
           bytes = both_bytes w piece so.bytes bytes;
           position = waiting_at (meaning d.set d.limits m');
           read = read_behind d w piece es so.position so.read ∙ ap (λ (x : List EventData × Position Dictionary). (es ++ x.0, x.1)) led;
-          at = subst (λ (g : Option Fault). IsAt g (fed_data d m' k f) (length (w ++ piece)) (waiting_at (meaning d.set d.limits m'))) (sym still) (refl, omega (arith, at.1, length-append w piece));
+          at = subst (λ (g : Option Fault). IsAt g (fed_data d m' k f) (length (w ++ piece)) (waiting_at (meaning d.set d.limits m')))
+              (sym still) (refl, omega (arith, at.1, length-append w piece));
         };
         took = took.taken;
       }
 
   -- A front of the piece was taken, and its last byte decided a fault.
-  pub carry_fault : (d : DecoderData) (m m' : Machine) (k : ℕ) (c : Code) (w : List ℕ) (es : List EventData) (piece : List ℕ) (s s' : S) → d.fault ≡ None → k ≤ length piece
+  pub carry_fault : (d : DecoderData) (m m' : Machine) (k : ℕ) (c : Code) (w : List ℕ) (es : List EventData) (piece : List ℕ) (s s' : S)
+      → d.fault ≡ None → k ≤ length piece
       → meaning d.set d.limits m ≡ meaning d.set d.limits d.machine → AreBytes piece → IsSupplied d.set d.limits m'
       → Failed takes (tree d) d.limits (waiting_at (meaning d.set d.limits m)) (take k piece) s s' c → HasRead d w es
       → Carries takes w es piece s (fed_data d m' k (Some (record { code = Why.Stream c; place = d.consumed + k }))) s'
@@ -103,14 +118,16 @@ module _ {S : Type 0} (takes stops : S → EventData → S → Type 0) where
       let front : reading (tree d) d.limits (w ++ take k piece) ≡ (es ++ failed.events, at_fault c (d.consumed + k))
       = read_behind d w (take k piece) es so.position so.read ∙ ap (λ (x : List EventData × Position Dictionary). (es ++ x.0, x.1)) led in
       let rest = at-fault first (length (w ++ take k piece)) (d.consumed + k) c (drop k piece) in
-      let split : w ++ piece ≡ (w ++ take k piece) ++ drop k piece = ap (λ v. w ++ v) (sym (take-append-drop k piece)) ∙ sym (append_assoc w (take k piece) (drop k piece)) in
+      let split : w ++ piece ≡ (w ++ take k piece) ++ drop k piece = ap (λ v. w ++ v) (sym (take-append-drop k piece))
+      ∙ sym (append_assoc w (take k piece) (drop k piece)) in
       record {
         more = failed.events;
         so = record {
           sound = record { later = so.sound.later; supplied = supplied; at = refl; paid = tt };
           bytes = both_bytes w piece so.bytes bytes;
           position = at_fault c (d.consumed + k);
-          read = ap (reading (tree d) d.limits) split ∙ read_behind d (w ++ take k piece) (drop k piece) (es ++ failed.events) (at_fault c (d.consumed + k)) front
+          read = ap (reading (tree d) d.limits) split ∙ read_behind d (w ++ take k piece) (drop k piece) (es ++ failed.events)
+              (at_fault c (d.consumed + k)) front
               ∙ pair (ap (λ fs. (es ++ failed.events) ++ fs) rest.0 ∙ append-nil (es ++ failed.events)) rest.1;
           at = refl;
         };
@@ -120,7 +137,8 @@ module _ {S : Type 0} (takes stops : S → EventData → S → Type 0) where
   -- A front of the piece was taken, and the sink stopped at an event of its last byte.
   pub carry_stop : (d : DecoderData) (m : Machine) (k : ℕ) (w : List ℕ) (es : List EventData) (piece : List ℕ) (s s' : S) → d.fault ≡ None → k ≤ length piece
       → meaning d.set d.limits m ≡ meaning d.set d.limits d.machine → AreBytes piece
-      → Stopped takes stops (tree d) d.limits (waiting_at (meaning d.set d.limits m)) (take k piece) s s' → HasRead d w es → SinkEnds takes stops d w es piece s (d.consumed + k) s'
+      → Stopped takes stops (tree d) d.limits (waiting_at (meaning d.set d.limits m)) (take k piece) s s' → HasRead d w es
+      → SinkEnds takes stops d w es piece s (d.consumed + k) s'
   carry_stop d m k w es piece s s' none within same bytes h so =
       let at = running d w es so none in
       let first = message_begun (tree d) d.limits in
@@ -133,7 +151,8 @@ module _ {S : Type 0} (takes stops : S → EventData → S → Type 0) where
       let part : take n piece ≡ h.before = front_of piece h.before h.byte whole in
       let before_bytes : AreBytes h.before = subst AreBytes part (first_bytes piece n bytes) in
       let all_bytes : AreBytes (take (n + 1) piece) = first_bytes piece (n + 1) bytes in
-      let led : run first (length w) so.position h.before ≡ (h.took.events, h.at) = ap (λ x. run first (length w) x h.before) (sym start) ∙ h.took.leads (length w) in
+      let led : run first (length w) so.position h.before ≡ (h.took.events, h.at) = ap (λ x. run first (length w) x h.before) (sym start)
+      ∙ h.took.leads (length w) in
       let read_front : reading (tree d) d.limits (w ++ h.before) ≡ (es ++ h.took.events, h.at)
       = read_behind d w h.before es so.position so.read ∙ ap (λ (x : List EventData × Position Dictionary). (es ++ x.0, x.1)) led in
       let read_last : (reading (tree d) d.limits ((w ++ h.before) ++ h.byte ∷ [])).0 ≡ es ++ h.took.events ++ h.given
@@ -160,15 +179,19 @@ module _ {S : Type 0} (takes stops : S → EventData → S → Type 0) where
       }
 
   -- What was taken of a piece, where the machine stopped.
-  pub carry_stopped : (d : DecoderData) (m m' : Machine) (k : ℕ) (c : FaultCode) (w : List ℕ) (es : List EventData) (piece : List ℕ) (s s' : S) → d.fault ≡ None → k ≤ length piece
+  pub carry_stopped : (d : DecoderData) (m m' : Machine) (k : ℕ) (c : FaultCode) (w : List ℕ) (es : List EventData) (piece : List ℕ)
+      (s s' : S) → d.fault ≡ None → k ≤ length piece
       → meaning d.set d.limits m ≡ meaning d.set d.limits d.machine → AreBytes piece → IsSupplied d.set d.limits m'
-      → Fed takes stops (tree d) d.limits (waiting_at (meaning d.set d.limits m)) (take k piece) s (Err c) s' (waiting_at (meaning d.set d.limits m')) → HasRead d w es
+      → Fed takes stops (tree d) d.limits (waiting_at (meaning d.set d.limits m)) (take k piece) s (Err c) s'
+      (waiting_at (meaning d.set d.limits m')) → HasRead d w es
       → CarriesAt takes stops d w es piece s c (d.consumed + k) (fed_data d m' k (Some (record { code = c; place = d.consumed + k }))) s'
-  carry_stopped d m m' k (Why.Stream c) w es piece s s' none within same bytes supplied h so = carry_fault d m m' k c w es piece s s' none within same bytes supplied h so
+  carry_stopped d m m' k (Why.Stream c) w es piece s s' none within same bytes supplied h so =
+      carry_fault d m m' k c w es piece s s' none within same bytes supplied h so
   carry_stopped d m m' k Why.SinkStopped w es piece s s' none within same bytes supplied h so = carry_stop d m k w es piece s s' none within same bytes h so
   carry_stopped d m m' k Why.L4 w es piece s s' none within same bytes supplied h so = absurd h
 
-  failed_at : (d : DecoderData) (m' : Machine) (f : Fault) (w : List ℕ) (es : List EventData) (piece : List ℕ) (s : S) (c : FaultCode) → d.fault ≡ Some f → f.code ≡ c → AreBytes piece → IsSupplied d.set d.limits m'
+  failed_at : (d : DecoderData) (m' : Machine) (f : Fault) (w : List ℕ) (es : List EventData) (piece : List ℕ) (s : S) (c : FaultCode)
+      → d.fault ≡ Some f → f.code ≡ c → AreBytes piece → IsSupplied d.set d.limits m'
       → (so : HasRead d w es) → IsFaultAt c f.place so.position → CarriesAt takes stops d w es piece s c f.place (record d { machine = m' }) s
   failed_at d m' f w es piece s (Why.Stream c) e i bytes supplied so h =
       let first = message_begun (tree d) d.limits in
@@ -178,11 +201,17 @@ module _ {S : Type 0} (takes stops : S → EventData → S → Type 0) where
       record {
         more = [];
         so = record {
-          sound = record { later = so.sound.later; supplied = supplied; at = subst (λ (g : Option Fault). IsSoundAt g d.set d.limits m' d.consumed) (sym e) sound; paid = subst (λ (g : Option Fault). IsPaidAt g d.set d.limits m') (sym e) tt };
+          sound = record {
+            later = so.sound.later;
+            supplied = supplied;
+            at = subst (λ (g : Option Fault). IsSoundAt g d.set d.limits m' d.consumed) (sym e) sound;
+            paid = subst (λ (g : Option Fault). IsPaidAt g d.set d.limits m') (sym e) tt;
+          };
           bytes = both_bytes w piece so.bytes bytes;
           position = at_fault c f.place;
           read = read_behind d w piece es so.position so.read ∙ ap (λ (x : List EventData × Position Dictionary). (es ++ x.0, x.1)) stays;
-          at = subst (λ (g : Option Fault). IsAt g (record d { machine = m' }) (length (w ++ piece)) (at_fault c f.place)) (sym e) (subst (λ x. IsFaultAt x f.place (at_fault c f.place)) (sym i) refl);
+          at = subst (λ (g : Option Fault). IsAt g (record d { machine = m' }) (length (w ++ piece)) (at_fault c f.place)) (sym e)
+              (subst (λ x. IsFaultAt x f.place (at_fault c f.place)) (sym i) refl);
         };
         took = refl;
       }
@@ -190,6 +219,8 @@ module _ {S : Type 0} (takes stops : S → EventData → S → Type 0) where
   failed_at d m' f w es piece s Why.SinkStopped e i bytes supplied so h = absurd h
 
   -- A decoder that has stopped.
-  pub carry_failed : (d : DecoderData) (m' : Machine) (f : Fault) (w : List ℕ) (es : List EventData) (piece : List ℕ) (s : S) → d.fault ≡ Some f → AreBytes piece → IsSupplied d.set d.limits m' → HasRead d w es
+  pub carry_failed : (d : DecoderData) (m' : Machine) (f : Fault) (w : List ℕ) (es : List EventData) (piece : List ℕ) (s : S)
+      → d.fault ≡ Some f → AreBytes piece → IsSupplied d.set d.limits m' → HasRead d w es
       → CarriesAt takes stops d w es piece s f.code f.place (record d { machine = m' }) s
-  carry_failed d m' f w es piece s e bytes supplied so = failed_at d m' f w es piece s f.code e refl bytes supplied so (subst (λ (g : Option Fault). IsAt g d (length w) so.position) e so.at)
+  carry_failed d m' f w es piece s e bytes supplied so = failed_at d m' f w es piece s f.code e refl bytes supplied so
+      (subst (λ (g : Option Fault). IsAt g d (length w) so.position) e so.at)

@@ -35,16 +35,19 @@ end_if idle = if idle then between else inside
 waits_inside : (r : Reader Dictionary) → Waits r → end_of (waiting_at r) ≡ inside
 waits_inside r (f, e) = ap (λ p. end_of (waiting_at p)) e
 
-map_end : (set : Set) (l : Limits) (d : Dictionary) (w : List ℕ) → HaveNoStop w → length w < map_limit → end_of (waiting_at (map_reader set l d w)) ≡ end_if (nat_eq (length w) 0)
+map_end : (set : Set) (l : Limits) (d : Dictionary) (w : List ℕ) → HaveNoStop w → length w < map_limit
+    → end_of (waiting_at (map_reader set l d w)) ≡ end_if (nat_eq (length w) 0)
 map_end set l d [] h short = refl
 map_end set l d (b ∷ w) h short =
     let e = map_reader-some set l d (b ∷ w) (omega arith) in
-    let some : nat_eq (length (b ∷ w)) 0 ≡ false = elim (eqb_tells (length (b ∷ w)) 0) [ inl t ↦ absurd (let none : length (b ∷ w) ≡ 0 = t.1 in omega arith) | inr t ↦ t.0 ] in
+    let some : nat_eq (length (b ∷ w)) 0 ≡ false = elim (eqb_tells (length (b ∷ w)) 0)
+    [ inl t ↦ absurd (let none : length (b ∷ w) ≡ 0 = t.1 in omega arith) | inr t ↦ t.0 ] in
     waits_inside (map_reader set l d (b ∷ w)) (subst Waits (sym e) (open_waits L3 map_limit (mapped_reader set l d) (b ∷ w) h short)) ∙ ap end_if (sym some)
 
 module _ (set : Set) (l : Limits) (m : Machine) (later : NameLaterNodes set.nodes) (ready : IsReady set l m) where
   busy : (w : Waiting) → m.waiting ≡ w → w ≢ Map → end_of (waiting_at (meaning_at w set l m)) ≡ inside
-  busy w e other = waits_inside (meaning_at w set l m) (subst (λ (u : Waiting). Waits (meaning_at u set l m)) e (machine_waits set l m later ready (λ i. other (sym e ∙ i))))
+  busy w e other = waits_inside (meaning_at w set l m) (subst (λ (u : Waiting). Waits (meaning_at u set l m)) e
+      (machine_waits set l m later ready (λ i. other (sym e ∙ i))))
 
   by_waiting : (w : Waiting) → m.waiting ≡ w → end_of (waiting_at (meaning_at w set l m)) ≡ end_if (is_idle_at w m.cursor.map)
   by_waiting Map e = let c = subst (λ (u : Waiting). CanTake u set l m) e ready.takes in map_end set l (slots_dictionary m.slots) m.cursor.map c.0 c.1
@@ -59,16 +62,25 @@ module _ (set : Set) (l : Limits) (m : Machine) (later : NameLaterNodes set.node
   pub machine_end : end_of (waiting_at (meaning set l m)) ≡ end_if (is_idle m)
   machine_end = by_waiting m.waiting refl
 
-account_if : (w : List ℕ) (idle : Bool) (n : ℕ) → n ≡ length w → (let s : Account = record { is_between = idle; fault = None; consumed = n } in s) ≡ account_at w (end_if idle)
+account_if : (w : List ℕ) (idle : Bool) (n : ℕ) → n ≡ length w → (let s : Account = record {
+  is_between = idle;
+  fault = None;
+  consumed = n;
+} in s) ≡ account_at w (end_if idle)
 account_if w true n e = ap (λ k. let s : Account = record { is_between = true; fault = None; consumed = k } in s) e
 account_if w false n e = ap (λ k. let s : Account = record { is_between = false; fault = None; consumed = k } in s) e
 
-by_code : (c : FaultCode) (place : ℕ) (w : List ℕ) (s : Position Dictionary) → IsFaultAt c place s → (let t : Account = record { is_between = false; fault = Some (record { code = c; place = place }); consumed = place } in t) ≡ account_at w (end_of s)
+by_code : (c : FaultCode) (place : ℕ) (w : List ℕ) (s : Position Dictionary) → IsFaultAt c place s → (let t : Account = record {
+  is_between = false;
+  fault = Some (record { code = c; place = place });
+  consumed = place;
+} in t) ≡ account_at w (end_of s)
 by_code (Why.Stream c) place w s h = ap (λ x. account_at w (end_of x)) (sym h)
 by_code Why.L4 place w s h = absurd h
 by_code Why.SinkStopped place w s h = absurd h
 
-by_fault : (o : Option Fault) (d : DecoderData) (w : List ℕ) (s : Position Dictionary) → NameLaterNodes d.set.nodes → IsSoundAt o d.set d.limits d.machine d.consumed → IsAt o d (length w) s
+by_fault : (o : Option Fault) (d : DecoderData) (w : List ℕ) (s : Position Dictionary) → NameLaterNodes d.set.nodes
+    → IsSoundAt o d.set d.limits d.machine d.consumed → IsAt o d (length w) s
     → (let t : Account = record { is_between = is_none o && is_idle d.machine; fault = o; consumed = d.consumed } in t) ≡ account_at w (end_of s)
 by_fault None d w s later ready at =
     account_if w (is_idle d.machine) d.consumed at.1
@@ -82,6 +94,7 @@ read-stream d w es so =
     let read = so.read in (
       end_of so.position,
       subst (λ fs. Stream (tree d) d.limits w fs (end_of so.position)) (ap (λ (x : List EventData × Position Dictionary). x.0) read)
-          (subst (λ x. Stream (tree d) d.limits w (reading (tree d) d.limits w).0 (end_of x)) (ap (λ (x : List EventData × Position Dictionary). x.1) read) (reading-sound (tree d) d.limits w so.bytes)),
+          (subst (λ x. Stream (tree d) d.limits w (reading (tree d) d.limits w).0 (end_of x))
+          (ap (λ (x : List EventData × Position Dictionary). x.1) read) (reading-sound (tree d) d.limits w so.bytes)),
       by_fault d.fault d w so.position so.sound.later so.sound.at so.at,
     )

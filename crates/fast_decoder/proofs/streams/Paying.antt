@@ -28,26 +28,31 @@ abbrev pub IsPaid : Set → Limits → ℕ → Machine → Result Unit FaultCode
 IsPaid set l k m r = (way : Way) → (m.turns.count ≤ k * (1 + most_by way (tree_in set) l)) × OnOk r ((n : ℕ) × HasTurnsWaiting way set l n m)
 
 -- A feed begins to count, with what is left of the message.
-pub feed_paid : (d : DecoderData) (m m' : Machine) (k : ℕ) (r : Result Unit FaultCode) → d.fault ≡ None → m ≡ record d.machine { turns = m.turns } → m.turns.count ≡ 0 → IsSound d
+pub feed_paid : (d : DecoderData) (m m' : Machine) (k : ℕ) (r : Result Unit FaultCode) → d.fault ≡ None
+    → m ≡ record d.machine { turns = m.turns } → m.turns.count ≡ 0 → IsSound d
     → ((way : Way) → m.turns.count ≡ 0 → HasTurnsWaiting way d.set d.limits (most_by way (tree_in d.set) d.limits) m
-    → (m'.turns.count ≤ k * (1 + most_by way (tree_in d.set) d.limits)) × OnOk r ((n : ℕ) × HasTurnsWaiting way d.set d.limits n m')) → IsPaid d.set d.limits k m' r
+    → (m'.turns.count ≤ k * (1 + most_by way (tree_in d.set) d.limits)) × OnOk r ((n : ℕ) × HasTurnsWaiting way d.set d.limits n m'))
+    → IsPaid d.set d.limits k m' r
 feed_paid d m m' k r running same none sound takes way =
     let (n, has) = subst (λ (f : Option Fault). IsPaidAt f d.set d.limits d.machine) running sound.paid way in
-    takes way none (subst (λ (x : Machine). HasTurnsWaiting way d.set d.limits (most_by way (tree_in d.set) d.limits) x) (sym same) (counted_anew way d.set d.limits n d.machine m.turns none has))
+    takes way none (subst (λ (x : Machine). HasTurnsWaiting way d.set d.limits (most_by way (tree_in d.set) d.limits) x) (sym same)
+    (counted_anew way d.set d.limits n d.machine m.turns none has))
 
 pub all_within : (set : Set) (l : Limits) (k : ℕ) (m : Machine) (r : Result Unit FaultCode) → IsPaid set l k m r → OnOk r (IsWithinMessage set l m)
 all_within set l k m (Ok u) h = λ way. (h way).1
 all_within set l k m (Err c) h = tt
 
 -- the turns by the bytes consumed
-pub feed_turns : (d old : DecoderData) (k : ℕ) (m : Machine) (r : Result Unit FaultCode) → d ≡ old → IsPaid d.set d.limits k m r → m.turns.count ≤ ((d.consumed + k) - old.consumed) * (1 + turn_cap (tree d) d.limits)
+pub feed_turns : (d old : DecoderData) (k : ℕ) (m : Machine) (r : Result Unit FaultCode) → d ≡ old → IsPaid d.set d.limits k m r
+    → m.turns.count ≤ ((d.consumed + k) - old.consumed) * (1 + turn_cap (tree d) d.limits)
 feed_turns d old k m r view h =
     let consumed : d.consumed ≡ old.consumed = ap (λ (x : DecoderData). x.consumed) view in
     let bytes : (d.consumed + k) - old.consumed ≡ k = omega (arith, consumed) in
     rw bytes (turns_bounded (tree d) d.limits k m.turns.count (λ way. (h way).0))
 
 -- The decoder that goes on.
-pub sound_on : (d : DecoderData) (m : Machine) (k : ℕ) → d.fault ≡ None → NameLaterNodes d.set.nodes → IsSupplied d.set d.limits m → IsReady d.set d.limits m → IsWithinMessage d.set d.limits m
+pub sound_on : (d : DecoderData) (m : Machine) (k : ℕ) → d.fault ≡ None → NameLaterNodes d.set.nodes → IsSupplied d.set d.limits m
+    → IsReady d.set d.limits m → IsWithinMessage d.set d.limits m
     → IsSound (record { set = d.set; limits = d.limits; machine = m; consumed = d.consumed + k; fault = d.fault })
 sound_on d m k running later supplied ready within = record {
   later = later;
@@ -66,7 +71,8 @@ none_placed o n e = subst (λ (p : Option Fault). IfSome p (λ f. n ≡ f.place)
 
 pub same_stopped : (d old : DecoderData) (m : Machine) (f : Fault) → d.fault ≡ Some f → d ≡ old → account (record d { machine = m }) ≡ account old
 same_stopped d old m f is same =
-    let no : (is_none d.fault && is_idle m) ≡ (is_none d.fault && is_idle d.machine) = ap (λ (o : Option Fault). is_none o && is_idle m) is ∙ ap (λ (o : Option Fault). is_none o && is_idle d.machine) (sym is) in
+    let no : (is_none d.fault && is_idle m) ≡ (is_none d.fault && is_idle d.machine) = ap (λ (o : Option Fault). is_none o && is_idle m) is
+    ∙ ap (λ (o : Option Fault). is_none o && is_idle d.machine) (sym is) in
     let told : Bool → Account = λ b. record { is_between = b; fault = d.fault; consumed = d.consumed } in
     ap told no ∙ ap (λ (e : DecoderData). account e) same
 
@@ -77,8 +83,11 @@ past_count a b n same many = omega (arith, same, many)
 pub within_count : {A : Type 0} (a b n : ℕ) → a ≡ b → a ≤ 18446744073709551615 → n ≤ 18446744073709551615 - a → 18446744073709551616 ≤ b + n → A
 within_count a b n same small few many = absurd (omega (arith, same, small, few, many))
 
-pub no_l4 : {S A : Type 0} (takes stops : S → EventData → S → Type 0) (t : Tree) (l : Limits) (from to : Position Dictionary) (w : List ℕ) (s s' : S) (r : Result Unit FaultCode) (c : FaultCode) → r ≡ Err c → Fed takes stops t l from w s r s' to → c ≡ Why.L4 → A
-no_l4 takes stops t l from to w s s' r c is fed e = absurd (subst (λ (k : FaultCode). Fed takes stops t l from w s (Err k) s' to) e (subst (λ (q : Result Unit FaultCode). Fed takes stops t l from w s q s' to) is fed))
+pub no_l4 : {S A : Type 0} (takes stops : S → EventData → S → Type 0) (t : Tree) (l : Limits) (from to : Position Dictionary) (w : List ℕ)
+    (s s' : S) (r : Result Unit FaultCode) (c : FaultCode) → r ≡ Err c → Fed takes stops t l from w s r s' to → c ≡ Why.L4 → A
+no_l4 takes stops t l from to w s s' r c is fed e = absurd
+    (subst (λ (k : FaultCode). Fed takes stops t l from w s (Err k) s' to) e
+    (subst (λ (q : Result Unit FaultCode). Fed takes stops t l from w s q s' to) is fed))
 
 -- A machine whose turns are counted anew takes what it took.
 takes_begun : (w : Waiting) (set : Set) (l : Limits) (m : Machine) (n : Turns) → CanTake w set l m → CanTake w set l (record m { turns = n })
@@ -91,7 +100,11 @@ takes_begun (Number stage) set l m n h = h
 takes_begun (Bytes stage) set l m n h = h
 takes_begun (Mantissa x) set l m n h = h
 
-pub ready_begun : (o : Option Fault) (set : Set) (l : Limits) (m m' : Machine) (k : ℕ) → o ≡ None → m' ≡ record m { turns = m'.turns } → IsSoundAt o set l m k → IsReady set l m'
+pub ready_begun : (o : Option Fault) (set : Set) (l : Limits) (m m' : Machine) (k : ℕ) → o ≡ None → m' ≡ record m { turns = m'.turns }
+    → IsSoundAt o set l m k → IsReady set l m'
 ready_begun o set l m m' k running same at =
     let ready : IsReady set l m = subst (λ (p : Option Fault). IsSoundAt p set l m k) running at in
-    subst (λ (n : Machine). IsReady set l n) (sym same) (record { supplied = supplied-turns set l m m'.turns ready.supplied; takes = takes_begun m.waiting set l m m'.turns ready.takes })
+    subst (λ (n : Machine). IsReady set l n) (sym same) (record {
+      supplied = supplied-turns set l m m'.turns ready.supplied;
+      takes = takes_begun m.waiting set l m m'.turns ready.takes;
+    })

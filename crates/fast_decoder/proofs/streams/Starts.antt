@@ -33,7 +33,8 @@ ready_fresh set l m supplied f =
     let rest : m.cursor ≡ record (resting m.cursor) { map = m.cursor.map } = f.cursor ∙ ap (λ (w : List ℕ). record (resting m.cursor) { map = w }) (sym map) in
     record {
       supplied = supplied;
-      takes = subst (λ (w : Waiting). CanTake w set l m) (sym f.waiting) (none_open m.cursor.map map, none_short m.cursor.map map_limit map (omega arith), f.entity, rest);
+      takes = subst (λ (w : Waiting). CanTake w set l m) (sym f.waiting)
+          (none_open m.cursor.map map, none_short m.cursor.map map_limit map (omega arith), f.entity, rest);
     }
 
 fresh_meaning : (set : Set) (l : Limits) (m : Machine) → IsFresh set m → meaning set l m ≡ Done (fresh set.entries)
@@ -51,7 +52,8 @@ sound_fresh d later supplied f none = record {
   paid = subst (λ o. IsPaidAt o d.set d.limits d.machine) (sym none) (fresh_turns d.set d.limits d.machine f);
 }
 
-pub read_fresh : (d : DecoderData) → NameLaterNodes d.set.nodes → IsSupplied d.set d.limits d.machine → IsFresh d.set d.machine → d.consumed ≡ 0 → d.fault ≡ None → HasRead d [] []
+pub read_fresh : (d : DecoderData) → NameLaterNodes d.set.nodes → IsSupplied d.set d.limits d.machine → IsFresh d.set d.machine
+    → d.consumed ≡ 0 → d.fault ≡ None → HasRead d [] []
 read_fresh d later supplied f zero none = record {
   sound = sound_fresh d later supplied f none;
   bytes = All-nil (λ b. b < 256);

@@ -85,7 +85,13 @@ turns d = d.machine.turns.count
 -- buffered bytes of an integer, nor memory that is written once: a number for each entry, the offset of its string in the block
 -- (`slots.places`).
 abbrev pub stored_by : Machine → Stored
-stored_by m = record { scratch = m.text.capacity + m.joined.capacity; texts = vec_len m.slots.block; entries = vec_len m.slots.entries; frames = m.cursor.depth; maps = map_limit * (m.cursor.depth + 1) }
+stored_by m = record {
+  scratch = m.text.capacity + m.joined.capacity;
+  texts = vec_len m.slots.block;
+  entries = vec_len m.slots.entries;
+  frames = m.cursor.depth;
+  maps = map_limit * (m.cursor.depth + 1);
+}
 
 -- the memory of a decoder
 abbrev pub stored : DecoderData → Stored
@@ -101,13 +107,15 @@ answer None = Ok tt
 answer (Some f) = Err f
 
 -- The piece gives these events, all of which the sink accepts, and the decoder has read it.
-pub record Carries {S : Type 0} (takes : S → EventData → S → Type 0) (w : List ℕ) (es : List EventData) (piece : List ℕ) (s : S) (new : DecoderData) (s' : S) : Type 0 where
+pub record Carries {S : Type 0} (takes : S → EventData → S → Type 0) (w : List ℕ) (es : List EventData) (piece : List ℕ) (s : S)
+    (new : DecoderData) (s' : S) : Type 0 where
   pub more : List EventData
   pub so : HasRead new (w ++ piece) (es ++ more)
   pub took : Takes takes s more s'
 
 -- The sink accepts all events of the stream up to one that the byte before the offset gives, and stops at this one.
-pub record SinkEnds {S : Type 0} (takes stops : S → EventData → S → Type 0) (old : DecoderData) (w : List ℕ) (es : List EventData) (piece : List ℕ) (s : S) (place : ℕ) (s' : S) : Type 0 where
+pub record SinkEnds {S : Type 0} (takes stops : S → EventData → S → Type 0) (old : DecoderData) (w : List ℕ) (es : List EventData)
+    (piece : List ℕ) (s : S) (place : ℕ) (s' : S) : Type 0 where
   pub bytes : ℕ
   pub earlier : List EventData
   pub given : List EventData
@@ -128,12 +136,14 @@ pub record IsRefused {S : Type 0} (old : DecoderData) (piece : List ℕ) (s : S)
   pub same : s' ≡ s
 
 -- the meaning of a fault of a feed
-abbrev pub CarriesAt : {S : Type 0} → (S → EventData → S → Type 0) → (S → EventData → S → Type 0) → DecoderData → List ℕ → List EventData → List ℕ → S → FaultCode → ℕ → DecoderData → S → Type 0
+abbrev pub CarriesAt : {S : Type 0} → (S → EventData → S → Type 0) → (S → EventData → S → Type 0) → DecoderData → List ℕ → List EventData
+    → List ℕ → S → FaultCode → ℕ → DecoderData → S → Type 0
 CarriesAt takes stops old w es piece s (Why.Stream c) place new s' = Carries takes w es piece s new s'
 CarriesAt takes stops old w es piece s Why.L4 place new s' = IsRefused old piece s place s'
 CarriesAt takes stops old w es piece s Why.SinkStopped place new s' = SinkEnds takes stops old w es piece s place s'
 
 -- the effect of feeding a piece, after the bytes that the decoder had read
-abbrev pub Carried : {S : Type 0} → (S → EventData → S → Type 0) → (S → EventData → S → Type 0) → DecoderData → List ℕ → List EventData → List ℕ → S → Result Unit Fault → DecoderData → S → Type 0
+abbrev pub Carried : {S : Type 0} → (S → EventData → S → Type 0) → (S → EventData → S → Type 0) → DecoderData → List ℕ → List EventData
+    → List ℕ → S → Result Unit Fault → DecoderData → S → Type 0
 Carried takes stops old w es piece s (Ok u) new s' = Carries takes w es piece s new s'
 Carried takes stops old w es piece s (Err f) new s' = CarriesAt takes stops old w es piece s f.code f.place new s'

@@ -28,7 +28,8 @@ all_bytes pieces = flat_map (λ (p : Bor (List ℕ)). p.now) pieces
 -- More bytes were fed after bytes that gave events. The sink received exactly the events that these give, and the decoder reports where the
 -- stream is: between messages, inside one, or at its first fault, by name and offset. All the events are at most the cap of a message for
 -- each byte consumed. Without a fault, the decoder has read what was fed, and more can be fed after it.
-pub record Follows {S : Type 0} (takes : S → EventData → S → Type 0) (t : Tree) (l : Limits) (w : List ℕ) (es : List EventData) (fed : List ℕ) (s : S) (new : DecoderData) (s' : S) : Type 0 where
+pub record Follows {S : Type 0} (takes : S → EventData → S → Type 0) (t : Tree) (l : Limits) (w : List ℕ) (es : List EventData)
+    (fed : List ℕ) (s : S) (new : DecoderData) (s' : S) : Type 0 where
   pub given : List EventData
   pub took : Takes takes s given s'
   pub stream : TellsStream t l (w ++ fed) (es ++ given) (account new)
@@ -36,7 +37,8 @@ pub record Follows {S : Type 0} (takes : S → EventData → S → Type 0) (t : 
   pub so : new.fault ≡ None → HasRead new (w ++ fed) (es ++ given)
 
 -- The sink accepted the stream's events up to one that the byte before the offset gives, and stopped at this one.
-pub record StopsShort {S : Type 0} (takes stops : S → EventData → S → Type 0) (t : Tree) (l : Limits) (w : List ℕ) (es : List EventData) (fed : List ℕ) (s : S) (place : ℕ) (new : DecoderData) (s' : S) : Type 0 where
+pub record StopsShort {S : Type 0} (takes stops : S → EventData → S → Type 0) (t : Tree) (l : Limits) (w : List ℕ) (es : List EventData)
+    (fed : List ℕ) (s : S) (place : ℕ) (new : DecoderData) (s' : S) : Type 0 where
   pub before : List ℕ
   pub byte : ℕ
   pub unread : List ℕ
@@ -56,7 +58,8 @@ pub record StopsShort {S : Type 0} (takes stops : S → EventData → S → Type
   pub few : length (es ++ earlier ++ given) ≤ new.consumed * message_cap t l
 
 -- The sink received the events of the bytes up to the offset. The bytes after it are more than can be counted, and were not read.
-pub record Overflows {S : Type 0} (takes : S → EventData → S → Type 0) (t : Tree) (l : Limits) (w : List ℕ) (es : List EventData) (fed : List ℕ) (s : S) (place : ℕ) (new : DecoderData) (s' : S) : Type 0 where
+pub record Overflows {S : Type 0} (takes : S → EventData → S → Type 0) (t : Tree) (l : Limits) (w : List ℕ) (es : List EventData)
+    (fed : List ℕ) (s : S) (place : ℕ) (new : DecoderData) (s' : S) : Type 0 where
   pub before : List ℕ
   pub unread : List ℕ
   pub fed_is : fed ≡ before ++ unread
@@ -69,13 +72,15 @@ pub record Overflows {S : Type 0} (takes : S → EventData → S → Type 0) (t 
   pub few : length (es ++ given) ≤ new.consumed * message_cap t l
 
 -- the meaning of each fault
-abbrev pub FollowedAt : {S : Type 0} → (S → EventData → S → Type 0) → (S → EventData → S → Type 0) → Tree → Limits → List ℕ → List EventData → List ℕ → S → FaultCode → ℕ → DecoderData → S → Type 0
+abbrev pub FollowedAt : {S : Type 0} → (S → EventData → S → Type 0) → (S → EventData → S → Type 0) → Tree → Limits → List ℕ
+    → List EventData → List ℕ → S → FaultCode → ℕ → DecoderData → S → Type 0
 FollowedAt takes stops t l w es fed s (Why.Stream c) place new s' = Follows takes t l w es fed s new s'
 FollowedAt takes stops t l w es fed s Why.L4 place new s' = Overflows takes t l w es fed s place new s'
 FollowedAt takes stops t l w es fed s Why.SinkStopped place new s' = StopsShort takes stops t l w es fed s place new s'
 
 -- The effect of a call that feeds bytes after others, which gave events: the sink follows the stream of all of them, up to its first fault,
 -- unless it stops or the bytes are more than can be counted.
-abbrev pub Followed : {S : Type 0} → (S → EventData → S → Type 0) → (S → EventData → S → Type 0) → Tree → Limits → List ℕ → List EventData → List ℕ → S → Result Unit Fault → DecoderData → S → Type 0
+abbrev pub Followed : {S : Type 0} → (S → EventData → S → Type 0) → (S → EventData → S → Type 0) → Tree → Limits → List ℕ → List EventData
+    → List ℕ → S → Result Unit Fault → DecoderData → S → Type 0
 Followed takes stops t l w es fed s (Ok u) new s' = Follows takes t l w es fed s new s'
 Followed takes stops t l w es fed s (Err f) new s' = FollowedAt takes stops t l w es fed s f.code f.place new s'

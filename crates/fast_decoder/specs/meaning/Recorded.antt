@@ -1,7 +1,8 @@
 -- The events that a recorder keeps.
 use Rattle.std.specs.Prelude.{List, map}
 use Rattle.fast_value.specs.meaning.Values.{value_data}
-use Rattle.fast_stream.specs.meaning.Events.{EventData, MessageStart, FieldValue, GroupStart, GroupEnd, SequenceStart, ElementStart, ElementEnd, SequenceEnd, MessageEnd}
+use Rattle.fast_stream.specs.meaning.Events.{EventData, MessageStart, FieldValue, GroupStart, GroupEnd, SequenceStart, ElementStart}
+use Rattle.fast_stream.specs.meaning.Events.{ElementEnd, SequenceEnd, MessageEnd}
 use Rattle.fast_decoder.specs.declared.recorder.Recorded.{Recorded}
 use Rattle.fast_decoder.specs.declared.recorder.Recorded.TheVariants as Kept
 use Rattle.fast_decoder.specs.declared.recorder.Recorder.{Recorder}

@@ -4,7 +4,8 @@ use Rattle.fast_value.specs.declared.kinds.Kind.TheVariants as K
 use Rattle.fast_value.specs.meaning.Kinds.{U, I, Dec, AsciiText, UnicodeText, ByteVector}
 use Rattle.fast_dict.specs.meaning.Dictionary.{PreviousData, undefined, empty, assigned}
 use Rattle.fast_dict.specs.declared.entry.Entry.{Entry}
-use Rattle.fast_dict.specs.declared.entry.Entry.TheVariants.{Undefined, Empty, UInt32, Int32, UInt64, Int64, Decimal, Ascii, Unicode, Bytes, OtherUnsigned, OtherSigned, OtherDecimal, OtherAscii, OtherUnicode, OtherBytes}
+use Rattle.fast_dict.specs.declared.entry.Entry.TheVariants.{Undefined, Empty, UInt32, Int32, UInt64, Int64, Decimal, Ascii, Unicode, Bytes}
+use Rattle.fast_dict.specs.declared.entry.Entry.TheVariants.{OtherUnsigned, OtherSigned, OtherDecimal, OtherAscii, OtherUnicode, OtherBytes}
 
 -- the contents of an entry, with the string in its slot
 abbrev pub with_text : Entry → List ℕ → PreviousData

@@ -24,6 +24,7 @@ lists_units s = sum_by text_size (lists_dictionary s) + length (lists_dictionary
 -- each string is short
 pub lists_bounded : (s : Lists) → lists_units s ≤ length (lists_dictionary s) * s.max_text + length (lists_dictionary s)
 lists_bounded s =
-    let each : All (λ p. text_size p ≤ s.max_text) (lists_dictionary s) = λ k d h. let j : k < length s.entries.items = rw (← length-map s.entries.items held_data) h in rw (get_or-map held_data s.entries.items k Undefined d j) (s.fitting k) in
+    let each : All (λ p. text_size p ≤ s.max_text) (lists_dictionary s) = λ k d h. let j : k < length s.entries.items =
+    rw (← length-map s.entries.items held_data) h in rw (get_or-map held_data s.entries.items k Undefined d j) (s.fitting k) in
     let h = sum_by-le text_size s.max_text (lists_dictionary s) each in
     omega (arith, h)

@@ -1,10 +1,13 @@
 -- The field operators, as one table by cases. Each case is the value and the next contents of the entry, or the fault that is decided
 -- there. A delta is decoded in steps, each at the end of the bytes on which it depends.
-use Rattle.std.specs.Prelude.{◌≡◌, ℕ, ◌-◌, Bool, true, false, ◌&&◌, nat_le, if◌then◌else◌, List, [], ◌++◌, length, take, drop, ℤ, pos, negsuc, ◌+ℤ◌, int_le, int_lt, Option, Some, None, Result, Ok, Err, unwrap_or}
+use Rattle.std.specs.Prelude.{◌≡◌, ℕ, ◌-◌, Bool, true, false, ◌&&◌, nat_le, if◌then◌else◌, List, [], ◌++◌, length, take, drop, ℤ, pos}
+use Rattle.std.specs.Prelude.{negsuc, ◌+ℤ◌, int_le, int_lt, Option, Some, None, Result, Ok, Err, unwrap_or}
 use Rattle.std.specs.Str.{is_utf8}
 use Rattle.fast_value.specs.declared.kinds.Kind.{Kind}
 use Rattle.fast_value.specs.declared.kinds.Kind.TheVariants.{Unicode}
-use Rattle.fast_value.specs.meaning.Kinds.{IsWithin, Range, signed_range, exponent_range, ScalarData, Dec, Family, integers, decimals, texts, family, value_of_integer, value_of_text, integer_of, text_of, exponent_of, mantissa_of, same_kind}
+use Rattle.fast_value.specs.meaning.Kinds.{IsWithin, Range, signed_range, exponent_range, ScalarData, Dec, Family, integers, decimals}
+use Rattle.fast_value.specs.meaning.Kinds.{texts, family, value_of_integer, value_of_text, integer_of, text_of, exponent_of, mantissa_of}
+use Rattle.fast_value.specs.meaning.Kinds.{same_kind}
 use Rattle.fast_value.specs.declared.codes.Code.{Code}
 use Rattle.fast_value.specs.declared.codes.Code.TheVariants.{D2, D4, D5, D6, D7, R1, R2}
 use Rattle.fast_tree.specs.declared.operators.Operator.{Operator}

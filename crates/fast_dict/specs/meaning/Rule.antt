@@ -1,5 +1,6 @@
 -- The content that an encoder sends for a value: whether it sets the bit, and the item after it.
-use Rattle.std.specs.Prelude.{◌≡◌, ◌⊎◌, ℕ, suc, ◌-◌, ◌<◌, ◌≤◌, Bool, true, false, nat_eq, if◌then◌else◌, List, ◌∷◌, length, reverse, take, drop, pos, negsuc, ◌-ℤ◌, Option, Some, None, Ok}
+use Rattle.std.specs.Prelude.{◌≡◌, ◌⊎◌, ℕ, suc, ◌-◌, ◌<◌, ◌≤◌, Bool, true, false, nat_eq, if◌then◌else◌, List, ◌∷◌, length, reverse, take}
+use Rattle.std.specs.Prelude.{drop, pos, negsuc, ◌-ℤ◌, Option, Some, None, Ok}
 use Rattle.fast_value.specs.meaning.Kinds.{ScalarData, Family, integers, decimals, texts, family, integer_of, exponent_of, mantissa_of, text_of, value_of_text}
 use Rattle.fast_tree.specs.declared.operators.Operator.{Operator}
 use Rattle.fast_tree.specs.declared.operators.Operator.TheVariants.{Constant, Delta, Tail}
@@ -55,7 +56,8 @@ abbrev pub SentBy : Operator → FieldData → PreviousData → Option ScalarDat
 SentBy Constant f p v item = (v ≡ f.initial) × (item ≡ nothing)
 SentBy operator f p None item = item ≡ null
 SentBy Delta f p (Some v) item = (base : ScalarData) × (delta_base f p ≡ Ok base) × IsDelta (family f.kind) base v item
-SentBy Tail f p (Some v) item = (base : ScalarData) × (part : List ℕ) × (tail_base f p ≡ Ok base) × IsTail (text_of base) (text_of v) part × (item ≡ value (value_of_text f.kind part))
+SentBy Tail f p (Some v) item = (base : ScalarData) × (part : List ℕ) × (tail_base f p ≡ Ok base) × IsTail (text_of base) (text_of v) part
+    × (item ≡ value (value_of_text f.kind part))
 SentBy operator f p (Some v) item = item ≡ value v
 
 -- the content of the stream for the field's value, or for its absence

@@ -1,5 +1,6 @@
 -- A dictionary whose strings are in slots of one block.
-use Rattle.std.specs.Prelude.{◌≡◌, ℕ, zero, suc, ◌+◌, ◌*◌, ◌<◌, ◌≤◌, refl, true, false, List, [], ◌∷◌, length, take, drop, slice_index_or, Option, Some, None, is_some, vec_len}
+use Rattle.std.specs.Prelude.{◌≡◌, ℕ, zero, suc, ◌+◌, ◌*◌, ◌<◌, ◌≤◌, refl, true, false, List, [], ◌∷◌, length, take, drop, slice_index_or}
+use Rattle.std.specs.Prelude.{Option, Some, None, is_some, vec_len}
 use Rattle.std.proofs.Common.{ap, arith}
 use Rattle.std.proofs.lemmas.List.{length-take}
 use Rattle.fast_dict.specs.meaning.Dictionary.{Dictionary, PreviousData, undefined}
@@ -7,7 +8,8 @@ use Rattle.fast_dict.specs.meaning.Stores.{Terms}
 use Rattle.fast_dict.specs.meaning.Entry.{with_text, text_length}
 use Rattle.fast_dict.specs.meaning.Held.{text_size}
 use Rattle.fast_dict.specs.declared.entry.Entry.{Entry}
-use Rattle.fast_dict.specs.declared.entry.Entry.TheVariants.{Undefined, Empty, UInt32, Int32, UInt64, Int64, Decimal, Ascii, Unicode, Bytes, OtherUnsigned, OtherSigned, OtherDecimal, OtherAscii, OtherUnicode, OtherBytes}
+use Rattle.fast_dict.specs.declared.entry.Entry.TheVariants.{Undefined, Empty, UInt32, Int32, UInt64, Int64, Decimal, Ascii, Unicode, Bytes}
+use Rattle.fast_dict.specs.declared.entry.Entry.TheVariants.{OtherUnsigned, OtherSigned, OtherDecimal, OtherAscii, OtherUnicode, OtherBytes}
 use Rattle.fast_dict.specs.declared.slots.Slots.{Slots}
 
 -- the string in the slot that begins at an offset of the block, if there is a slot
@@ -31,11 +33,17 @@ slots_dictionary s = entries_data s.block.items s.places.items s.entries.items
 
 -- An entry can hold a string if it has a slot. Nothing allocates.
 abbrev pub slots_terms : Slots → Terms
-slots_terms s = record { entries = length s.entries.items; max_text = s.max_text; takes_text = λ e. is_some (slice_index_or s.places.items e None); can_refuse = false }
+slots_terms s = record {
+  entries = length s.entries.items;
+  max_text = s.max_text;
+  takes_text = λ e. is_some (slice_index_or s.places.items e None);
+  can_refuse = false;
+}
 
 -- The entry holds an ASCII string under its own type, in a slot.
 abbrev pub HoldsAscii : Slots → ℕ → Type 0
-HoldsAscii s e = (e < length (slots_dictionary s)) × ((n : ℕ) × (slice_index_or s.entries.items e Undefined ≡ Ascii n)) × (is_some (slice_index_or s.places.items e None) ≡ true)
+HoldsAscii s e = (e < length (slots_dictionary s)) × ((n : ℕ) × (slice_index_or s.entries.items e Undefined ≡ Ascii n))
+    × (is_some (slice_index_or s.places.items e None) ≡ true)
 
 -- the whole block, and the entries
 abbrev pub slots_units : Slots → ℕ
@@ -49,14 +57,17 @@ length-entries b (p ∷ ps) (e ∷ es) = ap suc (length-entries b ps es)
 
 -- the block has a slot for each entry at most
 pub slots_bounded : (s : Slots) → slots_units s ≤ length (slots_dictionary s) * s.max_text + length (slots_dictionary s)
-slots_bounded s = let e : length (slots_dictionary s) ≡ length s.entries.items = length-entries s.block.items s.places.items s.entries.items in let f = s.entries.ok.0 in let h : vec_len s.block ≤ length s.entries.items * s.max_text = rw (← f) s.small in rw (e) (omega (arith, h, f))
+slots_bounded s = let e : length (slots_dictionary s) ≡ length s.entries.items =
+    length-entries s.block.items s.places.items s.entries.items in let f = s.entries.ok.0 in
+    let h : vec_len s.block ≤ length s.entries.items * s.max_text = rw (← f) s.small in rw (e) (omega (arith, h, f))
 
 -- it has as many entries as it was made for
 pub slots_sized : (s : Slots) → length (slots_dictionary s) ≡ (slots_terms s).entries
 slots_sized s = length-entries s.block.items s.places.items s.entries.items
 
 -- each by its slot
-pub get-entries : (b : List ℕ) (ps : List (Option ℕ)) (es : List Entry) (i : ℕ) → slice_index_or (entries_data b ps es) i undefined ≡ entry_data b (slice_index_or ps i None) (slice_index_or es i Undefined)
+pub get-entries : (b : List ℕ) (ps : List (Option ℕ)) (es : List Entry) (i : ℕ)
+    → slice_index_or (entries_data b ps es) i undefined ≡ entry_data b (slice_index_or ps i None) (slice_index_or es i Undefined)
 get-entries b [] [] i = refl
 get-entries b (p ∷ ps) [] zero = refl
 get-entries b (p ∷ ps) [] (suc i) = refl

@@ -28,7 +28,8 @@ pub record Start : Type 0 where
   pub had_failed : Bool
 
 -- The run has read the bytes, and these gave the events, whose rows are on the page. There was no fault.
-pub record Progress {T : Type 0} (written : T → Option (List ℕ)) (failed : T → Bool) (first : Start) (t : Tree) (l : Limits) (s : Dump T) (b : List ℕ) (es : List EventData) : Type 0 where
+pub record Progress {T : Type 0} (written : T → Option (List ℕ)) (failed : T → Bool) (first : Start) (t : Tree) (l : Limits) (s : Dump T)
+    (b : List ℕ) (es : List EventData) : Type 0 where
   pub set : tree s.decoder ≡ t
   pub limits : s.decoder.limits ≡ l
   pub so : HasRead s.decoder b es
@@ -55,12 +56,14 @@ EndsIn t l W b (Err (Encode message fault)) = ⊥
 EndsIn t l W b (Err Memory) = ⊥
 
 -- what becomes of a run by more bytes
-abbrev pub Goes : {T : Type 0} → (T → Option (List ℕ)) → (T → Bool) → Start → Tree → Limits → List ℕ → List EventData → Dump T → Option (Result ShowEnd RunFault) → Type 0
+abbrev pub Goes : {T : Type 0} → (T → Option (List ℕ)) → (T → Bool) → Start → Tree → Limits → List ℕ → List EventData → Dump T
+    → Option (Result ShowEnd RunFault) → Type 0
 Goes written failed first t l b es s None = (more : List EventData) × Progress written failed first t l s b (es ++ more)
 Goes written failed first t l b es s (Some r) = EndsIn t l (Rows written failed first t s.page.target) b r
 
 -- all rows were written, and the run has this ending; or a front of them, and it ends with that
-abbrev pub IsStopped : {T : Type 0} → (T → Option (List ℕ)) → (T → Bool) → Start → Tree → List ℕ → List EventData → Page T → Result ShowEnd RunFault → Result ShowEnd RunFault → Type 0
+abbrev pub IsStopped : {T : Type 0} → (T → Option (List ℕ)) → (T → Bool) → Start → Tree → List ℕ → List EventData → Page T
+    → Result ShowEnd RunFault → Result ShowEnd RunFault → Type 0
 IsStopped written failed first t b es p ending r =
     (r ≡ ending) × Rows written failed first t p.target b (lines t es) (Ok tt)
     ⊎ (r ≡ Err Write) × ((why : Failed) × Rows written failed first t p.target b (lines t es) (Err why))

@@ -48,7 +48,8 @@ pub record IsCut (t : Tree) (l : Limits) (W : List ℕ → List ℕ → Result (
   pub rows : W shown out (Err why)
 
 -- These bytes have no fault, and all their rows were written.
-pub record IsSoFar (t : Tree) (l : Limits) (hex : Bool) (W : List ℕ → List ℕ → Result (Unit {0}) Failed → Type 0) (text : List ℕ) (place : Option ℕ) : Type 0 where
+pub record IsSoFar (t : Tree) (l : Limits) (hex : Bool) (W : List ℕ → List ℕ → Result (Unit {0}) Failed → Type 0) (text : List ℕ)
+    (place : Option ℕ) : Type 0 where
   pub bytes : List ℕ
   pub events : List EventData
   pub end : End
@@ -58,10 +59,12 @@ pub record IsSoFar (t : Tree) (l : Limits) (hex : Bool) (W : List ℕ → List �
 
 -- What a run has read and written that ended so. The run can say for which cause no decoder is made, that there is no memory for it, that the
 -- input is at its end, and that it reads no more.
-abbrev pub IsDumped : Tree → Limits → Bool → (Refuses : MakeError → Type 0) → (LacksMemory AtEnd ReadsNoMore : Type 0) → (W : List ℕ → List ℕ → Result (Unit {0}) Failed → Type 0) → List ℕ → Result ShowEnd RunFault → Type 0
+abbrev pub IsDumped : Tree → Limits → Bool → (Refuses : MakeError → Type 0) → (LacksMemory AtEnd ReadsNoMore : Type 0)
+    → (W : List ℕ → List ℕ → Result (Unit {0}) Failed → Type 0) → List ℕ → Result ShowEnd RunFault → Type 0
 IsDumped t l hex Refuses LacksMemory AtEnd ReadsNoMore W text (Ok Good) =
     (b : List ℕ) × (es : List EventData) × IsStreamOf t l hex text None b es between × W b (lines t es) (Ok tt) × AtEnd
-IsDumped t l hex Refuses LacksMemory AtEnd ReadsNoMore W text (Ok (Faulted f)) = (place : Option ℕ) × (b : List ℕ) × StandsFor hex text b place × IsAtFault t l W b f
+IsDumped t l hex Refuses LacksMemory AtEnd ReadsNoMore W text (Ok (Faulted f)) = (place : Option ℕ) × (b : List ℕ)
+    × StandsFor hex text b place × IsAtFault t l W b f
 IsDumped t l hex Refuses LacksMemory AtEnd ReadsNoMore W text (Ok (Truncated n)) =
     (b : List ℕ) × (es : List EventData) × IsStreamOf t l hex text None b es inside × (n ≡ length b) × W b (lines t es ++ truncated_line n) (Ok tt) × AtEnd
 IsDumped t l hex Refuses LacksMemory AtEnd ReadsNoMore W text (Err (BadHex n)) = IsSoFar t l hex W text (Some n)

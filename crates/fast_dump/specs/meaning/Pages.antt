@@ -13,7 +13,8 @@ use Rattle.fast_dump.specs.meaning.Kept.{kept, place}
 
 -- The target held something before. Since then rows with these lines of show were written. Their bytes, and then those that are kept, are
 -- these.
-pub record IsPage {T : Type 0} (written : T → Option (List ℕ)) (failed : T → Bool) (held : Option (List ℕ)) (had_failed : Bool) (t : Tree) (p : Page T) (b ls : List ℕ) : Type 0 where
+pub record IsPage {T : Type 0} (written : T → Option (List ℕ)) (failed : T → Bool) (held : Option (List ℕ)) (had_failed : Bool) (t : Tree)
+    (p : Page T) (b ls : List ℕ) : Type 0 where
   pub names : tree_of p.templates.now ≡ t
   pub front_names : tree_of (set_of p.fronts.now).now ≡ t
   pub before : List ℕ
@@ -22,7 +23,8 @@ pub record IsPage {T : Type 0} (written : T → Option (List ℕ)) (failed : T �
   pub place_is : place p.kept ≡ length before
 
 -- Of such rows a front was written, and the target has failed. Their bytes are the first of these.
-pub record IsTorn {T : Type 0} (written : T → Option (List ℕ)) (failed : T → Bool) (held : Option (List ℕ)) (had_failed : Bool) (t : Tree) (p : Page T) (b ls : List ℕ) : Type 0 where
+pub record IsTorn {T : Type 0} (written : T → Option (List ℕ)) (failed : T → Bool) (held : Option (List ℕ)) (had_failed : Bool) (t : Tree)
+    (p : Page T) (b ls : List ℕ) : Type 0 where
   pub before : List ℕ
   pub rest : List ℕ
   pub why : Failed
@@ -30,29 +32,36 @@ pub record IsTorn {T : Type 0} (written : T → Option (List ℕ)) (failed : T �
   pub bytes_are : before ++ rest ≡ b
 
 -- the one at success, the other at a failure
-abbrev pub IsLeft : {T : Type 0} → (T → Option (List ℕ)) → (T → Bool) → Option (List ℕ) → Bool → Tree → Page T → List ℕ → List ℕ → Result (Unit {0}) Failed → Type 0
+abbrev pub IsLeft : {T : Type 0} → (T → Option (List ℕ)) → (T → Bool) → Option (List ℕ) → Bool → Tree → Page T → List ℕ → List ℕ
+    → Result (Unit {0}) Failed → Type 0
 IsLeft written failed held had_failed t p b ls (Ok u) = IsPage written failed held had_failed t p b ls
 IsLeft written failed held had_failed t p b ls (Err e) = IsTorn written failed held had_failed t p b ls
 
 -- The bytes of a page become more by these.
 abbrev pub Gains : {T : Type 0} → (T → Option (List ℕ)) → (T → Bool) → Page T → List ℕ → Page T → Result (Unit {0}) Failed → Type 0
-Gains written failed old more new r = (held : Option (List ℕ)) (had_failed : Bool) (t : Tree) (b ls : List ℕ) → IsPage written failed held had_failed t old b ls → IsLeft written failed held had_failed t new (b ++ more) ls r
+Gains written failed old more new r = (held : Option (List ℕ)) (had_failed : Bool) (t : Tree) (b ls : List ℕ)
+    → IsPage written failed held had_failed t old b ls → IsLeft written failed held had_failed t new (b ++ more) ls r
 
 -- The bytes and the lines stay the same.
 abbrev pub Keeps : {T : Type 0} → (T → Option (List ℕ)) → (T → Bool) → Page T → Page T → Result (Unit {0}) Failed → Type 0
-Keeps written failed old new r = (held : Option (List ℕ)) (had_failed : Bool) (t : Tree) (b ls : List ℕ) → IsPage written failed held had_failed t old b ls → IsLeft written failed held had_failed t new b ls r
+Keeps written failed old new r = (held : Option (List ℕ)) (had_failed : Bool) (t : Tree) (b ls : List ℕ)
+    → IsPage written failed held had_failed t old b ls → IsLeft written failed held had_failed t new b ls r
 
 -- The lines become more by that of an event.
 abbrev pub Shows : {T : Type 0} → (T → Option (List ℕ)) → (T → Bool) → Page T → EventData → Page T → Result (Unit {0}) Failed → Type 0
-Shows written failed old e new r = (held : Option (List ℕ)) (had_failed : Bool) (t : Tree) (b ls : List ℕ) → IsPage written failed held had_failed t old b ls → IsLeft written failed held had_failed t new b (ls ++ (line_of t e ++ 0x0A ∷ [])) r
+Shows written failed old e new r = (held : Option (List ℕ)) (had_failed : Bool) (t : Tree) (b ls : List ℕ)
+    → IsPage written failed held had_failed t old b ls → IsLeft written failed held had_failed t new b (ls ++ (line_of t e ++ 0x0A ∷ [])) r
 
 -- The row of an event is written, or a front of it.
 abbrev pub TakesRow : {T : Type 0} → (T → Option (List ℕ)) → (T → Bool) → Page T → EventData → Page T → Type 0
 TakesRow written failed old e new = Shows written failed old e new (Ok tt) × HoldsBytes e
 
 abbrev pub StopsInRow : {T : Type 0} → (T → Option (List ℕ)) → (T → Bool) → Page T → EventData → Page T → Type 0
-StopsInRow written failed old e new = (held : Option (List ℕ)) (had_failed : Bool) (t : Tree) (b ls : List ℕ) → IsPage written failed held had_failed t old b ls → IsTorn written failed held had_failed t new b (ls ++ (line_of t e ++ 0x0A ∷ []))
+StopsInRow written failed old e new = (held : Option (List ℕ)) (had_failed : Bool) (t : Tree) (b ls : List ℕ)
+    → IsPage written failed held had_failed t old b ls → IsTorn written failed held had_failed t new b (ls ++ (line_of t e ++ 0x0A ∷ []))
 
 -- All rows were written, and one without bytes that closes the stream, or a front of them.
 abbrev pub Closes : {T : Type 0} → (T → Option (List ℕ)) → (T → Bool) → Page T → List ℕ → Page T → Result (Unit {0}) Failed → Type 0
-Closes written failed old line new r = (held : Option (List ℕ)) (had_failed : Bool) (t : Tree) (b ls : List ℕ) → IsPage written failed held had_failed t old b ls → AreWritten t 0 b (ls ++ line) held (written new.target) had_failed (failed new.target) r
+Closes written failed old line new r = (held : Option (List ℕ)) (had_failed : Bool) (t : Tree) (b ls : List ℕ)
+    → IsPage written failed held had_failed t old b ls → AreWritten t 0 b (ls ++ line) held (written new.target) had_failed
+    (failed new.target) r

@@ -25,6 +25,7 @@ IsSinkStop (Ok u) = ⊥
 IsSinkStop (Err f) = f.code ≡ Why.SinkStopped
 
 -- The sink took exactly the events of the message, and the two are level again after its bytes.
-pub record IsReadBack {S : Type 0} (takes : S → EventData → S → Type 0) (m : MessageData) (bytes : List ℕ) (w : List ℕ) (es : List EventData) (s : S) (e : EncoderData) (d : DecoderData) (s' : S) : Type 0 where
+pub record IsReadBack {S : Type 0} (takes : S → EventData → S → Type 0) (m : MessageData) (bytes : List ℕ) (w : List ℕ)
+    (es : List EventData) (s : S) (e : EncoderData) (d : DecoderData) (s' : S) : Type 0 where
   pub took : Takes takes s (events (tree e) m) s'
   pub level : AreLevel e d (w ++ bytes) (es ++ events (tree e) m)

@@ -49,7 +49,8 @@ abbrev pub TextLimit : Type 0
 TextLimit =
     Stream vectors short_texts (0xC0 ∷ 0x88 ∷ 0x91 ∷ []) (MessageStart 7 ∷ []) (faulted L1 3)
     × Stream vectors lenient (0xC0 ∷ 0x88 ∷ 0x0F ∷ 0x7F ∷ 0x7F ∷ 0x7F ∷ 0xFF ∷ []) (MessageStart 7 ∷ []) (faulted L1 7)
-    × Stream vectors short_texts (0xC0 ∷ 0x93 ∷ replicate 15 0x41 ++ 0xC1 ∷ []) (MessageStart 18 ∷ FieldValue 25 (AsciiText (codes "AAAAAAAAAAAAAAAA")) ∷ MessageEnd ∷ []) between
+    × Stream vectors short_texts (0xC0 ∷ 0x93 ∷ replicate 15 0x41 ++ 0xC1 ∷ [])
+    (MessageStart 18 ∷ FieldValue 25 (AsciiText (codes "AAAAAAAAAAAAAAAA")) ∷ MessageEnd ∷ []) between
     × Stream vectors short_texts (0xC0 ∷ 0x93 ∷ replicate 17 0x41) (MessageStart 18 ∷ []) (faulted L1 19)
 
 -- 146 bytes, of which the last has a stop: no bit is set, and so an identifier is to be copied; and 146 without a stop

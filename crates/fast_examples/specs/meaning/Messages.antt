@@ -3,7 +3,8 @@
 use Rattle.std.specs.Prelude.{ℕ, List, [], ◌∷◌, ◌++◌, codes, pos, negsuc}
 use Rattle.fast_value.specs.meaning.Kinds.{U, I, Dec, AsciiText, UnicodeText, ByteVector}
 use Rattle.fast_value.specs.declared.codes.Code.TheVariants.{R1, R6, R9}
-use Rattle.fast_stream.specs.meaning.Events.{EventData, MessageStart, FieldValue, GroupStart, GroupEnd, SequenceStart, SequenceEnd, ElementStart, ElementEnd, MessageEnd}
+use Rattle.fast_stream.specs.meaning.Events.{EventData, MessageStart, FieldValue, GroupStart, GroupEnd, SequenceStart, SequenceEnd}
+use Rattle.fast_stream.specs.meaning.Events.{ElementStart, ElementEnd, MessageEnd}
 use Rattle.fast_stream.specs.meaning.Streams.{Stream, between, faulted}
 use Rattle.fast_examples.specs.meaning.Vectors.{vectors, lenient, strict, short_texts}
 

@@ -78,7 +78,8 @@ t6 = template (codes "T6") 6 (one_field 6 (codes "x") (with_entry UInt32 true Co
 
 -- an optional decimal by parts and a uInt32, each under copy
 abbrev pub t7 : TemplateData
-t7 = template (codes "T7") 7 (step (parts (at 7 (codes "p")) (with_entry Int32 true Copy 5) (with_entry Int64 false Copy 6)) (one_field 8 (codes "y") (with_entry UInt32 false Copy 7)))
+t7 = template (codes "T7") 7 (step (parts (at 7 (codes "p")) (with_entry Int32 true Copy 5) (with_entry Int64 false Copy 6))
+    (one_field 8 (codes "y") (with_entry UInt32 false Copy 7)))
 
 -- a Unicode text
 abbrev pub t8 : TemplateData
@@ -142,4 +143,8 @@ only_t2 = record { templates = t2 ∷ []; entries = 1 }
 
 -- a sequence of sequences of a constant
 abbrev pub nested_sequences : Tree
-nested_sequences = record { templates = template (codes "N") 1 (step (sequence (at 0 (codes "a")) (plain UInt32 false) (step (sequence (at 1 (codes "b")) (plain UInt32 false) (one_field 2 (codes "c") constant_7)) end)) end) ∷ []; entries = 1 }
+nested_sequences = record {
+  templates = template (codes "N") 1 (step (sequence (at 0 (codes "a")) (plain UInt32 false)
+      (step (sequence (at 1 (codes "b")) (plain UInt32 false) (one_field 2 (codes "c") constant_7)) end)) end) ∷ [];
+  entries = 1;
+}

@@ -29,7 +29,8 @@ sevens_of a b c d e f g h a8 b8 c8 d8 e8 f8 g8 h8 =
     (by_blocks 8 _ 0x7f_7f7f_7f7f _ f 127 _ f8 (lit< tt)
     (by_blocks 8 _ 0x7f7f_7f7f _ e 127 _ e8 (lit< tt)
     (by_blocks 8 _ 0x7f_7f7f _ d 127 _ d8 (lit< tt)
-    (by_blocks 8 _ 0x7f7f _ c 127 _ c8 (lit< tt) (by_blocks 8 a 127 _ b 127 _ b8 (lit< tt) (seven a) (seven b)) (seven c)) (seven d)) (seven e)) (seven f)) (seven g)) (seven h)
+    (by_blocks 8 _ 0x7f7f _ c 127 _ c8 (lit< tt) (by_blocks 8 a 127 _ b 127 _ b8 (lit< tt) (seven a) (seven b)) (seven c)) (seven d))
+    (seven e)) (seven f)) (seven g)) (seven h)
 
 -- the upper one of two digits
 upper : (a b : ℕ) → a < 128 → b < 128 → bit_and (a * 256 + b) 0x7f00 ≡ a * 256
@@ -86,7 +87,8 @@ steps a b c d e f g h x a8 b8 c8 d8 e8 f8 g8 h8 is =
     (omega arith) (omega arith) (omega arith) (omega arith) (omega arith) (omega arith) (omega arith) (omega arith) by_sevens in
     let by_fours = fours_of (a % 128 * 128 + b % 128) (c % 128 * 128 + d % 128) (e % 128 * 128 + f % 128) (g % 128 * 128 + h % 128) (pairs (sevens x))
     (omega arith) (omega arith) (omega arith) (omega arith) by_pairs in
-    eight_of ((a % 128 * 128 + b % 128) * 16384 + (c % 128 * 128 + d % 128)) ((e % 128 * 128 + f % 128) * 16384 + (g % 128 * 128 + h % 128)) (fours (pairs (sevens x)))
+    eight_of ((a % 128 * 128 + b % 128) * 16384 + (c % 128 * 128 + d % 128))
+    ((e % 128 * 128 + f % 128) * 16384 + (g % 128 * 128 + h % 128)) (fours (pairs (sevens x)))
     (omega arith) (omega arith) by_fours
     ∙ omega arith
 
@@ -136,7 +138,13 @@ low_fours p = p - p / 65536 * 49152
 -- the lower four of eight digits
 lower : (a b c d e f g h x : ℕ) → x ≤ 4294967295 → x ≡ ((((((a * 256 + b) * 256 + c) * 256 + d) * 256 + e) * 256 + f) * 256 + g) * 256 + h
     → (a ≡ 0) × (b ≡ 0) × (c ≡ 0) × (d ≡ 0) × (x ≡ ((e * 256 + f) * 256 + g) * 256 + h)
-lower a b c d e f g h x small is = (omega (arith, small, is), omega (arith, small, is), omega (arith, small, is), omega (arith, small, is), omega (arith, small, is))
+lower a b c d e f g h x small is = (
+  omega (arith, small, is),
+  omega (arith, small, is),
+  omega (arith, small, is),
+  omega (arith, small, is),
+  omega (arith, small, is),
+)
 
 low_steps : (a b c d e f g h x : ℕ) → e < 256 → f < 256 → g < 256 → h < 256 → x ≤ 4294967295
     → x ≡ ((((((a * 256 + b) * 256 + c) * 256 + d) * 256 + e) * 256 + f) * 256 + g) * 256 + h
@@ -148,7 +156,8 @@ low_steps a b c d e f g h x e8 f8 g8 h8 small is =
     four_of (e % 128 * 128 + f % 128) (g % 128 * 128 + h % 128) (low_pairs (low_sevens x)) (omega arith) (omega arith) by_pairs
     ∙ omega (arith, a0, b0, c0, d0)
 
-pub packed_low_is : (w : List ℕ) (x : ℕ) → length w ≡ 8 → All (λ byte. byte < 256) w → x ≡ word_of w → x ≤ 4294967295 → low_fours (low_pairs (low_sevens x)) ≡ number w
+pub packed_low_is : (w : List ℕ) (x : ℕ) → length w ≡ 8 → All (λ byte. byte < 256) w → x ≡ word_of w → x ≤ 4294967295
+    → low_fours (low_pairs (low_sevens x)) ≡ number w
 packed_low_is [] x l bytes is small = absurd (omega arith)
 packed_low_is (a ∷ []) x l bytes is small = absurd (omega arith)
 packed_low_is (a ∷ b ∷ []) x l bytes is small = absurd (omega arith)

@@ -1,5 +1,6 @@
 -- An entity at the upper end of four bytes, brought to the lower end with its sign above it.
-use Rattle.std.proofs.Common.{◌≡◌, ℕ, suc, ◌+◌, ◌*◌, ◌-◌, ◌%◌, ◌/◌, ◌^◌, ◌<◌, ◌≤◌, ◌⊎◌, inl, inr, List, [], ◌∷◌, ◌++◌, refl, ap, sym, subst, ◌∙◌, length, arith, lit<, length-append}
+use Rattle.std.proofs.Common.{◌≡◌, ℕ, suc, ◌+◌, ◌*◌, ◌-◌, ◌%◌, ◌/◌, ◌^◌, ◌<◌, ◌≤◌, ◌⊎◌, inl, inr, List, [], ◌∷◌, ◌++◌, refl, ap, sym, subst}
+use Rattle.std.proofs.Common.{◌∙◌, length, arith, lit<, length-append}
 use Rattle.std.specs.Prelude.{pos, negsuc, ◌-ℤ◌, true, false}
 use Rattle.std.proofs.Math.Nat.{div-le_self}
 use Rattle.std.proofs.lemmas.Bool.{le-ltb, cases_lt}
@@ -39,7 +40,9 @@ high_spread word step x some e h top =
 
 -- four bytes, each below 256
 four : (a b c d : ℕ) → a < 256 → b < 256 → c < 256 → d < 256 → AreBytes (a ∷ b ∷ c ∷ d ∷ [])
-four a b c d h i j k = All-cons (λ byte. byte < 256) a (b ∷ c ∷ d ∷ []) h (All-cons (λ byte. byte < 256) b (c ∷ d ∷ []) i (All-cons (λ byte. byte < 256) c (d ∷ []) j (All-cons (λ byte. byte < 256) d [] k (All-nil (λ byte. byte < 256)))))
+four a b c d h i j k = All-cons (λ byte. byte < 256) a (b ∷ c ∷ d ∷ []) h
+    (All-cons (λ byte. byte < 256) b (c ∷ d ∷ []) i (All-cons (λ byte. byte < 256) c (d ∷ []) j
+    (All-cons (λ byte. byte < 256) d [] k (All-nil (λ byte. byte < 256)))))
 
 -- the sign of the first byte
 clear_of : (a : ℕ) (v : List ℕ) → a % 128 < 64 → has_sign (a ∷ v) ≡ false
@@ -115,7 +118,8 @@ by_two a b rest word u h i small is e = by (cases_lt (a % 128) 64)
           both_set w (a ∷ b ∷ []) refl (set_of a (b ∷ []) set) (omega arith),
         )
 
-by_three : (a b c rest word u : ℕ) → a < 256 → b < 256 → c < 256 → rest < 256 → word ≡ (a * 65536 + b * 256 + c) * 256 + rest → u ≡ spread_of word 512 → IsSpread u (a ∷ b ∷ c ∷ [])
+by_three : (a b c rest word u : ℕ) → a < 256 → b < 256 → c < 256 → rest < 256 → word ≡ (a * 65536 + b * 256 + c) * 256 + rest
+    → u ≡ spread_of word 512 → IsSpread u (a ∷ b ∷ c ∷ [])
 by_three a b c rest word u h i j small is e = by (cases_lt (a % 128) 64)
   where
     by : (a % 128 < 64) ⊎ (64 ≤ a % 128) → IsSpread u (a ∷ b ∷ c ∷ [])
@@ -144,7 +148,8 @@ by_three a b c rest word u h i j small is e = by (cases_lt (a % 128) 64)
           both_set w (a ∷ b ∷ c ∷ []) refl (set_of a (b ∷ c ∷ []) set) (omega arith),
         )
 
-by_four : (a b c d rest word u : ℕ) → a < 256 → b < 256 → c < 256 → d < 256 → rest < 1 → word ≡ (a * 16777216 + b * 65536 + c * 256 + d) * 1 + rest → u ≡ spread_of word 2 → IsSpread u (a ∷ b ∷ c ∷ d ∷ [])
+by_four : (a b c d rest word u : ℕ) → a < 256 → b < 256 → c < 256 → d < 256 → rest < 1
+    → word ≡ (a * 16777216 + b * 65536 + c * 256 + d) * 1 + rest → u ≡ spread_of word 2 → IsSpread u (a ∷ b ∷ c ∷ d ∷ [])
 by_four a b c d rest word u h i j k small is e = by (cases_lt (a % 128) 64)
   where
     by : (a % 128 < 64) ⊎ (64 ≤ a % 128) → IsSpread u (a ∷ b ∷ c ∷ d ∷ [])
@@ -177,7 +182,8 @@ by_four a b c d rest word u h i j k small is e = by (cases_lt (a % 128) 64)
 rest_is : (front rest : List ℕ) → AreBytes (front ++ rest) → word_of rest < 2 ^ (8 * length rest)
 rest_is front rest are = word-lt rest (rest_are_bytes front rest are)
 
-pub spread_is : (word bits u : ℕ) (front rest : List ℕ) → bits ≡ 8 * length front → length (front ++ rest) ≡ 4 → AreBytes (front ++ rest) → word ≡ word_of (front ++ rest)
+pub spread_is : (word bits u : ℕ) (front rest : List ℕ) → bits ≡ 8 * length front → length (front ++ rest) ≡ 4 → AreBytes (front ++ rest)
+    → word ≡ word_of (front ++ rest)
     → 8 ≤ bits → u ≡ spread_of word (2 ^ (33 - bits)) → IsSpread u front
 spread_is word bits u [] rest count l are is some e = absurd (omega arith)
 spread_is word bits u (a ∷ []) rest count l are is some e =
@@ -193,22 +199,30 @@ spread_is word bits u (a ∷ b ∷ []) rest count l are is some e =
     let s : word_of rest < 65536 = subst (λ n. word_of rest < 2 ^ (8 * n)) k (rest_is (a ∷ b ∷ []) rest are) in
     let f : word ≡ a * 2 ^ (8 * suc 2) + (b * 2 ^ (8 * 2) + word_of rest) = is ∙ ap (λ n. a * 2 ^ (8 * suc n) + (b * 2 ^ (8 * n) + word_of rest)) k in
     let d : 33 - bits ≡ 17 = omega arith in
-    by_two a b (word_of rest) word u (All-head (λ byte. byte < 256) a (b ∷ rest) are) (All-head (λ byte. byte < 256) b rest are1) s (omega arith) (e ∙ ap (λ n. spread_of word (2 ^ n)) d)
+    by_two a b (word_of rest) word u (All-head (λ byte. byte < 256) a (b ∷ rest) are) (All-head (λ byte. byte < 256) b rest are1) s
+    (omega arith) (e ∙ ap (λ n. spread_of word (2 ^ n)) d)
 spread_is word bits u (a ∷ b ∷ c ∷ []) rest count l are is some e =
     let k : length rest ≡ 1 = omega arith in
     let are1 : AreBytes (b ∷ c ∷ rest) = All-tail (λ byte. byte < 256) a (b ∷ c ∷ rest) are in
     let are2 : AreBytes (c ∷ rest) = All-tail (λ byte. byte < 256) b (c ∷ rest) are1 in
     let s : word_of rest < 256 = subst (λ n. word_of rest < 2 ^ (8 * n)) k (rest_is (a ∷ b ∷ c ∷ []) rest are) in
-    let f : word ≡ a * 2 ^ (8 * suc (suc 1)) + (b * 2 ^ (8 * suc 1) + (c * 2 ^ (8 * 1) + word_of rest)) = is ∙ ap (λ n. a * 2 ^ (8 * suc (suc n)) + (b * 2 ^ (8 * suc n) + (c * 2 ^ (8 * n) + word_of rest))) k in
+    let f : word ≡ a * 2 ^ (8 * suc (suc 1)) + (b * 2 ^ (8 * suc 1) + (c * 2 ^ (8 * 1) + word_of rest)) = is
+    ∙ ap (λ n. a * 2 ^ (8 * suc (suc n)) + (b * 2 ^ (8 * suc n) + (c * 2 ^ (8 * n) + word_of rest))) k in
     let d : 33 - bits ≡ 9 = omega arith in
-    by_three a b c (word_of rest) word u (All-head (λ byte. byte < 256) a (b ∷ c ∷ rest) are) (All-head (λ byte. byte < 256) b (c ∷ rest) are1) (All-head (λ byte. byte < 256) c rest are2) s (omega arith) (e ∙ ap (λ n. spread_of word (2 ^ n)) d)
+    by_three a b c (word_of rest) word u (All-head (λ byte. byte < 256) a (b ∷ c ∷ rest) are)
+    (All-head (λ byte. byte < 256) b (c ∷ rest) are1) (All-head (λ byte. byte < 256) c rest are2) s (omega arith)
+    (e ∙ ap (λ n. spread_of word (2 ^ n)) d)
 spread_is word bits u (a ∷ b ∷ c ∷ d ∷ []) rest count l are is some e =
     let k : length rest ≡ 0 = omega arith in
     let are1 : AreBytes (b ∷ c ∷ d ∷ rest) = All-tail (λ byte. byte < 256) a (b ∷ c ∷ d ∷ rest) are in
     let are2 : AreBytes (c ∷ d ∷ rest) = All-tail (λ byte. byte < 256) b (c ∷ d ∷ rest) are1 in
     let are3 : AreBytes (d ∷ rest) = All-tail (λ byte. byte < 256) c (d ∷ rest) are2 in
     let s : word_of rest < 1 = subst (λ n. word_of rest < 2 ^ (8 * n)) k (rest_is (a ∷ b ∷ c ∷ d ∷ []) rest are) in
-    let f : word ≡ a * 2 ^ (8 * suc (suc (suc 0))) + (b * 2 ^ (8 * suc (suc 0)) + (c * 2 ^ (8 * suc 0) + (d * 2 ^ (8 * 0) + word_of rest))) = is ∙ ap (λ n. a * 2 ^ (8 * suc (suc (suc n))) + (b * 2 ^ (8 * suc (suc n)) + (c * 2 ^ (8 * suc n) + (d * 2 ^ (8 * n) + word_of rest)))) k in
+    let f : word ≡ a * 2 ^ (8 * suc (suc (suc 0))) + (b * 2 ^ (8 * suc (suc 0)) + (c * 2 ^ (8 * suc 0) + (d * 2 ^ (8 * 0) + word_of rest)))
+    = is ∙ ap (λ n. a * 2 ^ (8 * suc (suc (suc n))) + (b * 2 ^ (8 * suc
+    (suc n)) + (c * 2 ^ (8 * suc n) + (d * 2 ^ (8 * n) + word_of rest)))) k in
     let z : 33 - bits ≡ 1 = omega arith in
-    by_four a b c d (word_of rest) word u (All-head (λ byte. byte < 256) a (b ∷ c ∷ d ∷ rest) are) (All-head (λ byte. byte < 256) b (c ∷ d ∷ rest) are1) (All-head (λ byte. byte < 256) c (d ∷ rest) are2) (All-head (λ byte. byte < 256) d rest are3) s (omega arith) (e ∙ ap (λ n. spread_of word (2 ^ n)) z)
+    by_four a b c d (word_of rest) word u (All-head (λ byte. byte < 256) a (b ∷ c ∷ d ∷ rest) are)
+    (All-head (λ byte. byte < 256) b (c ∷ d ∷ rest) are1) (All-head (λ byte. byte < 256) c (d ∷ rest) are2)
+    (All-head (λ byte. byte < 256) d rest are3) s (omega arith) (e ∙ ap (λ n. spread_of word (2 ^ n)) z)
 spread_is word bits u (a ∷ b ∷ c ∷ d ∷ x ∷ front) rest count l are is some e = absurd (omega (arith, length-append front rest))

@@ -19,14 +19,16 @@ use Rattle.fast_wire.proofs.stop_bits.FirstStop.{entity_is_long}
 
 -- a short entity that isn't overlong where that counts, and the integer within its range
 pub whole_is : {T : Type 0} (meant : T → Option ℤ) (strict nullable : Bool) (range : Range) (x : T) (sum len : ℕ) (bytes : List ℕ) → IsShortEntity sum len bytes
-    → (IsTrue strict → IsOverlong (value range) (take len bytes) → ⊥) → Means nullable (value range (take len bytes)) (meant x) → IfSome (meant x) (IsWithin range)
+    → (IsTrue strict → IsOverlong (value range) (take len bytes) → ⊥) → Means nullable (value range (take len bytes)) (meant x)
+    → IfSome (meant x) (IsWithin range)
     → IsFirstInt meant strict range nullable (Whole x len) bytes
 whole_is meant strict nullable range x sum len bytes e shortest meaning fits =
     let l : length (take len bytes) ≡ len = length-take-le len bytes e.whole in
     (e.whole, record { form = record { entity = e.entity; short = omega (arith, e.short); shortest = shortest }; meaning = meaning; fits = fits })
 
 pub unsigned_is : (strict nullable : Bool) (top : ℕ) (x : Option ℕ) (sum len : ℕ) (bytes : List ℕ) → IsShortEntity sum len bytes
-    → (IsTrue strict → NoneIsOverlong (λ v. pos (number v)) bytes) → Means nullable (pos sum) (option_map pos x) → IfSome (option_map pos x) (IsWithin (unsigned_up_to top))
+    → (IsTrue strict → NoneIsOverlong (λ v. pos (number v)) bytes) → Means nullable (pos sum) (option_map pos x)
+    → IfSome (option_map pos x) (IsWithin (unsigned_up_to top))
     → IsFirstInt (λ y. option_map pos y) strict (unsigned_up_to top) nullable (Whole x len) bytes
 unsigned_is strict nullable top x sum len bytes e shortest meaning fits =
     whole_is (λ y. option_map pos y) strict nullable (unsigned_up_to top) x sum len bytes e (λ t. shortest t len e.entity)
@@ -86,9 +88,12 @@ pub tested_unsigned : (x : Option ℕ) (top : ℕ) → IfSome x (λ n. n ≤ top
 tested_unsigned None top h = tt
 tested_unsigned (Some x) top h = (omega (arith, ints), omega (arith, ints))
 
-pub tested_signed : (x : Option ℤ) (low top : ℤ) → SFits w64 low → SFits w64 top → IfSome x (IsWithin (signed_between (to_z w64 (of_z w64 low)) (to_z w64 (of_z w64 top)))) → IfSome x (IsWithin (signed_between low top))
+pub tested_signed : (x : Option ℤ) (low top : ℤ) → SFits w64 low → SFits w64 top
+    → IfSome x (IsWithin (signed_between (to_z w64 (of_z w64 low)) (to_z w64 (of_z w64 top))))
+    → IfSome x (IsWithin (signed_between low top))
 tested_signed x low top f g h =
-    subst (λ l. IfSome x (IsWithin (signed_between l top))) (to_z-of_z w64 low f) (subst (λ t. IfSome x (IsWithin (signed_between (to_z w64 (of_z w64 low)) t))) (to_z-of_z w64 top g) h)
+    subst (λ l. IfSome x (IsWithin (signed_between l top))) (to_z-of_z w64 low f)
+    (subst (λ t. IfSome x (IsWithin (signed_between (to_z w64 (of_z w64 low)) t))) (to_z-of_z w64 top g) h)
 
 -- the same of an integer that is told itself
 pub integer_is : (strict nullable : Bool) (low top : ℤ) (x : Option ℤ) (len : ℕ) (bytes : List ℕ) → IsShortEntity (number (take len bytes)) len bytes
@@ -97,14 +102,17 @@ pub integer_is : (strict nullable : Bool) (low top : ℤ) (x : Option ℤ) (len 
 integer_is strict nullable low top x len bytes e shortest meaning fits =
     whole_is (λ y. y) strict nullable (signed_between low top) x (number (take len bytes)) len bytes e (λ t. shortest t len e.entity) meaning fits
 
-pub few_integer : (nullable : Bool) (x : Option ℤ) (len : ℕ) (low top : ℤ) (bytes : List ℕ) → IsShortEntity (number (take len bytes)) len bytes → len ≤ 4 → Means nullable (signed (take len bytes)) x
+pub few_integer : (nullable : Bool) (x : Option ℤ) (len : ℕ) (low top : ℤ) (bytes : List ℕ)
+    → IsShortEntity (number (take len bytes)) len bytes → len ≤ 4 → Means nullable (signed (take len bytes)) x
     → low ≤ℤ neg_ℤ (pos 134217728) → pos 134217727 ≤ℤ top → IfSome x (IsWithin (signed_between low top))
 few_integer nullable x len low top bytes e few meaning deep wide =
     small_signed nullable x (signed (take len bytes)) low top meaning (reach_of_few (number (take len bytes)) len bytes e few) deep wide
 
 -- as the call has its argument, in 64 bits
-pub means_of_few : (nullable : Bool) (x : Option ℤ) (n : ℤ) (len : ℕ) (bytes : List ℕ) → IsShortEntity (number (take len bytes)) len bytes → len ≤ 4 → n ≡ signed (take len bytes)
+pub means_of_few : (nullable : Bool) (x : Option ℤ) (n : ℤ) (len : ℕ) (bytes : List ℕ) → IsShortEntity (number (take len bytes)) len bytes
+    → len ≤ 4 → n ≡ signed (take len bytes)
     → Means nullable (to_z w64 (of_z w64 n)) x → Means nullable (signed (take len bytes)) x
 means_of_few nullable x n len bytes e few is means =
     let small : mag (signed (take len bytes)) < 134217728 = reach_of_few (number (take len bytes)) len bytes e few in
-    subst (λ m. Means nullable m x) (to_z-of_z w64 (signed (take len bytes)) (record { sfits = omega arith })) (subst (λ m. Means nullable (to_z w64 (of_z w64 m)) x) is means)
+    subst (λ m. Means nullable m x) (to_z-of_z w64 (signed (take len bytes)) (record { sfits = omega arith }))
+    (subst (λ m. Means nullable (to_z w64 (of_z w64 m)) x) is means)

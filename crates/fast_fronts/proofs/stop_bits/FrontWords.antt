@@ -53,10 +53,14 @@ bytes_in (b ∷ w) are zero = All-head (λ byte. byte < 256) b w are
 bytes_in (b ∷ w) are (suc i) = bytes_in w (All-tail (λ byte. byte < 256) b w are) i
 
 -- with their bytes turned round, the word and its lower half are what the bytes are as a number with the first one the highest digit
-pub word_turned : (word : ℕ) (bytes : List ℕ) → AreBytes bytes → IsFrontWord word bytes → from_be_bytes w64 (to_le_bytes w64 word) ≡ from_be_bytes w64 (take 8 bytes)
+pub word_turned : (word : ℕ) (bytes : List ℕ) → AreBytes bytes → IsFrontWord word bytes
+    → from_be_bytes w64 (to_le_bytes w64 word) ≡ from_be_bytes w64 (take 8 bytes)
 word_turned word bytes are front =
-    ap (from_be_bytes w64) (le_bytes_8 (take 8 bytes) word (length-take-le 8 bytes front.enough) (bytes_in (take 8 bytes) (All-take (λ byte. byte < 256) 8 bytes are)) front.same)
+    ap (from_be_bytes w64) (le_bytes_8 (take 8 bytes) word (length-take-le 8 bytes front.enough)
+    (bytes_in (take 8 bytes) (All-take (λ byte. byte < 256) 8 bytes are)) front.same)
 
-pub four_turned : (four : ℕ) (bytes : List ℕ) → AreBytes bytes → 8 ≤ length bytes → four ≡ from_le_bytes w32 (take 4 bytes) → from_be_bytes w32 (to_le_bytes w32 four) ≡ from_be_bytes w32 (take 4 bytes)
+pub four_turned : (four : ℕ) (bytes : List ℕ) → AreBytes bytes → 8 ≤ length bytes → four ≡ from_le_bytes w32 (take 4 bytes)
+    → from_be_bytes w32 (to_le_bytes w32 four) ≡ from_be_bytes w32 (take 4 bytes)
 four_turned four bytes are enough is =
-    ap (from_be_bytes w32) (le_bytes_4 (take 4 bytes) four (length-take-le 4 bytes (omega arith)) (bytes_in (take 4 bytes) (All-take (λ byte. byte < 256) 4 bytes are)) is)
+    ap (from_be_bytes w32) (le_bytes_4 (take 4 bytes) four (length-take-le 4 bytes (omega arith))
+    (bytes_in (take 4 bytes) (All-take (λ byte. byte < 256) 4 bytes are)) is)

@@ -90,9 +90,12 @@ IsUnsentText kind optional entry slots source = (f : FieldData) (operator : Oper
 -- For each such field, this string, or NULL, is decided if it was sent.
 abbrev pub IsPutText : Operator → ℕ → Option (List ℕ) → Slots → Slots → List ℕ → ValueSource → Type 0
 IsPutText operator entry text old new scratch source = SendsText operator × IsTextSource operator source × IsAsciiAt new entry source
-    × ((f : FieldData) (optional : Bool) (piece : List ℕ) → IsFieldAs f Ascii optional operator entry → Serves (length (slots_dictionary old)) (slots_terms old) f
-    → IsTextDecided (decide f (previous_at f.entry (slots_dictionary old)) true (sent_text f.kind text)) f (slots_dictionary old) (slots_dictionary new) scratch piece (Ok source))
+    × ((f : FieldData) (optional : Bool) (piece : List ℕ) → IsFieldAs f Ascii optional operator entry
+    → Serves (length (slots_dictionary old)) (slots_terms old) f
+    → IsTextDecided (decide f (previous_at f.entry (slots_dictionary old)) true (sent_text f.kind text)) f (slots_dictionary old)
+    (slots_dictionary new) scratch piece (Ok source))
 
 -- The bytes begin with a string of this number of characters, no more than a block of 16 has.
 abbrev pub IsShortText : List ℕ → ℕ → Type 0
-IsShortText rest n = (n ≤ 16) × (16 ≤ length rest) × ((nullable : Bool) (room : ℕ) → 16 ≤ room → IsNextText nullable room [] rest (take n (without_stops (take 16 rest))) (Whole true n))
+IsShortText rest n = (n ≤ 16) × (16 ≤ length rest) × ((nullable : Bool) (room : ℕ) → 16 ≤ room
+    → IsNextText nullable room [] rest (take n (without_stops (take 16 rest))) (Whole true n))

@@ -42,7 +42,8 @@ pub record StopsInEvent {T : Type 0} (written : T → Option (List ℕ)) (failed
   pub has_failed : IsTrue (failed (target_of new))
 
 -- A text that is of no event was written, after which so much is open.
-pub record PutsText {T : Type 0} (written : T → Option (List ℕ)) (failed : T → Bool) (old : JsonSink T) (text : List ℕ) (left : Nesting) (new : JsonSink T) : Type 0 where
+pub record PutsText {T : Type 0} (written : T → Option (List ℕ)) (failed : T → Bool) (old : JsonSink T) (text : List ℕ) (left : Nesting)
+    (new : JsonSink T) : Type 0 where
   pub keys : keys_of new ≡ keys_of old
   pub nesting : nesting_in new ≡ left
   pub added : Appends (written (target_of old)) (written (target_of new)) text

@@ -18,12 +18,16 @@ use Rattle.fast_tree.specs.declared.operators.Operator.{Operator}
 use Rattle.fast_tree.specs.declared.operators.Operator.TheVariants.{None as no_operator, Constant, Default, Copy, Increment, Delta, Tail}
 use Rattle.fast_tree.specs.meaning.Tree.{FieldData}
 use Rattle.fast_dict.specs.meaning.Dictionary.{PreviousData}
-use Rattle.fast_dict.specs.meaning.Operators.{Op, Outcome, Sent, nothing, null, value, integer_delta, decimal_delta, text_delta, Kept, kept_length, IsValueIn, IsPlainItem, IsDeltaIn, IsItemBy, decide, decide_by, sent_delta, gives_none, integer_step, exponent_step, mantissa_step, subtraction_step, text_step}
+use Rattle.fast_dict.specs.meaning.Operators.{Op, Outcome, Sent, nothing, null, value, integer_delta, decimal_delta, text_delta, Kept}
+use Rattle.fast_dict.specs.meaning.Operators.{kept_length, IsValueIn, IsPlainItem, IsDeltaIn, IsItemBy, decide, decide_by, sent_delta}
+use Rattle.fast_dict.specs.meaning.Operators.{gives_none, integer_step, exponent_step, mantissa_step, subtraction_step, text_step}
 use Rattle.fast_stream.specs.meaning.Events.{EventData}
 use Rattle.fast_stream.specs.meaning.Phrases.{whole, Phrase, gives, hands, settles, ◌followed_by◌}
 use Rattle.fast_stream.specs.meaning.Units
 use Rattle.fast_stream.specs.meaning.Grammar.{Grammar, give, fault, hand, integer, ascii_text, raw, presence_map, narrow, ◌>>=◌, of_result, phrase_of}
-use Rattle.fast_stream.specs.meaning.Fields.{field_phrase, sized, text, sent_integer, sent_text, sent_decimal, decimal_from, item_in, item, integer_change, mantissa_change, decimal_change, part_change, text_change, change_in, sent, not_sent, field_by, field_term}
+use Rattle.fast_stream.specs.meaning.Fields.{field_phrase, sized, text, sent_integer, sent_text, sent_decimal, decimal_from, item_in, item}
+use Rattle.fast_stream.specs.meaning.Fields.{integer_change, mantissa_change, decimal_change, part_change, text_change, change_in, sent}
+use Rattle.fast_stream.specs.meaning.Fields.{not_sent, field_by, field_term}
 use Rattle.fast_spelling.proofs.again.Resent.{Says, InTurn, in_turn, given, resulted, result_is, integer_read, is_nullable}
 use Rattle.fast_laws.specs.meaning.Items.{SpellsText, SpellsNull, SpellsNoDelta, SpellsValue, SpellsItemBy, SpellsItem, IsByItem}
 
@@ -40,7 +44,8 @@ module _ (s : Bool) (l : Limits) where
 
   ascii_read : (nullable : Bool) (room : ℕ) (w : List ℕ) (t : Option (List ℕ)) → Says s (ascii_text nullable room give) w t → SpellsAscii nullable room t w
   unfolding ◌followed_by◌ gives
-  ascii_read nullable room w t (es, (u, v, fs, gs, x, i, j, d, q)) = alone (SpellsAscii nullable room t) u v w j.0 d (subst (λ (z : Option (List ℕ)). SpellsAscii nullable room z u) (sym j.2) i.0)
+  ascii_read nullable room w t (es, (u, v, fs, gs, x, i, j, d, q)) =
+      alone (SpellsAscii nullable room t) u v w j.0 d (subst (λ (z : Option (List ℕ)). SpellsAscii nullable room z u) (sym j.2) i.0)
 
   raw_read : (n : ℕ) (w : List ℕ) (t : Option (List ℕ)) → Says s (raw n (λ v. give (Some v))) w t → (t ≡ Some w) × (length w ≡ n)
   unfolding ◌followed_by◌ gives
@@ -55,10 +60,12 @@ module _ (s : Bool) (l : Limits) where
       by true k g = (cc g, leb-true n room k)
       by false k g = absurd (cc g)
 
-  vector_read : (nullable : Bool) (room : ℕ) (w : List ℕ) (t : Option (List ℕ)) → Says s (integer (unsigned_range 32) nullable D2 (sized room)) w t → SpellsVector s nullable room t w
+  vector_read : (nullable : Bool) (room : ℕ) (w : List ℕ) (t : Option (List ℕ))
+      → Says s (integer (unsigned_range 32) nullable D2 (sized room)) w t → SpellsVector s nullable room t w
   vector_read nullable room w t h = by (integer_read s (unsigned_range 32) nullable D2 (sized room) w t h)
     where
-      by : (u v : List ℕ) × (x : Option ℤ) × SpellsInt s (unsigned_range 32) nullable x u × Says s (sized room x) v t × (w ≡ u ++ v) → SpellsVector s nullable room t w
+      by : (u v : List ℕ) × (x : Option ℤ) × SpellsInt s (unsigned_range 32) nullable x u × Says s (sized room x) v t × (w ≡ u ++ v)
+          → SpellsVector s nullable room t w
       by (u, v, None, i, j, d) =
           let k = given s None v t j in
           alone (SpellsVector s nullable room t) u v w k.0 d (subst (λ (z : Option (List ℕ)). SpellsVector s nullable room z u) (sym k.1) i)
@@ -68,9 +75,11 @@ module _ (s : Bool) (l : Limits) where
           let fits = fits_room n room size e in
           let all = raw_read size v t k in
           let long : length v ≡ n = all.1 ∙ fits.0 in
-          subst (λ (z : Option (List ℕ)). SpellsVector s nullable room z w) (sym all.0) (u, subst (λ (z : ℕ). SpellsInt s (unsigned_range 32) nullable (Some (pos z)) u) (sym long) i, d, omega (arith, long, fits.1))
+          subst (λ (z : Option (List ℕ)). SpellsVector s nullable room z w) (sym all.0)
+          (u, subst (λ (z : ℕ). SpellsInt s (unsigned_range 32) nullable (Some (pos z)) u) (sym long) i, d, omega (arith, long, fits.1))
 
-  text_read : (kind : Kind) (nullable : Bool) (room : ℕ) (w : List ℕ) (t : Option (List ℕ)) → Says s (text kind nullable room) w t → SpellsText s kind nullable room t w
+  text_read : (kind : Kind) (nullable : Bool) (room : ℕ) (w : List ℕ) (t : Option (List ℕ)) → Says s (text kind nullable room) w t
+      → SpellsText s kind nullable room t w
   text_read Ascii nullable room w t h = ascii_read nullable room w t h
   text_read UInt32 nullable room w t h = vector_read nullable room w t h
   text_read Int32 nullable room w t h = vector_read nullable room w t h
@@ -97,7 +106,8 @@ module _ (s : Bool) (l : Limits) where
   PlainOf k f (value v) w = IsValueIn k f.kind v × SpellsValue s l.max_text f k v w
   PlainOf k f other w = ⊥
 
-  integer_plain : (range : Range) (f : FieldData) (o : Option ℤ) (w : List ℕ) → SpellsInt s range f.optional o w → PlainOf (integers range) f (sent_integer f.kind o) w
+  integer_plain : (range : Range) (f : FieldData) (o : Option ℤ) (w : List ℕ) → SpellsInt s range f.optional o w
+      → PlainOf (integers range) f (sent_integer f.kind o) w
   integer_plain range f None w h = (is_nullable s range f.optional w h, h)
   integer_plain range f (Some x) w h = ((x, h.fits, refl), (x, refl, h))
 
@@ -113,15 +123,18 @@ module _ (s : Bool) (l : Limits) where
   item_read texts f w x h =
       let (u, v, t, i, j, d) = in_turn s (text f.kind f.optional l.max_text) (λ v. give (sent_text f.kind v)) w x h in
       let k = given s (sent_text f.kind t) v x j in
-      alone (PlainOf texts f x) u v w k.0 d (subst (λ (z : Sent). PlainOf texts f z u) (sym k.1) (text_plain f t u (text_read f.kind f.optional l.max_text u t i)))
+      alone (PlainOf texts f x) u v w k.0 d (subst (λ (z : Sent). PlainOf texts f z u) (sym k.1)
+      (text_plain f t u (text_read f.kind f.optional l.max_text u t i)))
   item_read decimals f w x h = by (integer_read s exponent_range f.optional R1 decimal_from w x h)
     where
       behind : (u v : List ℕ) (e : ℤ) → SpellsInt s exponent_range f.optional (Some e) u → w ≡ u ++ v
-          → (y z : List ℕ) × (m : Option ℤ) × SpellsInt s (signed_range 63) false m y × Says s (give (sent_decimal e m)) z x × (v ≡ y ++ z) → PlainOf decimals f x w
+          → (y z : List ℕ) × (m : Option ℤ) × SpellsInt s (signed_range 63) false m y × Says s (give (sent_decimal e m)) z x × (v ≡ y ++ z)
+          → PlainOf decimals f x w
       behind u v e i d (y, z, None, j, k, c) = absurd j.meaning
       behind u v e i d (y, z, Some m, j, k, c) =
           let g = given s (value (Dec e m)) z x k in
-          subst (λ (a : Sent). PlainOf decimals f a w) (sym g.1) ((e, m, i.fits, j.fits, refl), (e, m, refl, (u, y, i, j, d ∙ ap (λ (q : List ℕ). u ++ q) (sym (all_first y z v g.0 c)))))
+          subst (λ (a : Sent). PlainOf decimals f a w) (sym g.1)
+          ((e, m, i.fits, j.fits, refl), (e, m, refl, (u, y, i, j, d ∙ ap (λ (q : List ℕ). u ++ q) (sym (all_first y z v g.0 c)))))
 
       by : (u v : List ℕ) × (e : Option ℤ) × SpellsInt s exponent_range f.optional e u × Says s (decimal_from e) v x × (w ≡ u ++ v) → PlainOf decimals f x w
       by (u, v, None, i, j, d) =
@@ -134,62 +147,90 @@ module _ (s : Bool) (l : Limits) where
   ChangeOf k f p o w = (x : Sent) × IsDeltaIn k f.optional x × (sent_delta f p x ≡ Ok o) × SpellsItemBy s l.max_text Delta f p x w
 
   -- a step, and then another
-  joined_steps : {A C : Type 0} (r : Result A Code) (k : A → Result C Code) (a : A) (c : C) → r ≡ Ok a → k a ≡ Ok c → Rattle.fast_dict.specs.meaning.Operators.◌>>=◌ r k ≡ Ok c
+  joined_steps : {A C : Type 0} (r : Result A Code) (k : A → Result C Code) (a : A) (c : C) → r ≡ Ok a → k a ≡ Ok c
+      → Rattle.fast_dict.specs.meaning.Operators.◌>>=◌ r k ≡ Ok c
   joined_steps r k a c e h = rw e h
 
-  null_change_read : (k : Family) (f : FieldData) (q : family f.kind ≡ k) (p : PreviousData) (o : Outcome) (w u v : List ℕ) (r : Range) → SpellsNoDelta s f k ≡ SpellsInt s r f.optional None
-      → (f.optional ≡ true → IsDeltaIn k f.optional null) → SpellsInt s r f.optional None u → Says s (of_result (gives_none p)) v o → w ≡ u ++ v → ChangeOf k f p o w
+  null_change_read : (k : Family) (f : FieldData) (q : family f.kind ≡ k) (p : PreviousData) (o : Outcome) (w u v : List ℕ) (r : Range)
+      → SpellsNoDelta s f k ≡ SpellsInt s r f.optional None
+      → (f.optional ≡ true → IsDeltaIn k f.optional null) → SpellsInt s r f.optional None u → Says s (of_result (gives_none p)) v o
+      → w ≡ u ++ v → ChangeOf k f p o w
   null_change_read k f q p o w u v r same delta i j d =
       let g = result_is s (gives_none p) v o j in
-      let spelled : SpellsNoDelta s f (family f.kind) u = subst (λ (z : Family). SpellsNoDelta s f z u) (sym q) (subst (λ (z : List ℕ → Type 0). z u) (sym same) i) in
+      let spelled : SpellsNoDelta s f (family f.kind) u = subst (λ (z : Family). SpellsNoDelta s f z u) (sym q)
+      (subst (λ (z : List ℕ → Type 0). z u) (sym same) i) in
       (null, delta (is_nullable s r f.optional u i), g.1, alone (SpellsItemBy s l.max_text Delta f p null) u v w g.0 d spelled)
 
-  integer_change_read : (range : Range) (f : FieldData) → family f.kind ≡ integers range → (p : PreviousData) (w : List ℕ) (o : Outcome) → Says s (change_in (integers range) B f p) w o → ChangeOf (integers range) f p o w
+  integer_change_read : (range : Range) (f : FieldData) → family f.kind ≡ integers range → (p : PreviousData) (w : List ℕ) (o : Outcome)
+      → Says s (change_in (integers range) B f p) w o → ChangeOf (integers range) f p o w
   integer_change_read range f q p w o h = by (integer_read s delta_range f.optional D2 (integer_change f p) w o h)
     where
-      by : (u v : List ℕ) × (x : Option ℤ) × SpellsInt s delta_range f.optional x u × Says s (integer_change f p x) v o × (w ≡ u ++ v) → ChangeOf (integers range) f p o w
+      by : (u v : List ℕ) × (x : Option ℤ) × SpellsInt s delta_range f.optional x u × Says s (integer_change f p x) v o × (w ≡ u ++ v)
+          → ChangeOf (integers range) f p o w
       by (u, v, None, i, j, d) = null_change_read (integers range) f q p o w u v delta_range refl (λ t. t) i j d
       by (u, v, Some k, i, j, d) =
           let g = result_is s (integer_step f p k) v o j in
           (integer_delta k, tt, g.1, alone (SpellsItemBy s l.max_text Delta f p (integer_delta k)) u v w g.0 d i)
 
-  decimal_change_read : (f : FieldData) → family f.kind ≡ decimals → (p : PreviousData) (w : List ℕ) (o : Outcome) → Says s (change_in decimals B f p) w o → ChangeOf decimals f p o w
+  decimal_change_read : (f : FieldData) → family f.kind ≡ decimals → (p : PreviousData) (w : List ℕ) (o : Outcome)
+      → Says s (change_in decimals B f p) w o → ChangeOf decimals f p o w
   decimal_change_read f q p w o h = by (integer_read s delta_range f.optional D2 (decimal_change f p) w o h)
     where
       behind : (u v : List ℕ) (k e : ℤ) → exponent_step f p k ≡ Ok e → SpellsInt s delta_range f.optional (Some k) u → w ≡ u ++ v
-          → (y z : List ℕ) × (m : Option ℤ) × SpellsInt s delta_range false m y × Says s (mantissa_change f p e m) z o × (v ≡ y ++ z) → ChangeOf decimals f p o w
+          → (y z : List ℕ) × (m : Option ℤ) × SpellsInt s delta_range false m y × Says s (mantissa_change f p e m) z o × (v ≡ y ++ z)
+          → ChangeOf decimals f p o w
       behind u v k e step i d (y, z, None, j, n, c) = absurd j.meaning
       behind u v k e step i d (y, z, Some m, j, n, c) =
-          let g = result_is s (mantissa_step f p e m) z o n in
-          (decimal_delta k m, tt, joined_steps (exponent_step f p k) (λ e. mantissa_step f p e m) e o step g.1, (u, y, i, j, d ∙ ap (λ (q : List ℕ). u ++ q) (sym (all_first y z v g.0 c))))
+          let g = result_is s (mantissa_step f p e m) z o n in (
+            decimal_delta k m,
+            tt,
+            joined_steps (exponent_step f p k) (λ e. mantissa_step f p e m) e o step g.1,
+            (u, y, i, j, d ∙ ap (λ (q : List ℕ). u ++ q) (sym (all_first y z v g.0 c))),
+          )
 
-      by : (u v : List ℕ) × (x : Option ℤ) × SpellsInt s delta_range f.optional x u × Says s (decimal_change f p x) v o × (w ≡ u ++ v) → ChangeOf decimals f p o w
+      by : (u v : List ℕ) × (x : Option ℤ) × SpellsInt s delta_range f.optional x u × Says s (decimal_change f p x) v o × (w ≡ u ++ v)
+          → ChangeOf decimals f p o w
       by (u, v, None, i, j, d) = null_change_read decimals f q p o w u v delta_range refl (λ t. t) i j d
       by (u, v, Some k, i, j, d) =
           let (e, step, n) = resulted s (exponent_step f p k) (λ e. integer delta_range false D2 (mantissa_change f p e)) v o j in
           behind u v k e step i d (integer_read s delta_range false D2 (mantissa_change f p e) v o n)
 
-  text_change_read : (f : FieldData) → family f.kind ≡ texts → (p : PreviousData) (w : List ℕ) (o : Outcome) → Says s (change_in texts B f p) w o → ChangeOf texts f p o w
+  text_change_read : (f : FieldData) → family f.kind ≡ texts → (p : PreviousData) (w : List ℕ) (o : Outcome)
+      → Says s (change_in texts B f p) w o → ChangeOf texts f p o w
   text_change_read f q p w o h = by (integer_read s (signed_range 31) f.optional D7 (text_change B f p) w o h)
     where
       behind : (u v : List ℕ) (k : ℤ) (kept : Kept) → subtraction_step f p k ≡ Ok kept → SpellsInt s (signed_range 31) f.optional (Some k) u → w ≡ u ++ v
           → InTurn s (text f.kind false (l.max_text - kept_length kept)) (part_change f p kept) v o → ChangeOf texts f p o w
-      behind u v k kept step i d (y, z, None, j, n, c) = absurd (cc (text_nullable f.kind false (l.max_text - kept_length kept) y (text_read f.kind false (l.max_text - kept_length kept) y None j)))
+      behind u v k kept step i d (y, z, None, j, n, c) = absurd
+          (cc (text_nullable f.kind false (l.max_text - kept_length kept) y
+          (text_read f.kind false (l.max_text - kept_length kept) y None j)))
       behind u v k kept step i d (y, z, Some part, j, n, c) =
           let g = result_is s (text_step f kept part) z o n in (
             text_delta k part,
             tt,
             joined_steps (subtraction_step f p k) (λ kept. text_step f kept part) kept o step g.1,
-            (kept, u, y, step, i, text_read f.kind false (l.max_text - kept_length kept) y (Some part) j, d ∙ ap (λ (q : List ℕ). u ++ q) (sym (all_first y z v g.0 c))),
+            (
+              kept,
+              u,
+              y,
+              step,
+              i,
+              text_read f.kind false (l.max_text - kept_length kept) y (Some part) j,
+              d
+                  ∙ ap (λ (q : List ℕ). u ++ q) (sym (all_first y z v g.0 c)),
+            ),
           )
 
-      by : (u v : List ℕ) × (x : Option ℤ) × SpellsInt s (signed_range 31) f.optional x u × Says s (text_change B f p x) v o × (w ≡ u ++ v) → ChangeOf texts f p o w
+      by : (u v : List ℕ) × (x : Option ℤ) × SpellsInt s (signed_range 31) f.optional x u × Says s (text_change B f p x) v o × (w ≡ u ++ v)
+          → ChangeOf texts f p o w
       by (u, v, None, i, j, d) = null_change_read texts f q p o w u v (signed_range 31) refl (λ t. t) i j d
       by (u, v, Some k, i, j, d) =
-          let (kept, step, n) = resulted s (subtraction_step f p k) (λ kept. text f.kind false (l.max_text - kept_length kept) >>= part_change f p kept) v o j in
+          let (kept, step, n) = resulted s (subtraction_step f p k)
+          (λ kept. text f.kind false (l.max_text - kept_length kept) >>= part_change f p kept) v o j in
           behind u v k kept step i d (in_turn s (text f.kind false (l.max_text - kept_length kept)) (part_change f p kept) v o n)
 
-  change_read : (k : Family) (f : FieldData) → family f.kind ≡ k → (p : PreviousData) (w : List ℕ) (o : Outcome) → Says s (change_in k B f p) w o → ChangeOf k f p o w
+  change_read : (k : Family) (f : FieldData) → family f.kind ≡ k → (p : PreviousData) (w : List ℕ) (o : Outcome)
+      → Says s (change_in k B f p) w o → ChangeOf k f p o w
   change_read (integers range) f q p w o h = integer_change_read range f q p w o h
   change_read decimals f q p w o h = decimal_change_read f q p w o h
   change_read texts f q p w o h = text_change_read f q p w o h
@@ -201,7 +242,8 @@ module _ (s : Bool) (l : Limits) where
   IsNoDelta Delta = ⊥
   IsNoDelta o = Unit {0}
 
-  plain_spelled : (o : Operator) → IsNoDelta o → (f : FieldData) (p : PreviousData) (x : Sent) (w : List ℕ) → PlainOf (family f.kind) f x w → SpellsItemBy s l.max_text o f p x w × IsPlainItem f x
+  plain_spelled : (o : Operator) → IsNoDelta o → (f : FieldData) (p : PreviousData) (x : Sent) (w : List ℕ) → PlainOf (family f.kind) f x w
+      → SpellsItemBy s l.max_text o f p x w × IsPlainItem f x
   plain_spelled Delta n f p x w h = absurd n
   plain_spelled no_operator n f p null w h = (h.1, h.0)
   plain_spelled Constant n f p null w h = (h.1, h.0)
@@ -220,12 +262,14 @@ module _ (s : Bool) (l : Limits) where
       let (spelled, plain) = plain_spelled o n f p x u (item_read (family f.kind) f u x i) in
       (x, plain, subst (λ (z : Operator). decide_by z true f p x ≡ Ok out) q g.1, alone (SpellsItemBy s l.max_text o f p x) u v w g.0 d spelled)
 
-  unsent_read : (o : Operator) (bit : Bool) (f : FieldData) (p : PreviousData) (w : List ℕ) (out : Outcome) → f.operator ≡ o → Says s (not_sent f p bit) w out → (decide_by o bit f p nothing ≡ Ok out) × (w ≡ [])
+  unsent_read : (o : Operator) (bit : Bool) (f : FieldData) (p : PreviousData) (w : List ℕ) (out : Outcome) → f.operator ≡ o
+      → Says s (not_sent f p bit) w out → (decide_by o bit f p nothing ≡ Ok out) × (w ≡ [])
   unsent_read o bit f p w out q h =
       let g = result_is s (decide f p bit nothing) w out h in
       (subst (λ (z : Operator). decide_by z bit f p nothing ≡ Ok out) q g.1, g.0)
 
-  read_by : (o : Operator) (bit : Bool) (f : FieldData) (p : PreviousData) (w : List ℕ) (out : Outcome) → f.operator ≡ o → Says s (field_by o bit B f p) w out → ItemBy o f p bit w out
+  read_by : (o : Operator) (bit : Bool) (f : FieldData) (p : PreviousData) (w : List ℕ) (out : Outcome) → f.operator ≡ o
+      → Says s (field_by o bit B f p) w out → ItemBy o f p bit w out
   read_by no_operator bit f p w out q h = sent_read no_operator tt f p w out q h
   read_by Constant bit f p w out q h = let g = unsent_read Constant bit f p w out q h in (nothing, refl, g.0, g.1)
   read_by Delta bit f p w out q h = change_read (family f.kind) f refl p w out h
@@ -238,7 +282,11 @@ module _ (s : Bool) (l : Limits) where
   read_by Increment false f p w out q h = let g = unsent_read Increment false f p w out q h in (nothing, refl, g.0, g.1)
   read_by Tail false f p w out q h = let g = unsent_read Tail false f p w out q h in (nothing, refl, g.0, g.1)
 
-pub item_read_back : (l : Limits) (f : FieldData) (p : PreviousData) (bit : Bool) (w : List ℕ) (v : Option ScalarData) (next : PreviousData) → field_phrase l f p bit w [] (whole (record { value = v; next = next })) → IsByItem l f p bit v next w
+pub item_read_back : (l : Limits) (f : FieldData) (p : PreviousData) (bit : Bool) (w : List ℕ) (v : Option ScalarData)
+    (next : PreviousData) → field_phrase l f p bit w [] (whole (record {
+      value = v;
+      next = next;
+    })) → IsByItem l f p bit v next w
 unfolding field_term
 item_read_back l f p bit w v next h =
     let (x, suited, decided, spelled) = read_by l.strict l f.operator bit f p w (record { value = v; next = next }) refl ([], h) in

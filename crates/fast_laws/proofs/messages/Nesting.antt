@@ -2,9 +2,12 @@
 use Rattle.std.proofs.Common.{◌≡◌, inl, inr, ℕ, suc, List, [], ◌∷◌, ◌++◌, refl, ap, sym, subst, ◌∙◌}
 use Rattle.std.specs.Prelude.{slice_get, flat_map, Option, Some, None}
 use Rattle.fast_value.specs.declared.settings.Limits.{Limits}
-use Rattle.fast_value.specs.meaning.Messages.{ItemData, one, group as group_item, sequence as sequence_item, Slots, no_slots, absent, present, Elements, no_elements, element, count, MessageData}
+use Rattle.fast_value.specs.meaning.Messages.{ItemData, one, group as group_item, sequence as sequence_item, Slots, no_slots, absent}
+use Rattle.fast_value.specs.meaning.Messages.{present, Elements, no_elements, element, count, MessageData}
 use Rattle.fast_tree.specs.meaning.Tree.{Instruction, field, parts, group, sequence, Body, end, step, TemplateData, Tree}
-use Rattle.fast_stream.specs.meaning.Events.{EventData, MessageStart, GroupStart, GroupEnd, ElementStart, ElementEnd, SequenceEnd, MessageEnd, element_events, group_events, sequence_events, value_events, item_events, body_events, template_events, events}
+use Rattle.fast_stream.specs.meaning.Events.{EventData, MessageStart, GroupStart, GroupEnd, ElementStart, ElementEnd, SequenceEnd}
+use Rattle.fast_stream.specs.meaning.Events.{MessageEnd, element_events, group_events, sequence_events, value_events, item_events}
+use Rattle.fast_stream.specs.meaning.Events.{body_events, template_events, events}
 use Rattle.fast_stream.specs.meaning.Streams.{End}
 use Rattle.fast_laws.specs.meaning.Nesting.{Open, a_message, a_group, a_sequence, an_element, in_segment, after_event, after_one, after_events, AreNested}
 use Rattle.fast_laws.specs.meaning.Proper.{AreFirstOf, AreOfMessages}
@@ -30,8 +33,10 @@ both_close : (os : List Open) (es fs : List EventData) → Closes os es → Clos
 both_close os es fs h k = two_parts (Some os) es fs ∙ ap (λ (o : Option (List Open)). after_events o fs) h ∙ k
 
 -- an opening event, events that close in what it opens, and the rest
-opened : (e : EventData) (os inner : List Open) (es fs : List EventData) → after_event e os ≡ Some inner → Closes inner es → after_events (Some os) (e ∷ (es ++ fs)) ≡ after_events (Some inner) fs
-opened e os inner es fs h k = ap (λ (o : Option (List Open)). after_events o (es ++ fs)) h ∙ two_parts (Some inner) es fs ∙ ap (λ (o : Option (List Open)). after_events o fs) k
+opened : (e : EventData) (os inner : List Open) (es fs : List EventData) → after_event e os ≡ Some inner → Closes inner es
+    → after_events (Some os) (e ∷ (es ++ fs)) ≡ after_events (Some inner) fs
+opened e os inner es fs h k = ap (λ (o : Option (List Open)). after_events o (es ++ fs)) h ∙ two_parts (Some inner) es fs
+    ∙ ap (λ (o : Option (List Open)). after_events o fs) k
 
 value_closes : (os : List Open) (n : ℕ) (x : ItemData) → IsSegment os → Closes os (value_events n x)
 value_closes os n (one v) h = h os
@@ -42,15 +47,21 @@ rows_close : (os : List Open) (events : Slots → List EventData) → ((vs : Slo
     → after_events (Some (a_sequence (count rows) ∷ os)) (element_events events rows) ≡ Some (a_sequence 0 ∷ os)
 rows_close os events f no_elements = refl
 rows_close os events f (element vs rows) =
-    opened ElementStart (a_sequence (suc (count rows)) ∷ os) (an_element ∷ a_sequence (count rows) ∷ os) (events vs) (ElementEnd ∷ element_events events rows) refl (f vs (an_element ∷ a_sequence (count rows) ∷ os) (λ next. refl))
+    opened ElementStart (a_sequence (suc (count rows)) ∷ os) (an_element ∷ a_sequence (count rows) ∷ os) (events vs)
+    (ElementEnd ∷ element_events events rows) refl (f vs (an_element ∷ a_sequence (count rows) ∷ os) (λ next. refl))
     ∙ rows_close os events f rows
 
-group_closes : (os : List Open) (n : ℕ) (events : Slots → List EventData) → ((vs : Slots) (os : List Open) → IsSegment os → Closes os (events vs)) → (x : ItemData) → IsSegment os → Closes os (group_events n events x)
+group_closes : (os : List Open) (n : ℕ) (events : Slots → List EventData)
+    → ((vs : Slots) (os : List Open) → IsSegment os → Closes os (events vs)) → (x : ItemData) → IsSegment os
+    → Closes os (group_events n events x)
 group_closes os n events f (one v) h = refl
-group_closes os n events f (group_item vs) h = opened (GroupStart n) os (a_group ∷ os) (events vs) (GroupEnd ∷ []) (h (a_group ∷ os)) (f vs (a_group ∷ os) (λ next. refl))
+group_closes os n events f (group_item vs) h = opened (GroupStart n) os (a_group ∷ os) (events vs) (GroupEnd ∷ []) (h (a_group ∷ os))
+    (f vs (a_group ∷ os) (λ next. refl))
 group_closes os n events f (sequence_item rows) h = refl
 
-sequence_closes : (os : List Open) (n : ℕ) (events : Slots → List EventData) → ((vs : Slots) (os : List Open) → IsSegment os → Closes os (events vs)) → (x : ItemData) → IsSegment os → Closes os (sequence_events n events x)
+sequence_closes : (os : List Open) (n : ℕ) (events : Slots → List EventData)
+    → ((vs : Slots) (os : List Open) → IsSegment os → Closes os (events vs)) → (x : ItemData) → IsSegment os
+    → Closes os (sequence_events n events x)
 sequence_closes os n events f (one v) h = refl
 sequence_closes os n events f (group_item vs) h = refl
 sequence_closes os n events f (sequence_item rows) h =
@@ -78,7 +89,8 @@ message_closes t m = by (slice_get t.templates m.template)
   where
     by : (u : Option TemplateData) → Closes [] (template_events m.template u m.slots)
     by None = refl
-    by (Some u) = opened (MessageStart m.template) [] (a_message ∷ []) (body_events u.body m.slots) (MessageEnd ∷ []) refl (body_closes u.body m.slots (a_message ∷ []) (λ next. refl))
+    by (Some u) = opened (MessageStart m.template) [] (a_message ∷ []) (body_events u.body m.slots) (MessageEnd ∷ []) refl
+        (body_closes u.body m.slots (a_message ∷ []) (λ next. refl))
 
 messages_close : (t : Tree) (ms : List MessageData) → Closes [] (flat_map (events t) ms)
 messages_close t [] = refl
@@ -91,7 +103,8 @@ front_nests es rest h = by (after_events (Some []) es) refl
     by : (o : Option (List Open)) → after_events (Some []) es ≡ o → (os : List Open) × (after_events (Some []) es ≡ Some os)
     by (Some os) e = (os, e)
     by None e =
-        let none : None ≡ Some [] = sym (nothing_behind rest) ∙ ap (λ (o : Option (List Open)). after_events o rest) (sym e) ∙ sym (two_parts (Some []) es rest) ∙ h in
+        let none : None ≡ Some [] = sym (nothing_behind rest) ∙ ap (λ (o : Option (List Open)). after_events o rest) (sym e)
+        ∙ sym (two_parts (Some []) es rest) ∙ h in
         absurd (cc none)
 
 first_nests : (t : Tree) (l : Limits) (es : List EventData) → AreFirstOf t l es → (os : List Open) × (after_events (Some []) es ≡ Some os)

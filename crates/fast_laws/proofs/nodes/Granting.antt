@@ -50,5 +50,6 @@ set_is_short t l short =
     all_by (λ u. HaveShortInitialsIn l u.body) (tree_of t).templates
     (λ n u e. all_short l (nodes_of t) short u.body (template_at (nodes_of t) t.nodes_name_later_nodes (templates_of t) t.templates_name_nodes n u e).3)
 
-pub set_is_granted : (document : Members) (t : Templates) (l : Limits) → IsTree document (tree_of t) → ¬ (HasLongInitial l.max_text (nodes_of t)) → IsGrantedTree l (tree_of t)
+pub set_is_granted : (document : Members) (t : Templates) (l : Limits) → IsTree document (tree_of t)
+    → ¬ (HasLongInitial l.max_text (nodes_of t)) → IsGrantedTree l (tree_of t)
 set_is_granted document t l tree short = read_is_granted document (tree_of t) l tree (set_is_short t l short)

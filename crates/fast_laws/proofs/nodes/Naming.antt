@@ -6,7 +6,8 @@ use Rattle.fast_value.specs.declared.kinds.Kind.{Kind}
 use Rattle.fast_value.specs.declared.kinds.Kind.TheVariants.{UInt32, Int32, UInt64, Int64, Decimal as decimal_kind, Ascii, Unicode, Bytes}
 use Rattle.fast_value.specs.declared.settings.Limits.{Limits}
 use Rattle.fast_value.specs.meaning.Kinds.{ScalarData, U, I, Dec, AsciiText, UnicodeText, ByteVector, text_of, IsOfKind}
-use Rattle.fast_value.specs.meaning.Messages.{ItemData, one, group as group_item, sequence as sequence_item, Slots, no_slots, absent, present, Elements, no_elements, element, count, MessageData}
+use Rattle.fast_value.specs.meaning.Messages.{ItemData, one, group as group_item, sequence as sequence_item, Slots, no_slots, absent}
+use Rattle.fast_value.specs.meaning.Messages.{present, Elements, no_elements, element, count, MessageData}
 use Rattle.fast_tree.specs.declared.instructions.Node.{Node}
 use Rattle.fast_tree.specs.declared.instructions.Shape.{Shape}
 use Rattle.fast_tree.specs.declared.instructions.Shape.TheVariants.{Field, Decimal, Group, Sequence}
@@ -14,7 +15,9 @@ use Rattle.fast_tree.specs.meaning.NodeData.{a_field, a_decimal, a_group, a_sequ
 use Rattle.fast_tree.specs.meaning.Tree.{FieldData, Instruction, field, parts, group, sequence, Body, end, step, TemplateData}
 use Rattle.fast_template.specs.declared.sets.Templates.{Templates}
 use Rattle.fast_template.specs.meaning.Flat.{nodes_of, templates_of, tree_of}
-use Rattle.fast_stream.specs.meaning.Events.{EventData, MessageStart, FieldValue, GroupStart, GroupEnd, SequenceStart, ElementStart, ElementEnd, SequenceEnd, MessageEnd, element_events, item_events, body_events, template_events, events}
+use Rattle.fast_stream.specs.meaning.Events.{EventData, MessageStart, FieldValue, GroupStart, GroupEnd, SequenceStart, ElementStart}
+use Rattle.fast_stream.specs.meaning.Events.{ElementEnd, SequenceEnd, MessageEnd, element_events, item_events, body_events, template_events}
+use Rattle.fast_stream.specs.meaning.Events.{events}
 use Rattle.fast_stream.specs.meaning.Streams.{End}
 use Rattle.fast_notation.proofs.nodes.BuildingNeeds.{all_left, all_first, all_but_first}
 use Rattle.fast_spelling.specs.meaning.Suiting.{IsRight, AreRight, Suits, SuitsBody, IsWithinLimits, AreWithinLimits, RowsWithinLimits}
@@ -69,12 +72,15 @@ module _ (t : Templates) (l : Limits) where
   alone : (e : EventData) → IsNamed t l e → All (IsNamed t l) (e ∷ [])
   alone e h = All-cons (IsNamed t l) e [] h (All-nil (IsNamed t l))
 
-  rows_named : (right : Slots → Type 0) (events : Slots → List EventData) → ((vs : Slots) → right vs → AreWithinLimits l vs → All (IsNamed t l) (events vs)) → (rows : Elements) → AreRight right rows → RowsWithinLimits l rows
+  rows_named : (right : Slots → Type 0) (events : Slots → List EventData)
+      → ((vs : Slots) → right vs → AreWithinLimits l vs → All (IsNamed t l) (events vs)) → (rows : Elements) → AreRight right rows
+      → RowsWithinLimits l rows
       → All (IsNamed t l) (element_events events rows)
   rows_named right events f no_elements h i = All-nil (IsNamed t l)
   rows_named right events f (element vs rows) h i =
       All-cons (IsNamed t l) ElementStart (events vs ++ ElementEnd ∷ element_events events rows) tt
-      (All-append (IsNamed t l) (events vs) (ElementEnd ∷ element_events events rows) (f vs h.0 i.0) (All-cons (IsNamed t l) ElementEnd (element_events events rows) tt (rows_named right events f rows h.1 i.1)))
+      (All-append (IsNamed t l) (events vs) (ElementEnd ∷ element_events events rows) (f vs h.0 i.0)
+      (All-cons (IsNamed t l) ElementEnd (element_events events rows) tt (rows_named right events f rows h.1 i.1)))
 
   mutual
     unfolding item_events body_events
@@ -91,8 +97,10 @@ module _ (t : Templates) (l : Limits) where
     item_named (group at optional body) (one v) at_node h i = absurd h
     item_named (group at optional body) (sequence_item rows) at_node h i = absurd h
     item_named (sequence at f body) (sequence_item rows) ((n, found, (is, e)), inner) h i =
-        All-cons (IsNamed t l) (SequenceStart at.node (count rows)) (element_events (body_events body) rows ++ SequenceEnd ∷ []) ((n, found, sequence_is n.shape f is e), i.0)
-        (All-append (IsNamed t l) (element_events (body_events body) rows) (SequenceEnd ∷ []) (rows_named (SuitsBody body) (body_events body) (λ vs h i. slots_named body vs inner h i) rows h.0 i.1) (alone SequenceEnd tt))
+        All-cons (IsNamed t l) (SequenceStart at.node (count rows)) (element_events (body_events body) rows ++ SequenceEnd ∷ [])
+        ((n, found, sequence_is n.shape f is e), i.0)
+        (All-append (IsNamed t l) (element_events (body_events body) rows) (SequenceEnd ∷ [])
+        (rows_named (SuitsBody body) (body_events body) (λ vs h i. slots_named body vs inner h i) rows h.0 i.1) (alone SequenceEnd tt))
     item_named (sequence at f body) (one v) at_node h i = absurd h
     item_named (sequence at f body) (group_item vs) at_node h i = absurd h
 
@@ -100,7 +108,8 @@ module _ (t : Templates) (l : Limits) where
     slots_named end vs inner h i = All-nil (IsNamed t l)
     slots_named (step k ks) no_slots inner h i = absurd h
     slots_named (step k ks) (absent vs) inner h i = slots_named ks vs inner.1 h.1 i
-    slots_named (step k ks) (present x vs) inner h i = All-append (IsNamed t l) (item_events k x) (body_events ks vs) (item_named k x inner.0 h.0 i.0) (slots_named ks vs inner.1 h.1 i.1)
+    slots_named (step k ks) (present x vs) inner h i = All-append (IsNamed t l) (item_events k x) (body_events ks vs)
+        (item_named k x inner.0 h.0 i.0) (slots_named ks vs inner.1 h.1 i.1)
 
   same_template : (u v : TemplateData) (x : Option TemplateData) → x ≡ Some u → x ≡ Some v → u ≡ v
   same_template u v x e f = let k : Some u ≡ Some v = sym e ∙ f in cc k
@@ -113,12 +122,15 @@ module _ (t : Templates) (l : Limits) where
       let (v, found, same_id, inner) = template_at ns t.nodes_name_later_nodes (templates_of t) t.templates_name_nodes m.template u at in
       subst (All (IsNamed t l)) (sym (ap (λ (z : Option TemplateData). template_events m.template z m.slots) at))
       (All-cons (IsNamed t l) (MessageStart m.template) (body_events u.body m.slots ++ MessageEnd ∷ []) (v, id, found, same_id ∙ own)
-      (All-append (IsNamed t l) (body_events u.body m.slots) (MessageEnd ∷ []) (slots_named u.body m.slots inner (subst (λ (z : TemplateData). SuitsBody z.body m.slots) same suits) proper.fits.0) (alone MessageEnd tt)))
+      (All-append (IsNamed t l) (body_events u.body m.slots) (MessageEnd ∷ [])
+      (slots_named u.body m.slots inner (subst (λ (z : TemplateData). SuitsBody z.body m.slots) same suits) proper.fits.0)
+      (alone MessageEnd tt)))
 
   messages_named : (ms : List MessageData) → All (IsProper (tree_of t) l) ms → All (IsNamed t l) (flat_map (events (tree_of t)) ms)
   messages_named [] h = All-nil (IsNamed t l)
   messages_named (m ∷ ms) h =
-      All-append (IsNamed t l) (events (tree_of t) m) (flat_map (events (tree_of t)) ms) (message_named m (all_first (IsProper (tree_of t) l) m ms h)) (messages_named ms (all_but_first (IsProper (tree_of t) l) m ms h))
+      All-append (IsNamed t l) (events (tree_of t) m) (flat_map (events (tree_of t)) ms)
+      (message_named m (all_first (IsProper (tree_of t) l) m ms h)) (messages_named ms (all_but_first (IsProper (tree_of t) l) m ms h))
 
   first_named : (es : List EventData) → AreFirstOf (tree_of t) l es → All (IsNamed t l) es
   first_named es (inl e) = subst (All (IsNamed t l)) (sym e) (All-nil (IsNamed t l))
@@ -126,4 +138,5 @@ module _ (t : Templates) (l : Limits) where
 
   pub all_named : (es : List EventData) (e : End) → AreOfMessages (tree_of t) l es e → All (IsNamed t l) es
   all_named es e h =
-      subst (All (IsNamed t l)) (sym h.all) (All-append (IsNamed t l) (flat_map (events (tree_of t)) h.messages) h.front (messages_named h.messages h.proper) (first_named h.front h.begun))
+      subst (All (IsNamed t l)) (sym h.all) (All-append (IsNamed t l) (flat_map (events (tree_of t)) h.messages) h.front
+      (messages_named h.messages h.proper) (first_named h.front h.begun))

@@ -35,7 +35,8 @@ module _ (all : List Node) where
       let r = b 0 (omega arith) in
       (h (n - first) (omega (arith, r)), body_is first is count h ns (λ k i. b (suc k) (omega (arith, i))))
 
-  shape_is : (own : ℕ) (v : Node) (is : List Instruction) (count : ℕ) → slice_get all own ≡ Some v → AreBetween own (length all) (numbers_of v.shape) → length all ≡ suc own + count
+  shape_is : (own : ℕ) (v : Node) (is : List Instruction) (count : ℕ) → slice_get all own ≡ Some v
+      → AreBetween own (length all) (numbers_of v.shape) → length all ≡ suc own + count
       → ((k : ℕ) → k < count → IsOfNodes all (slice_index_or is k no_instruction)) → IsOfNodes all (instruction_of (label_of own v) (suc own) is v.shape)
   shape_is own v is count found between long h = by v.shape refl
     where
@@ -43,11 +44,17 @@ module _ (all : List Node) where
       by (Field f) e = (v, found, ap shape_data e)
       by (Decimal e m) q = (v, found, ap shape_data q)
       by (Group optional body) e =
-          let within : AreBetween own (length all) body.items = subst (λ (s : Shape). AreBetween own (length all) (numbers_of s)) e between in
-          ((v, found, (body.items, ap shape_data e)), body_is (suc own) is count h body.items (λ k i. let r = within k i in (omega (arith, r), omega (arith, r, long))))
+          let within : AreBetween own (length all) body.items = subst (λ (s : Shape). AreBetween own (length all) (numbers_of s)) e between in (
+            (v, found, (body.items, ap shape_data e)),
+            body_is (suc own) is count h body.items
+                (λ k i. let r = within k i in (omega (arith, r), omega (arith, r, long))),
+          )
       by (Sequence length' body) e =
-          let within : AreBetween own (length all) body.items = subst (λ (s : Shape). AreBetween own (length all) (numbers_of s)) e between in
-          ((v, found, (body.items, ap shape_data e)), body_is (suc own) is count h body.items (λ k i. let r = within k i in (omega (arith, r), omega (arith, r, long))))
+          let within : AreBetween own (length all) body.items = subst (λ (s : Shape). AreBetween own (length all) (numbers_of s)) e between in (
+            (v, found, (body.items, ap shape_data e)),
+            body_is (suc own) is count h body.items
+                (λ k i. let r = within k i in (omega (arith, r), omega (arith, r, long))),
+          )
 
   instructions_are : NameLaterNodes all → (own : ℕ) (ns : List Node) → length all ≡ own + length ns → ((k : ℕ) → slice_get ns k ≡ slice_get all (own + k))
       → (k : ℕ) → k < length ns → IsOfNodes all (slice_index_or (instructions_from own ns) k no_instruction)
@@ -55,22 +62,27 @@ module _ (all : List Node) where
   instructions_are later own (v ∷ ns) long at k i =
       let here : own + 0 ≡ own = omega arith in
       let found : slice_get all own ≡ Some v = ap (slice_get all) (sym here) ∙ sym (at 0) in
-      let others = instructions_are later (suc own) ns (omega (arith, long)) (λ k. let more : own + suc k ≡ suc own + k = omega arith in at (suc k) ∙ ap (slice_get all) more) in
+      let others = instructions_are later (suc own) ns (omega (arith, long))
+      (λ k. let more : own + suc k ≡ suc own + k = omega arith in at (suc k) ∙ ap (slice_get all) more) in
       by k i found others
     where
-      by : (k : ℕ) → k < length (v ∷ ns) → slice_get all own ≡ Some v → ((k : ℕ) → k < length ns → IsOfNodes all (slice_index_or (instructions_from (suc own) ns) k no_instruction))
+      by : (k : ℕ) → k < length (v ∷ ns) → slice_get all own ≡ Some v
+          → ((k : ℕ) → k < length ns → IsOfNodes all (slice_index_or (instructions_from (suc own) ns) k no_instruction))
           → IsOfNodes all (slice_index_or (instructions_from own (v ∷ ns)) k no_instruction)
       by zero i found others = shape_is own v (instructions_from (suc own) ns) (length ns) found (later own v found) (omega (arith, long)) others
       by (suc k) i found others = others k (omega (arith, i))
 
   -- the body of a template
-  template_is : NameLaterNodes all → (ns : List ℕ) → ((k : ℕ) → k < length ns → slice_index ns k < length all) → AreOfNodes all (body_of 0 (instructions_from 0 all) ns)
+  template_is : NameLaterNodes all → (ns : List ℕ) → ((k : ℕ) → k < length ns → slice_index ns k < length all)
+      → AreOfNodes all (body_of 0 (instructions_from 0 all) ns)
   template_is later ns b =
-      body_is 0 (instructions_from 0 all) (length all) (instructions_are later 0 all (omega arith) (λ k. let none : k ≡ 0 + k = omega arith in ap (slice_get all) none)) ns
+      body_is 0 (instructions_from 0 all) (length all) (instructions_are later 0 all (omega arith)
+      (λ k. let none : k ≡ 0 + k = omega arith in ap (slice_get all) none)) ns
       (λ k i. (omega arith, omega (arith, b k i)))
 
   -- The template with a number in the tree is the set's, and all its instructions are nodes.
-  pub template_at : NameLaterNodes all → (ts : List Template) → NameNodes (length all) ts → (n : ℕ) (u : TemplateData) → slice_get (map (template_data (instructions_from 0 all)) ts) n ≡ Some u
+  pub template_at : NameLaterNodes all → (ts : List Template) → NameNodes (length all) ts → (n : ℕ) (u : TemplateData)
+      → slice_get (map (template_data (instructions_from 0 all)) ts) n ≡ Some u
       → (v : Template) × (slice_get ts n ≡ Some v) × (v.id ≡ u.id) × AreOfNodes all u.body
   template_at later [] names n u e = absurd (cc e)
   template_at later (v ∷ ts) names zero u e =

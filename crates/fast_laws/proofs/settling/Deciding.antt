@@ -10,10 +10,13 @@ use Rattle.fast_value.specs.declared.kinds.Kind.{Kind}
 use Rattle.fast_value.specs.declared.kinds.Kind.TheVariants.{UInt32, Int32, UInt64, Int64, Decimal, Ascii, Unicode, Bytes}
 use Rattle.fast_value.specs.declared.settings.Limits.{Limits}
 use Rattle.fast_value.specs.meaning.Kinds.{ScalarData, U, I, Dec, AsciiText, UnicodeText, ByteVector, text_of}
-use Rattle.fast_value.specs.meaning.Messages.{ItemData, one, group as group_item, sequence as sequence_item, Slots, no_slots, absent, present, Elements, no_elements, element, count, total, MessageData}
+use Rattle.fast_value.specs.meaning.Messages.{ItemData, one, group as group_item, sequence as sequence_item, Slots, no_slots, absent}
+use Rattle.fast_value.specs.meaning.Messages.{present, Elements, no_elements, element, count, total, MessageData}
 use Rattle.fast_tree.specs.meaning.Tree.{FieldData, Instruction, field, parts, group, sequence, Body, end, step, TemplateData, Tree}
 use Rattle.fast_stream.proofs.readers.Integers.{decides-within}
-use Rattle.fast_spelling.specs.meaning.Suiting.{IsKnown, IsRight, AreRight, IsRightScalar, IsRightDecimal, IsRightGroup, IsRightSequence, Suits, SuitsBody, SuitsTemplate, IsWithinLimits, AreWithinLimits, RowsWithinLimits, FitsLimits}
+use Rattle.fast_spelling.specs.meaning.Suiting.{IsKnown, IsRight, AreRight, IsRightScalar, IsRightDecimal, IsRightGroup, IsRightSequence}
+use Rattle.fast_spelling.specs.meaning.Suiting.{Suits, SuitsBody, SuitsTemplate, IsWithinLimits, AreWithinLimits, RowsWithinLimits}
+use Rattle.fast_spelling.specs.meaning.Suiting.{FitsLimits}
 
 -- it is so, or it isn't
 abbrev pub Decided : Type 0 → Type 0
@@ -142,7 +145,8 @@ known_decided t m = by (slice_get t.templates m.template) refl
     by (Some u) e = known_of t m u e
     by None e = inr (λ (u, id, at, own). absurd (cc (e, at)))
 
-suits_of : (t : Tree) (m : MessageData) (u : TemplateData) → slice_get t.templates m.template ≡ Some u → Decided (SuitsBody u.body m.slots) → Decided (SuitsTemplate t m)
+suits_of : (t : Tree) (m : MessageData) (u : TemplateData) → slice_get t.templates m.template ≡ Some u → Decided (SuitsBody u.body m.slots)
+    → Decided (SuitsTemplate t m)
 suits_of t m u at (inl h) = inl (u, at, h)
 suits_of t m u at (inr n) = inr (λ (u', at', h). let same : u' ≡ u = cc (at, at') in n (subst (λ (z : TemplateData). SuitsBody z.body m.slots) same h))
 

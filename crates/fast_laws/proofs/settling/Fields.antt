@@ -31,14 +31,16 @@ some_delta (integers range) base v = (integer_delta (integer_of v -ℤ integer_o
 some_delta decimals base v = (decimal_delta (exponent_of v -ℤ exponent_of base) (mantissa_of v -ℤ mantissa_of base), refl)
 some_delta texts base v = by (cases_lt (common_front (text_of base) (text_of v)) (common_back (text_of base) (text_of v)))
   where
-    by : (common_front (text_of base) (text_of v) < common_back (text_of base) (text_of v)) ⊎ (common_back (text_of base) (text_of v) ≤ common_front (text_of base) (text_of v)) → (x : Sent) × IsDelta texts base v x
+    by : (common_front (text_of base) (text_of v) < common_back (text_of base) (text_of v))
+        ⊎ (common_back (text_of base) (text_of v) ≤ common_front (text_of base) (text_of v)) → (x : Sent) × IsDelta texts base v x
     by (inl back) = (prepending (text_of base) (text_of v), inr (back, refl))
     by (inr front) = (appending (text_of base) (text_of v), inl (front, refl))
 
 some_tail : (b t : List ℕ) → ((part : List ℕ) × IsTail b t part) ⊎ ((part : List ℕ) → IsTail b t part → ⊥)
 some_tail b t = by (cases_lt (length b) (length t)) (cases_eq (length t) (length b))
   where
-    by : (length b < length t) ⊎ (length t ≤ length b) → (length t ≡ length b) ⊎ (length t ≡ length b → ⊥) → ((part : List ℕ) × IsTail b t part) ⊎ ((part : List ℕ) → IsTail b t part → ⊥)
+    by : (length b < length t) ⊎ (length t ≤ length b) → (length t ≡ length b) ⊎ (length t ≡ length b → ⊥)
+        → ((part : List ℕ) × IsTail b t part) ⊎ ((part : List ℕ) → IsTail b t part → ⊥)
     by (inl longer) same = inl (t, inr (longer, refl))
     by (inr few) (inl same) = inl (drop (common_front b t) t, inl (same, refl))
     by (inr few) (inr other) = inr (λ part h. never h)
@@ -61,9 +63,11 @@ delta_sends f p v = by (delta_base f p) refl
 tail_sends : (f : FieldData) (p : PreviousData) (v : ScalarData) → Sends Tail f p (Some v)
 tail_sends f p v = by (tail_base f p) refl
   where
-    on : (base : ScalarData) → tail_base f p ≡ Ok base → ((part : List ℕ) × IsTail (text_of base) (text_of v) part) ⊎ ((part : List ℕ) → IsTail (text_of base) (text_of v) part → ⊥) → Sends Tail f p (Some v)
+    on : (base : ScalarData) → tail_base f p ≡ Ok base → ((part : List ℕ) × IsTail (text_of base) (text_of v) part)
+        ⊎ ((part : List ℕ) → IsTail (text_of base) (text_of v) part → ⊥) → Sends Tail f p (Some v)
     on base e (inl (part, h)) = inl (value (value_of_text f.kind part), (base, part, e, h, refl))
-    on base e (inr none) = inr (λ x (base', part, e', h, _). let same : base' ≡ base = cc (e, e') in none part (subst (λ (z : ScalarData). IsTail (text_of z) (text_of v) part) same h))
+    on base e (inr none) = inr (λ x (base', part, e', h, _). let same : base' ≡ base = cc (e, e') in
+        none part (subst (λ (z : ScalarData). IsTail (text_of z) (text_of v) part) same h))
 
     by : (r : Result ScalarData Code) → tail_base f p ≡ r → Sends Tail f p (Some v)
     by (Ok base) e = on base e (some_tail (text_of base) (text_of v))
@@ -112,16 +116,21 @@ abbrev pub Settled : (List Bool → List ℕ → Dictionary → Type 0) → (Enc
 Settled encodes refuses = ((b : List Bool) × (w : List ℕ) × (d : Dictionary) × encodes b w d) ⊎ ((c : EncodeFault) × refuses c)
 
 module _ (l : Limits) (small : l.max_text ≤ 1048576) where
-  pub field_settled : (f : FieldData) (d : Dictionary) (v : Option ScalarData) → IsSound l d → IsGranted l f → IsSuited l.max_text f v → Settled (EncodesField l f d v) (RefusesField f d v)
+  pub field_settled : (f : FieldData) (d : Dictionary) (v : Option ScalarData) → IsSound l d → IsGranted l f → IsSuited l.max_text f v
+      → Settled (EncodesField l f d v) (RefusesField f d v)
   field_settled f d v sound granted suited = by (ruled f p v)
     where
       p : PreviousData
       p = previous_at f.entry d
 
       base_is : (base : ScalarData) → delta_base f p ≡ Ok base → IsBase l.max_text base
-      base_is base e = let r = delta_base_right l f p base (sound_previous l f.entry d sound) granted.initial e in record { narrow = right_narrow f.kind base (right_of l f.kind base r); short = short_of l f.kind base r }
+      base_is base e = let r = delta_base_right l f p base (sound_previous l f.entry d sound) granted.initial e in record {
+        narrow = right_narrow f.kind base (right_of l f.kind base r);
+        short = short_of l f.kind base r;
+      }
 
-      on : (bit : Bool) (x : Sent) → Rule f p v bit x → ((w : List ℕ) × SpellsItem f x w) ⊎ HasZeroInFront f.kind x → Settled (EncodesField l f d v) (RefusesField f d v)
+      on : (bit : Bool) (x : Sent) → Rule f p v bit x → ((w : List ℕ) × SpellsItem f x w) ⊎ HasZeroInFront f.kind x
+          → Settled (EncodesField l f d v) (RefusesField f d v)
       on bit x rule (inr zero) = inr (R9, (bit, x, rule, zero))
       on bit x rule (inl (w, spelled)) = inl (
         if uses_bit f then bit ∷ [] else [],

@@ -20,7 +20,11 @@ use Rattle.fast_spelling.proofs.bytes.Spelling.{ascii_spelled, sized_spelled}
 use Rattle.fast_spelling.proofs.rules.Chosen.{HasZero}
 
 -- Bytes that spell an integer in one range spell it in each.
-in_each : (s : Bool) (low high : ℤ) (nullable : Bool) (x : ℤ) (w : List ℕ) → SpellsInt true (record { is_signed = s; low = low; high = high }) nullable (Some x) w → IsShortest s nullable (Some x) w
+in_each : (s : Bool) (low high : ℤ) (nullable : Bool) (x : ℤ) (w : List ℕ) → SpellsInt true (record {
+  is_signed = s;
+  low = low;
+  high = high;
+}) nullable (Some x) w → IsShortest s nullable (Some x) w
 in_each s low high nullable x w p = λ range e h. record {
   form = record {
     entity = p.form.entity;
@@ -81,15 +85,18 @@ part_bytes Unicode nullable t h = inl (sized_bytes Unicode (λ e. cc e) nullable
 part_bytes Bytes nullable t h = inl (sized_bytes Bytes (λ e. cc e) nullable t h)
 
 -- values
-value_bytes : (kind : Kind) (nullable : Bool) (v : ScalarData) → IsSendableValue kind v → ((w : List ℕ) × SpellsValue kind nullable v w) ⊎ HasZeroInFront kind (value v)
+value_bytes : (kind : Kind) (nullable : Bool) (v : ScalarData) → IsSendableValue kind v
+    → ((w : List ℕ) × SpellsValue kind nullable v w) ⊎ HasZeroInFront kind (value v)
 value_bytes UInt32 nullable (U n) h = inl (natural_bytes nullable n (omega (arith, h)))
 value_bytes UInt64 nullable (U n) h = inl (natural_bytes nullable n h)
 value_bytes Int32 nullable (I x) h = inl (signed_bytes nullable x (omega (arith, ints, h), omega (arith, ints, h)))
 value_bytes Int64 nullable (I x) h = inl (signed_bytes nullable x (omega (arith, ints, h), omega (arith, ints, h)))
-value_bytes Decimal nullable (Dec x y) (h, i) = inl (pair_bytes nullable x y (omega (arith, ints, h), omega (arith, ints, h)) (omega (arith, ints, i), omega (arith, ints, i)))
+value_bytes Decimal nullable (Dec x y) (h, i) = inl (pair_bytes nullable x y (omega (arith, ints, h), omega (arith, ints, h))
+    (omega (arith, ints, i), omega (arith, ints, i)))
 value_bytes Ascii nullable (AsciiText t) h = by (ascii_bytes nullable t h)
   where
-    by : ((w : List ℕ) × SpellsPart Ascii nullable t w) ⊎ HasZero Ascii t → ((w : List ℕ) × SpellsPart Ascii nullable t w) ⊎ HasZeroInFront Ascii (value (AsciiText t))
+    by : ((w : List ℕ) × SpellsPart Ascii nullable t w) ⊎ HasZero Ascii t
+        → ((w : List ℕ) × SpellsPart Ascii nullable t w) ⊎ HasZeroInFront Ascii (value (AsciiText t))
     by (inl s) = inl s
     by (inr z) = inr z.1
 value_bytes Unicode nullable (UnicodeText t) h = inl (sized_bytes Unicode (λ e. cc e) nullable t h)
@@ -105,6 +112,7 @@ item_bytes f (integer_delta k) h = inl (signed_bytes f.optional k h)
 item_bytes f (decimal_delta k j) h = inl (pair_bytes f.optional k j h.0 h.1)
 item_bytes f (text_delta k part) (h, i) = by (part_bytes f.kind false part i)
   where
-    by : ((w : List ℕ) × SpellsPart f.kind false part w) ⊎ HasZero f.kind part → ((w : List ℕ) × SpellsItem f (text_delta k part) w) ⊎ HasZeroInFront f.kind (text_delta k part)
+    by : ((w : List ℕ) × SpellsPart f.kind false part w) ⊎ HasZero f.kind part
+        → ((w : List ℕ) × SpellsItem f (text_delta k part) w) ⊎ HasZeroInFront f.kind (text_delta k part)
     by (inl (v, t)) = let (u, s) = signed_bytes f.optional k (omega (arith, ints, h), omega (arith, ints, h)) in inl (u ++ v, (u, v, s, t, refl))
     by (inr (e, z)) = inr (subst (λ (kind : Kind). HasZeroInFront kind (text_delta k part)) (sym e) z)

@@ -13,8 +13,10 @@ use Rattle.fast_dict.specs.meaning.Dictionary.{Dictionary, previous_at, reset}
 use Rattle.fast_stream.specs.meaning.Messages.{with_slot}
 use Rattle.fast_spelling.specs.device.Fields.{IsSuited, next_of}
 use Rattle.fast_spelling.specs.meaning.Again.{IsSoundEntry, IsSound, IsGranted, Grants, GrantsBody}
-use Rattle.fast_spelling.specs.meaning.Encoding.{Encoder, EncodesField, EncodesSegment, EncodesElements, EncodesScalar, EncodesDecimal, EncodesGroup, EncodesSequence, Encodes, EncodesBody}
-use Rattle.fast_spelling.specs.meaning.Suiting.{IsRight, AreRight, IsRightScalar, IsRightDecimal, IsRightGroup, IsRightSequence, Suits, SuitsBody, AreWithinLimits, RowsWithinLimits}
+use Rattle.fast_spelling.specs.meaning.Encoding.{Encoder, EncodesField, EncodesSegment, EncodesElements, EncodesScalar, EncodesDecimal}
+use Rattle.fast_spelling.specs.meaning.Encoding.{EncodesGroup, EncodesSequence, Encodes, EncodesBody}
+use Rattle.fast_spelling.specs.meaning.Suiting.{IsRight, AreRight, IsRightScalar, IsRightDecimal, IsRightGroup, IsRightSequence, Suits}
+use Rattle.fast_spelling.specs.meaning.Suiting.{SuitsBody, AreWithinLimits, RowsWithinLimits}
 use Rattle.fast_spelling.proofs.encodings.Encoded.{IsWithinOption}
 use Rattle.fast_spelling.proofs.again.FieldsAgain.{tail_texts, fit_of}
 use Rattle.fast_spelling.proofs.again.MessagesAgain.{sound_reset}
@@ -58,21 +60,25 @@ module _ (l : Limits) where
   suited_sound f None h = h
   suited_sound f (Some v) h = right_sound f.kind v h.0 h.1
 
-  pub field_keeps : (f : FieldData) (d : Dictionary) (v : Option ScalarData) (b : List Bool) (w : List ℕ) (d' : Dictionary) → IsSound l d → IsGranted l f → IsSuited l.max_text f v → EncodesField l f d v b w d' → IsSound l d'
+  pub field_keeps : (f : FieldData) (d : Dictionary) (v : Option ScalarData) (b : List Bool) (w : List ℕ) (d' : Dictionary) → IsSound l d
+      → IsGranted l f → IsSuited l.max_text f v → EncodesField l f d v b w d' → IsSound l d'
   field_keeps f d v b w d' sound granted suited (bit, x, next, rule, spelled, op, bits, written) =
       let p = previous_at f.entry d in
       let right = suited_sound f v suited in
-      let same : next ≡ next_of f p v = one_next f p bit x v next (next_of f p v) op (rule_gives f p v bit x (tail_texts l f granted.suited) (fit_of l f v right) rule) in
+      let same : next ≡ next_of f p v = one_next f p bit x v next (next_of f p v) op
+      (rule_gives f p v bit x (tail_texts l f granted.suited) (fit_of l f v right) rule) in
       let entry : IsSoundEntry l next = subst (IsSoundEntry l) (sym same) (next_sound l f.operator f p v (sound_previous l f.entry d sound) right) in
       subst (IsSound l) (sym written) (sound_write l f.entry next d sound entry)
 
   -- From a sound dictionary slots that are right lead to a sound one.
   abbrev pub KeepsSlots : (Dictionary → Slots → List ℕ → Dictionary → Type 0) → (Slots → Type 0) → Type 0
-  KeepsSlots encodes right = (d : Dictionary) (vs : Slots) (w : List ℕ) (d' : Dictionary) → IsSound l d → right vs → AreWithinLimits l vs → encodes d vs w d' → IsSound l d'
+  KeepsSlots encodes right = (d : Dictionary) (vs : Slots) (w : List ℕ) (d' : Dictionary) → IsSound l d → right vs → AreWithinLimits l vs
+      → encodes d vs w d' → IsSound l d'
 
   -- the same of what may be absent
   abbrev Keeps : Encoder (Option ItemData) → (Option ItemData → Type 0) → Type 0
-  Keeps encodes right = (d : Dictionary) (x : Option ItemData) (b : List Bool) (w : List ℕ) (d' : Dictionary) → IsSound l d → right x → IsWithinOption l x → encodes d x b w d' → IsSound l d'
+  Keeps encodes right = (d : Dictionary) (x : Option ItemData) (b : List Bool) (w : List ℕ) (d' : Dictionary) → IsSound l d → right x
+      → IsWithinOption l x → encodes d x b w d' → IsSound l d'
 
   scalar_keeps : (f : FieldData) → IsGranted l f → Keeps (EncodesScalar l f) (IsRightScalar f)
   scalar_keeps f granted d None b w d' sound h fits e = field_keeps f d None b w d' sound granted h e
@@ -86,24 +92,29 @@ module _ (l : Limits) where
       field_keeps m mid (Some (I y)) b2 v d' first granted' (right_mantissa m y m_kind h.1, omega arith) j
   decimal_keeps at e m granted d (Some other) b w d' sound h fits i = absurd h
 
-  group_keeps : (optional : Bool) (encodes : Dictionary → Slots → List ℕ → Dictionary → Type 0) (right : Slots → Type 0) → KeepsSlots encodes right → Keeps (EncodesGroup optional encodes) (IsRightGroup optional right)
+  group_keeps : (optional : Bool) (encodes : Dictionary → Slots → List ℕ → Dictionary → Type 0) (right : Slots → Type 0)
+      → KeepsSlots encodes right → Keeps (EncodesGroup optional encodes) (IsRightGroup optional right)
   group_keeps optional encodes right f d None b w d' sound h fits (_, _, _, same) = subst (IsSound l) (sym same) sound
   group_keeps optional encodes right f d (Some (group_item vs)) b w d' sound h fits (_, i) = f d vs w d' sound h fits i
   group_keeps optional encodes right f d (Some other) b w d' sound h fits i = absurd h
 
   rows_keep : (encodes : Dictionary → Slots → List ℕ → Dictionary → Type 0) (right : Slots → Type 0) → KeepsSlots encodes right
-      → (rows : Elements) (d : Dictionary) (w : List ℕ) (d' : Dictionary) → IsSound l d → AreRight right rows → RowsWithinLimits l rows → EncodesElements encodes d rows w d' → IsSound l d'
+      → (rows : Elements) (d : Dictionary) (w : List ℕ) (d' : Dictionary) → IsSound l d → AreRight right rows → RowsWithinLimits l rows
+      → EncodesElements encodes d rows w d' → IsSound l d'
   rows_keep encodes right f no_elements d w d' sound h fits (_, same) = subst (IsSound l) (sym same) sound
-  rows_keep encodes right f (element vs rows) d w d' sound h fits (u, v, mid, i, j, _) = rows_keep encodes right f rows mid v d' (f d vs u mid sound h.0 fits.0 i) h.1 fits.1 j
+  rows_keep encodes right f (element vs rows) d w d' sound h fits (u, v, mid, i, j, _) =
+      rows_keep encodes right f rows mid v d' (f d vs u mid sound h.0 fits.0 i) h.1 fits.1 j
 
-  sequence_keeps : (g : FieldData) (encodes : Dictionary → Slots → List ℕ → Dictionary → Type 0) (right : Slots → Type 0) → KeepsSlots encodes right → IsGranted l g → g.kind ≡ UInt32 → Keeps (EncodesSequence l g encodes) (IsRightSequence g right)
+  sequence_keeps : (g : FieldData) (encodes : Dictionary → Slots → List ℕ → Dictionary → Type 0) (right : Slots → Type 0)
+      → KeepsSlots encodes right → IsGranted l g → g.kind ≡ UInt32 → Keeps (EncodesSequence l g encodes) (IsRightSequence g right)
   sequence_keeps g encodes right f granted kind d None b w d' sound h fits i = field_keeps g d None b w d' sound granted h i
   sequence_keeps g encodes right f granted kind d (Some (sequence_item rows)) b w d' sound h fits (u, v, mid, i, j, _) =
       let first = field_keeps g d (Some (U (count rows))) b u mid sound granted (right_length g (count rows) kind h.1, omega arith) i in
       rows_keep encodes right f rows mid v d' first h.0 fits.1 j
   sequence_keeps g encodes right f granted kind d (Some other) b w d' sound h fits i = absurd h
 
-  segment_by : (body : Body) → ((d : Dictionary) (vs : Slots) (b : List Bool) (w : List ℕ) (d' : Dictionary) → IsSound l d → SuitsBody body vs → AreWithinLimits l vs → EncodesBody l body d vs b w d' → IsSound l d')
+  segment_by : (body : Body) → ((d : Dictionary) (vs : Slots) (b : List Bool) (w : List ℕ) (d' : Dictionary) → IsSound l d
+      → SuitsBody body vs → AreWithinLimits l vs → EncodesBody l body d vs b w d' → IsSound l d')
       → KeepsSlots (EncodesSegment body (EncodesBody l body)) (SuitsBody body)
   segment_by body f d vs w d' sound h fits (b, m, v, i, _, _) = f d vs b v d' sound h fits i
 
@@ -116,9 +127,11 @@ module _ (l : Limits) where
     instruction_keeps (group at optional body) granted d x b w d' sound h fits e =
         group_keeps optional (EncodesSegment body (EncodesBody l body)) (SuitsBody body) (segment_by body (body_keeps body granted)) d x b w d' sound h fits e
     instruction_keeps (sequence at g body) granted d x b w d' sound h fits e =
-        sequence_keeps g (EncodesSegment body (EncodesBody l body)) (SuitsBody body) (segment_by body (body_keeps body granted.2)) granted.0 granted.1 d x b w d' sound h fits e
+        sequence_keeps g (EncodesSegment body (EncodesBody l body)) (SuitsBody body)
+        (segment_by body (body_keeps body granted.2)) granted.0 granted.1 d x b w d' sound h fits e
 
-    pub body_keeps : (body : Body) → GrantsBody l body → (d : Dictionary) (vs : Slots) (b : List Bool) (w : List ℕ) (d' : Dictionary) → IsSound l d → SuitsBody body vs → AreWithinLimits l vs → EncodesBody l body d vs b w d' → IsSound l d'
+    pub body_keeps : (body : Body) → GrantsBody l body → (d : Dictionary) (vs : Slots) (b : List Bool) (w : List ℕ) (d' : Dictionary)
+        → IsSound l d → SuitsBody body vs → AreWithinLimits l vs → EncodesBody l body d vs b w d' → IsSound l d'
     body_keeps end granted d vs b w d' sound h fits (_, _, _, same) = subst (IsSound l) (sym same) sound
     body_keeps (step i is) granted d vs b w d' sound h fits (x, rest, b1, b2, u, v, mid, e, j, split, _, _) =
         let suits = slot_suits i is x rest (subst (SuitsBody (step i is)) split h) in

@@ -41,6 +41,7 @@ some_map b = by (late 1022 b)
         let past : slice_index_or (bits m) i false ≡ false = get_or_past (bits m) i false (omega (arith, length_bits m, form.short, h)) in
         absurd (cc (past, same i, e))
 
-    by : ((i : ℕ) × (1022 ≤ i) × (slice_index_or b i false ≡ true)) ⊎ ((i : ℕ) → slice_index_or b i false ≡ true → i < 1022) → ((m : List ℕ) × ShortestMap true b m) ⊎ HaveNoMap b
+    by : ((i : ℕ) × (1022 ≤ i) × (slice_index_or b i false ≡ true)) ⊎ ((i : ℕ) → slice_index_or b i false ≡ true → i < 1022)
+        → ((m : List ℕ) × ShortestMap true b m) ⊎ HaveNoMap b
     by (inl (i, h, e)) = inr (none i h e)
     by (inr few) = let (m, form, same) = mapped b few in inl (m, (form, same))

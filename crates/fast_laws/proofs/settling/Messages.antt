@@ -22,7 +22,8 @@ use Rattle.fast_laws.proofs.settling.Fields.{Settled, field_settled}
 use Rattle.fast_laws.proofs.settling.Keeping.{field_keeps, body_keeps, sound_if}
 use Rattle.fast_laws.proofs.settling.Maps.{some_map}
 
-short_at : (us : List TemplateData) (n : ℕ) (u : TemplateData) (id : ℕ) → All (λ u. IfSome u.id (λ id. id < 2 ^ 32)) us → slice_get us n ≡ Some u → u.id ≡ Some id → id < 2 ^ 32
+short_at : (us : List TemplateData) (n : ℕ) (u : TemplateData) (id : ℕ) → All (λ u. IfSome u.id (λ id. id < 2 ^ 32)) us
+    → slice_get us n ≡ Some u → u.id ≡ Some id → id < 2 ^ 32
 short_at [] n u id h e own = absurd (cc e)
 short_at (x ∷ us) zero u id h e own =
     let same : x ≡ u = cc e in
@@ -32,7 +33,8 @@ short_at (x ∷ us) (suc n) u id h e own = short_at us n u id (λ k d i. h (suc 
 
 module _ (t : Tree) (l : Limits) (d : Dictionary) (m : MessageData) (can : CanEncode t l d) where
   -- after the identifier
-  module _ (u : TemplateData) (id : ℕ) (at : slice_get t.templates m.template ≡ Some u) (own : u.id ≡ Some id) (right : SuitsBody u.body m.slots) (fits : FitsLimits l m.slots) where
+  module _ (u : TemplateData) (id : ℕ) (at : slice_get t.templates m.template ≡ Some u) (own : u.id ≡ Some id)
+      (right : SuitsBody u.body m.slots) (fits : FitsLimits l m.slots) where
     abbrev Told : Type 0
     Told = HasEncoding t l d m ⊎ ((c : EncodeFault) × RefusesMessage t l d m c)
 
@@ -49,7 +51,8 @@ module _ (t : Tree) (l : Limits) (d : Dictionary) (m : MessageData) (can : CanEn
       sound : IsSound l after
       sound = sound_if l u.reset mid (field_keeps l identifier d (Some (U id)) b1 x mid can.sound (identifier_granted l) ((0, small), omega arith) i)
 
-      on : (b2 : List Bool) (v : List ℕ) (d' : Dictionary) → EncodesBody l u.body after m.slots b2 v d' → ((map : List ℕ) × ShortestMap true (b1 ++ b2) map) ⊎ HaveNoMap (b1 ++ b2) → Told
+      on : (b2 : List Bool) (v : List ℕ) (d' : Dictionary) → EncodesBody l u.body after m.slots b2 v d'
+          → ((map : List ℕ) × ShortestMap true (b1 ++ b2) map) ⊎ HaveNoMap (b1 ++ b2) → Told
       unfolding EncodesMessage
       on b2 v d' j (inl (map, s)) = inl (map ++ x ++ v, d', (u, id, b1, b2, map, x, v, mid, at, own, i, j, s, refl))
       on b2 v d' j (inr none) = inr (E3, (u, id, b1, x, mid, at, own, i, inr (b2, v, d', j, none, refl)))
@@ -86,11 +89,13 @@ module _ (t : Tree) (l : Limits) (d : Dictionary) (m : MessageData) (can : CanEn
   next_is_sound w d' (u', at', right) fits (u, id, b1, b2, map, x, v, mid, at, own, i, j, s, e) =
       let same : u' ≡ u = cc (at', at) in
       let here = subst (λ (q : TemplateData). SuitsBody q.body m.slots) same right in
-      let kept = sound_if l u.reset mid (field_keeps l identifier d (Some (U id)) b1 x mid can.sound (identifier_granted l) ((0, short_at t.templates m.template u id can.short_ids at own), omega arith) i) in
+      let kept = sound_if l u.reset mid (field_keeps l identifier d (Some (U id)) b1 x mid can.sound (identifier_granted l)
+      ((0, short_at t.templates m.template u id can.short_ids at own), omega arith) i) in
       body_keeps l u.body (granted_at l t.templates m.template u can.granted at) (if u.reset then reset mid else mid) m.slots b2 v d' kept here fits.0 j
 
 -- Any message is encoded or refused.
-pub any_settled : (t : Tree) (l : Limits) (d : Dictionary) (m : MessageData) → CanEncode t l d → (SuitsTemplate t m × FitsLimits l m.slots × HasEncoding t l d m) ⊎ ((c : EncodeFault) × IsRefused t l d m c)
+pub any_settled : (t : Tree) (l : Limits) (d : Dictionary) (m : MessageData) → CanEncode t l d
+    → (SuitsTemplate t m × FitsLimits l m.slots × HasEncoding t l d m) ⊎ ((c : EncodeFault) × IsRefused t l d m c)
 any_settled t l d m can = by_known (known_decided t m)
   where
     Told : Type 0
@@ -114,5 +119,12 @@ any_settled t l d m can = by_known (known_decided t m)
     by_known (inr never) = inr (E1, never)
 
 -- After a message the same holds.
-pub next_can_encode : (t : Tree) (l : Limits) (d : Dictionary) (m : MessageData) (w : List ℕ) (d' : Dictionary) → CanEncode t l d → SuitsTemplate t m → FitsLimits l m.slots → EncodesMessage t l d m w d' → CanEncode t l d'
-next_can_encode t l d m w d' can suits fits h = record { granted = can.granted; distinct_ids = can.distinct_ids; short_ids = can.short_ids; small = can.small; sound = next_is_sound t l d m can w d' suits fits h }
+pub next_can_encode : (t : Tree) (l : Limits) (d : Dictionary) (m : MessageData) (w : List ℕ) (d' : Dictionary) → CanEncode t l d
+    → SuitsTemplate t m → FitsLimits l m.slots → EncodesMessage t l d m w d' → CanEncode t l d'
+next_can_encode t l d m w d' can suits fits h = record {
+  granted = can.granted;
+  distinct_ids = can.distinct_ids;
+  short_ids = can.short_ids;
+  small = can.small;
+  sound = next_is_sound t l d m can w d' suits fits h;
+}

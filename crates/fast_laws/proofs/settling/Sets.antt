@@ -31,17 +31,21 @@ written_short : (xs : Items) (ts : List DeclaredTemplate) → WritesTemplates xs
 written_short xs [] h = All-nil (λ t. IsShort t.id)
 written_short xs (t ∷ ts) (ms, rest, e, w, h) = All-cons (λ t. IsShort t.id) t ts (id_short ms t.id w.id) (written_short rest ts h)
 
-placed_short : (all : List DeclaredTemplate) (entries : List Entry) (k : ℕ) (ts : List DeclaredTemplate) (n : ℕ) (us : List TemplateData) (m : ℕ) → AreInPlace all entries k ts n us m → All (λ t. IsShort t.id) ts → All (λ u. IsShort u.id) us
+placed_short : (all : List DeclaredTemplate) (entries : List Entry) (k : ℕ) (ts : List DeclaredTemplate) (n : ℕ) (us : List TemplateData)
+    (m : ℕ) → AreInPlace all entries k ts n us m → All (λ t. IsShort t.id) ts → All (λ u. IsShort u.id) us
 placed_short all entries k [] n [] m h short = All-nil (λ u. IsShort u.id)
 placed_short all entries k [] n (u ∷ us) m h short = absurd h
 placed_short all entries k (t ∷ ts) n [] m h short = absurd h
 placed_short all entries k (t ∷ ts) n (u ∷ us) m (mid, _, id, _, _, rest) short =
-    All-cons (λ u. IsShort u.id) u us (subst IsShort (sym id) (All-head (λ t. IsShort t.id) t ts short)) (placed_short all entries (suc k) ts mid us m rest (All-tail (λ t. IsShort t.id) t ts short))
+    All-cons (λ u. IsShort u.id) u us (subst IsShort (sym id) (All-head (λ t. IsShort t.id) t ts short))
+    (placed_short all entries (suc k) ts mid us m rest (All-tail (λ t. IsShort t.id) t ts short))
 
 short_ids : (document : Members) (t : Tree) → IsTree document t → HasShortIds t
-short_ids document t h = let (xs, _, written, _, _) = h.shape in placed_short h.written h.entries 0 h.written 0 t.templates h.nodes h.in_place (written_short xs h.written written)
+short_ids document t h = let (xs, _, written, _, _) = h.shape in
+    placed_short h.written h.entries 0 h.written 0 t.templates h.nodes h.in_place (written_short xs h.written written)
 
-pub new_can_encode : (document : Members) (t : Templates) (l : Limits) → IsTree document (tree_of t) → l.max_text ≤ 1048576 → ¬ (HasLongInitial l.max_text (nodes_of t)) → CanEncode (tree_of t) l (fresh (tree_of t).entries)
+pub new_can_encode : (document : Members) (t : Templates) (l : Limits) → IsTree document (tree_of t) → l.max_text ≤ 1048576
+    → ¬ (HasLongInitial l.max_text (nodes_of t)) → CanEncode (tree_of t) l (fresh (tree_of t).entries)
 new_can_encode document t l tree small short = record {
   granted = set_is_granted document t l tree short;
   distinct_ids = distinct_ids t;

@@ -36,9 +36,18 @@ one_template (suc i) u e = absurd (cc e)
 
 can_encode : CanEncode copied_set wide (fresh 2)
 can_encode = record {
-  granted = All-cons (λ (u : TemplateData). GrantsBody wide u.body) only [] (record { suited = refl; initial = tt; constant = λ e. absurd (cc e); default = λ e. absurd (cc e) }, tt) (All-nil (λ (u : TemplateData). GrantsBody wide u.body));
+  granted = All-cons (λ (u : TemplateData). GrantsBody wide u.body) only [] (
+    record {
+      suited = refl;
+      initial = tt;
+      constant = λ e. absurd (cc e);
+      default = λ e. absurd (cc e);
+    },
+    tt,
+  ) (All-nil (λ (u : TemplateData). GrantsBody wide u.body));
   distinct_ids = λ i j id a b at_i at_j _ _. (one_template i a at_i).0 ∙ sym (one_template j b at_j).0;
-  short_ids = All-cons (λ (u : TemplateData). IfSome u.id (λ id. id < 2 ^ 32)) only [] (omega arith) (All-nil (λ (u : TemplateData). IfSome u.id (λ id. id < 2 ^ 32)));
+  short_ids = All-cons (λ (u : TemplateData). IfSome u.id (λ id. id < 2 ^ 32)) only [] (omega arith)
+      (All-nil (λ (u : TemplateData). IfSome u.id (λ id. id < 2 ^ 32)));
   small = omega arith;
   sound = sound_fresh wide 2;
 }
@@ -59,7 +68,8 @@ module _ (v : List ℕ) (short : length v ≤ 64) (ascii : All (λ c. c < 128) v
 
   slot_goes : (d : Dictionary) (x : Option ItemData) (rest : Slots) → present (one (AsciiText v)) no_slots ≡ with_slot x rest → RefusesScalar copied d x E3 → ⊥
   slot_goes d None rest e h = absurd (cc e)
-  slot_goes d (Some x) rest e h = let same : one (AsciiText v) ≡ x = cc e in field_goes d (subst (λ (z : ItemData). RefusesScalar copied d (Some z) E3) (sym same) h)
+  slot_goes d (Some x) rest e h = let same : one (AsciiText v) ≡ x = cc e in
+      field_goes d (subst (λ (z : ItemData). RefusesScalar copied d (Some z) E3) (sym same) h)
 
   body_goes : (d : Dictionary) → RefusesBody wide only.body d (text_message v).slots E3 → ⊥
   unfolding RefusesBody
@@ -78,7 +88,9 @@ module _ (v : List ℕ) (short : length v ≤ 64) (ascii : All (λ c. c < 128) v
   pub text_is_encoded : HasEncoding copied_set wide (fresh 2) (text_message v)
   text_is_encoded = by (some_encoding copied_set wide (fresh 2) (text_message v) can_encode known suits fits)
     where
-      by : HasEncoding copied_set wide (fresh 2) (text_message v) ⊎ (IsRefused copied_set wide (fresh 2) (text_message v) E3 ⊎ IsRefused copied_set wide (fresh 2) (text_message v) R9) → HasEncoding copied_set wide (fresh 2) (text_message v)
+      by : HasEncoding copied_set wide (fresh 2) (text_message v)
+          ⊎ (IsRefused copied_set wide (fresh 2) (text_message v) E3 ⊎ IsRefused copied_set wide (fresh 2) (text_message v) R9)
+          → HasEncoding copied_set wide (fresh 2) (text_message v)
       by (inl h) = h
       by (inr (inl h)) = absurd (message_goes h.3)
       by (inr (inr h)) = absurd (message_none copied_set wide (fresh 2) (text_message v) suits (none, tt) h.3)

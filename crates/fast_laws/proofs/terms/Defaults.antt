@@ -4,7 +4,8 @@ use Rattle.std.specs.Prelude.{pos, Some}
 use Rattle.std.proofs.lemmas.Int.{ints}
 use Rattle.fast_value.specs.declared.settings.Limits.{Limits}
 use Rattle.fast_value.specs.meaning.Kinds.{Dec, IsOfKind}
-use Rattle.fast_value.specs.meaning.Messages.{ItemData, one, group as group_item, sequence as sequence_item, Slots, no_slots, present, Elements, no_elements, element, count, item_total, total, rows_total}
+use Rattle.fast_value.specs.meaning.Messages.{ItemData, one, group as group_item, sequence as sequence_item, Slots, no_slots, present}
+use Rattle.fast_value.specs.meaning.Messages.{Elements, no_elements, element, count, item_total, total, rows_total}
 use Rattle.fast_tree.specs.meaning.Tree.{FieldData, Instruction, field, parts, group, sequence, Body, end, step}
 use Rattle.fast_dict.specs.meaning.Dictionary.{undefined}
 use Rattle.fast_dict.specs.meaning.Operators.{start_value}

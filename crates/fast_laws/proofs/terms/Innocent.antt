@@ -1,5 +1,6 @@
 -- No field is at fault for a limit on elements.
-use Rattle.std.specs.Prelude.{◌≡◌, ℕ, ◌-◌, ◌&&◌, Bool, true, false, if◌then◌else◌, nat_abs, nat_le, int_le, length, take, drop, ◌+ℤ◌, List, Option, Some, None, Result, Ok, Err, ℤ, pos, negsuc}
+use Rattle.std.specs.Prelude.{◌≡◌, ℕ, ◌-◌, ◌&&◌, Bool, true, false, if◌then◌else◌, nat_abs, nat_le, int_le, length, take, drop, ◌+ℤ◌, List}
+use Rattle.std.specs.Prelude.{Option, Some, None, Result, Ok, Err, ℤ, pos, negsuc}
 use Rattle.std.proofs.Common.{refl}
 use Rattle.std.specs.Str.{is_utf8}
 use Rattle.fast_wire.specs.meaning.Integers.{Range, signed_range, exponent_range, delta_range}
@@ -7,16 +8,22 @@ use Rattle.fast_value.specs.declared.codes.Code.{Code}
 use Rattle.fast_value.specs.declared.codes.Code.TheVariants.{D2, D4, D5, D6, D7, L1, R1, R2}
 use Rattle.fast_value.specs.declared.kinds.Kind.{Kind}
 use Rattle.fast_value.specs.declared.kinds.Kind.TheVariants.{UInt32, Int32, UInt64, Int64, Decimal, Ascii, Unicode, Bytes}
-use Rattle.fast_value.specs.meaning.Kinds.{ScalarData, Dec, Family, integers, decimals, texts, family, same_kind, value_of_text, value_of_integer, integer_of, exponent_of, mantissa_of, text_of}
+use Rattle.fast_value.specs.meaning.Kinds.{ScalarData, Dec, Family, integers, decimals, texts, family, same_kind, value_of_text}
+use Rattle.fast_value.specs.meaning.Kinds.{value_of_integer, integer_of, exponent_of, mantissa_of, text_of}
 use Rattle.fast_value.specs.meaning.Limits.{Bounds}
 use Rattle.fast_tree.specs.declared.operators.Operator.{Operator}
 use Rattle.fast_tree.specs.declared.operators.Operator.TheVariants.{None as no_operator, Constant, Default, Copy, Increment, Delta, Tail}
 use Rattle.fast_tree.specs.meaning.Tree.{FieldData}
 use Rattle.fast_dict.specs.meaning.Dictionary.{PreviousData, undefined, empty, assigned}
-use Rattle.fast_dict.specs.meaning.Operators.{Sent, nothing, null, value, integer_delta, decimal_delta, text_delta, Kept, append_to, prepend_to, kept_length, keeps, of_kind, checked_text, checked_in, ranged, range_of, from_initial, unsent, next_value, fixed, delta_base, tail_base, kept_of, joined, with_tail, integer_step, exponent_step, mantissa_step, subtraction_step, text_step, sent_plain, sent_kept, sent_tail, sent_delta, decide_by, decide}
+use Rattle.fast_dict.specs.meaning.Operators.{Sent, nothing, null, value, integer_delta, decimal_delta, text_delta, Kept, append_to}
+use Rattle.fast_dict.specs.meaning.Operators.{prepend_to, kept_length, keeps, of_kind, checked_text, checked_in, ranged, range_of}
+use Rattle.fast_dict.specs.meaning.Operators.{from_initial, unsent, next_value, fixed, delta_base, tail_base, kept_of, joined, with_tail}
+use Rattle.fast_dict.specs.meaning.Operators.{integer_step, exponent_step, mantissa_step, subtraction_step, text_step, sent_plain}
+use Rattle.fast_dict.specs.meaning.Operators.{sent_kept, sent_tail, sent_delta, decide_by, decide}
 use Rattle.fast_dict.specs.meaning.Operators
 use Rattle.fast_stream.specs.meaning.Grammar.{Grammar, give, fault, hand, integer, ascii_text, raw, presence_map, narrow, ◌>>=◌, of_result}
-use Rattle.fast_stream.specs.meaning.Fields.{sized, text, sent_text, decimal_from, item_in, integer_change, mantissa_change, decimal_change, part_change, text_change, change_in}
+use Rattle.fast_stream.specs.meaning.Fields.{sized, text, sent_text, decimal_from, item_in, integer_change, mantissa_change, decimal_change}
+use Rattle.fast_stream.specs.meaning.Fields.{part_change, text_change, change_in}
 use Rattle.fast_stream.specs.meaning.Messages.{map_bits}
 use Rattle.fast_laws.specs.meaning.Raising.{is_count_code}
 
@@ -83,16 +90,20 @@ other_kept base (negsuc k) = other_if (nat_le k (length base)) (prepend_to (drop
 
 other_integer : (f : FieldData) (p : PreviousData) (k : ℤ) → IsOtherResult (integer_step f p k)
 other_integer f p k =
-    other_then (delta_base f p) (λ base. then_result (ranged (range_of f.kind) D2 (integer_of base +ℤ k)) (λ x. keeps f.kind (value_of_integer f.kind x))) (other_base f p)
-    (λ base. other_then (ranged (range_of f.kind) D2 (integer_of base +ℤ k)) (λ x. keeps f.kind (value_of_integer f.kind x)) (other_ranged (range_of f.kind) D2 (integer_of base +ℤ k) refl) (λ x. tt))
+    other_then (delta_base f p) (λ base. then_result (ranged (range_of f.kind) D2 (integer_of base +ℤ k))
+    (λ x. keeps f.kind (value_of_integer f.kind x))) (other_base f p)
+    (λ base. other_then (ranged (range_of f.kind) D2 (integer_of base +ℤ k)) (λ x. keeps f.kind (value_of_integer f.kind x))
+    (other_ranged (range_of f.kind) D2 (integer_of base +ℤ k) refl) (λ x. tt))
 
 other_exponent : (f : FieldData) (p : PreviousData) (k : ℤ) → IsOtherResult (exponent_step f p k)
-other_exponent f p k = other_then (delta_base f p) (λ base. ranged exponent_range R1 (exponent_of base +ℤ k)) (other_base f p) (λ base. other_ranged exponent_range R1 (exponent_of base +ℤ k) refl)
+other_exponent f p k = other_then (delta_base f p) (λ base. ranged exponent_range R1 (exponent_of base +ℤ k)) (other_base f p)
+    (λ base. other_ranged exponent_range R1 (exponent_of base +ℤ k) refl)
 
 other_mantissa : (f : FieldData) (p : PreviousData) (e j : ℤ) → IsOtherResult (mantissa_step f p e j)
 other_mantissa f p e j =
     other_then (delta_base f p) (λ base. then_result (ranged (signed_range 63) R1 (mantissa_of base +ℤ j)) (λ m. keeps f.kind (Dec e m))) (other_base f p)
-    (λ base. other_then (ranged (signed_range 63) R1 (mantissa_of base +ℤ j)) (λ m. keeps f.kind (Dec e m)) (other_ranged (signed_range 63) R1 (mantissa_of base +ℤ j) refl) (λ m. tt))
+    (λ base. other_then (ranged (signed_range 63) R1 (mantissa_of base +ℤ j)) (λ m. keeps f.kind (Dec e m))
+    (other_ranged (signed_range 63) R1 (mantissa_of base +ℤ j) refl) (λ m. tt))
 
 other_subtraction : (f : FieldData) (p : PreviousData) (k : ℤ) → IsOtherResult (subtraction_step f p k)
 other_subtraction f p k = other_then (delta_base f p) (λ base. kept_of (text_of base) k) (other_base f p) (λ base. other_kept (text_of base) k)
@@ -106,7 +117,10 @@ other_checked decimals kind v = tt
 other_checked texts kind v = other_text kind (text_of v)
 
 other_plain : (f : FieldData) (p : PreviousData) (x : Sent) → IsOtherResult (sent_plain f p x)
-other_plain f p (value v) = other_then (checked_in (family f.kind) f.kind v) (λ w. Ok (record { value = Some w; next = p })) (other_checked (family f.kind) f.kind v) (λ w. tt)
+other_plain f p (value v) = other_then (checked_in (family f.kind) f.kind v) (λ w. Ok (record {
+  value = Some w;
+  next = p;
+})) (other_checked (family f.kind) f.kind v) (λ w. tt)
 other_plain f p nothing = tt
 other_plain f p null = tt
 other_plain f p (integer_delta k) = tt
@@ -124,7 +138,8 @@ other_sent_kept f (text_delta k part) = tt
 other_tail : (f : FieldData) (p : PreviousData) (x : Sent) → IsOtherResult (sent_tail f p x)
 other_tail f p (value v) =
     other_then (tail_base f p) (λ base. then_result (checked_text f.kind (with_tail (text_of base) (text_of v))) (keeps f.kind)) (other_tail_base f p)
-    (λ base. other_then (checked_text f.kind (with_tail (text_of base) (text_of v))) (keeps f.kind) (other_text f.kind (with_tail (text_of base) (text_of v))) (λ w. tt))
+    (λ base. other_then (checked_text f.kind (with_tail (text_of base) (text_of v))) (keeps f.kind)
+    (other_text f.kind (with_tail (text_of base) (text_of v))) (λ w. tt))
 other_tail f p nothing = tt
 other_tail f p null = tt
 other_tail f p (integer_delta k) = tt
@@ -134,7 +149,8 @@ other_tail f p (text_delta k part) = tt
 other_delta : (f : FieldData) (p : PreviousData) (x : Sent) → IsOtherResult (sent_delta f p x)
 other_delta f p (integer_delta k) = other_integer f p k
 other_delta f p (decimal_delta k j) = other_then (exponent_step f p k) (λ e. mantissa_step f p e j) (other_exponent f p k) (λ e. other_mantissa f p e j)
-other_delta f p (text_delta k part) = other_then (subtraction_step f p k) (λ kept. text_step f kept part) (other_subtraction f p k) (λ kept. other_text_step f kept part)
+other_delta f p (text_delta k part) = other_then (subtraction_step f p k) (λ kept. text_step f kept part) (other_subtraction f p k)
+    (λ kept. other_text_step f kept part)
 other_delta f p nothing = tt
 other_delta f p null = tt
 other_delta f p (value v) = tt
@@ -183,7 +199,9 @@ innocent_result (Err c) h = h
 
 innocent_sized : (room : ℕ) (n : Option ℤ) → IsInnocent (sized room n)
 innocent_sized room None = tt
-innocent_sized room (Some n) = innocent_bind (of_result (if nat_le (nat_abs n) room then Ok (nat_abs n) else Err L1)) (λ size. raw size (λ v. give (Some v))) (innocent_result (if nat_le (nat_abs n) room then Ok (nat_abs n) else Err L1) (other_if (nat_le (nat_abs n) room) (nat_abs n) L1 refl)) (λ size v. tt)
+innocent_sized room (Some n) = innocent_bind (of_result (if nat_le (nat_abs n) room then Ok (nat_abs n) else Err L1))
+    (λ size. raw size (λ v. give (Some v))) (innocent_result (if nat_le (nat_abs n) room then Ok (nat_abs n) else Err L1)
+    (other_if (nat_le (nat_abs n) room) (nat_abs n) L1 refl)) (λ size v. tt)
 
 innocent_text : (kind : Kind) (nullable : Bool) (room : ℕ) → IsInnocent (text kind nullable room)
 innocent_text Ascii nullable room = λ x. tt
@@ -202,7 +220,8 @@ innocent_decimal (Some e) = (refl, λ m. tt)
 pub innocent_item : (k : Family) (l : Bounds) (f : FieldData) → IsInnocent (item_in k l f)
 innocent_item (integers range) l f = (refl, λ x. tt)
 innocent_item decimals l f = (refl, innocent_decimal)
-innocent_item texts l f = innocent_bind (text f.kind f.optional l.max_text) (λ v. give (sent_text f.kind v)) (innocent_text f.kind f.optional l.max_text) (λ v. tt)
+innocent_item texts l f = innocent_bind (text f.kind f.optional l.max_text) (λ v. give (sent_text f.kind v))
+    (innocent_text f.kind f.optional l.max_text) (λ v. tt)
 
 innocent_integer_change : (f : FieldData) (p : PreviousData) (k : Option ℤ) → IsInnocent (integer_change f p k)
 innocent_integer_change f p None = tt
@@ -214,7 +233,9 @@ innocent_mantissa_change f p e (Some j) = innocent_result (mantissa_step f p e j
 
 innocent_decimal_change : (f : FieldData) (p : PreviousData) (k : Option ℤ) → IsInnocent (decimal_change f p k)
 innocent_decimal_change f p None = tt
-innocent_decimal_change f p (Some k) = innocent_bind (of_result (exponent_step f p k)) (λ e. integer delta_range false D2 (mantissa_change f p e)) (innocent_result (exponent_step f p k) (other_exponent f p k)) (λ e. (refl, innocent_mantissa_change f p e))
+innocent_decimal_change f p (Some k) = innocent_bind (of_result (exponent_step f p k))
+    (λ e. integer delta_range false D2 (mantissa_change f p e)) (innocent_result (exponent_step f p k) (other_exponent f p k))
+    (λ e. (refl, innocent_mantissa_change f p e))
 
 innocent_part_change : (f : FieldData) (p : PreviousData) (kept : Kept) (part : Option (List ℕ)) → IsInnocent (part_change f p kept part)
 innocent_part_change f p kept None = tt
@@ -222,8 +243,11 @@ innocent_part_change f p kept (Some part) = innocent_result (text_step f kept pa
 
 pub innocent_text_change : (l : Bounds) (f : FieldData) (p : PreviousData) (k : Option ℤ) → IsInnocent (text_change l f p k)
 innocent_text_change l f p None = tt
-innocent_text_change l f p (Some k) = innocent_bind (of_result (subtraction_step f p k)) (λ kept. text f.kind false (l.max_text - kept_length kept) >>= part_change f p kept) (innocent_result (subtraction_step f p k) (other_subtraction f p k))
-    (λ kept. innocent_bind (text f.kind false (l.max_text - kept_length kept)) (part_change f p kept) (innocent_text f.kind false (l.max_text - kept_length kept)) (innocent_part_change f p kept))
+innocent_text_change l f p (Some k) = innocent_bind (of_result (subtraction_step f p k))
+    (λ kept. text f.kind false (l.max_text - kept_length kept) >>= part_change f p kept)
+    (innocent_result (subtraction_step f p k) (other_subtraction f p k))
+    (λ kept. innocent_bind (text f.kind false (l.max_text - kept_length kept)) (part_change f p kept)
+    (innocent_text f.kind false (l.max_text - kept_length kept)) (innocent_part_change f p kept))
 
 pub innocent_change : (k : Family) (l : Bounds) (f : FieldData) (p : PreviousData) → IsInnocent (change_in k l f p)
 innocent_change (integers range) l f p = (refl, innocent_integer_change f p)

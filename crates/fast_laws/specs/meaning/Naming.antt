@@ -9,7 +9,8 @@ use Rattle.fast_tree.specs.declared.instructions.Shape.TheVariants.{Field, Decim
 use Rattle.fast_tree.specs.declared.instructions.Template.{Template}
 use Rattle.fast_template.specs.declared.sets.Templates.{Templates}
 use Rattle.fast_template.specs.meaning.Flat.{nodes_of, templates_of}
-use Rattle.fast_stream.specs.meaning.Events.{EventData, MessageStart, FieldValue, GroupStart, GroupEnd, SequenceStart, ElementStart, ElementEnd, SequenceEnd, MessageEnd}
+use Rattle.fast_stream.specs.meaning.Events.{EventData, MessageStart, FieldValue, GroupStart, GroupEnd, SequenceStart, ElementStart}
+use Rattle.fast_stream.specs.meaning.Events.{ElementEnd, SequenceEnd, MessageEnd}
 
 -- A value of the field's kind within the limits: in its range, a text no longer than `max_text`, ASCII below 128, Unicode in UTF-8. Of a
 -- decimal by parts the exponent is one of -63 to 63, and the mantissa has 64 bits.

@@ -2,7 +2,8 @@
 use Rattle.std.specs.Prelude.{◌≡◌, ◌≢◌, ℕ, ◌<◌, ◌^◌, if◌then◌else◌, List, [], ◌++◌, codes, decimal}
 use Rattle.std.specs.Str.{bytes_eq}
 use Rattle.fast_tree.specs.meaning.Tree.{Tree}
-use Rattle.fast_stream.specs.meaning.Events.{EventData, MessageStart, FieldValue, GroupStart, GroupEnd, SequenceStart, ElementStart, ElementEnd, SequenceEnd, MessageEnd}
+use Rattle.fast_stream.specs.meaning.Events.{EventData, MessageStart, FieldValue, GroupStart, GroupEnd, SequenceStart, ElementStart}
+use Rattle.fast_stream.specs.meaning.Events.{ElementEnd, SequenceEnd, MessageEnd}
 use Rattle.fast_lines.specs.declared.forms.Keyword.{Keyword}
 use Rattle.fast_lines.specs.declared.forms.Keyword.TheVariants as Key
 use Rattle.fast_lines.specs.declared.forms.Line.{Line}
@@ -95,7 +96,8 @@ abbrev pub IsNoForm : Keyword → List ℕ → Type 0
 IsNoForm Key.Message text = (name : List ℕ) → IsWord name → text ≢ name
 IsNoForm Key.Field text = (n : ℕ) (name value : List ℕ) → n < 2 ^ 32 → IsWord name → text ≢ (decimal n ++ codes " " ++ name) ++ codes " " ++ value
 IsNoForm Key.Group text = (n : ℕ) (name : List ℕ) → n < 2 ^ 32 → IsWord name → text ≢ decimal n ++ codes " " ++ name
-IsNoForm Key.Sequence text = (n : ℕ) (name : List ℕ) (count : ℕ) → n < 2 ^ 32 → IsWord name → count < 2 ^ 32 → text ≢ (decimal n ++ codes " " ++ name) ++ codes " " ++ decimal count
+IsNoForm Key.Sequence text = (n : ℕ) (name : List ℕ) (count : ℕ) → n < 2 ^ 32 → IsWord name → count < 2 ^ 32
+    → text ≢ (decimal n ++ codes " " ++ name) ++ codes " " ++ decimal count
 IsNoForm Key.End text = (text ≢ codes "group") × (text ≢ codes "element") × (text ≢ codes "sequence") × (text ≢ codes "message")
 IsNoForm Key.Other text = Unit {0}
 

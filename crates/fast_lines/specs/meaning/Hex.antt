@@ -27,5 +27,6 @@ IsOddHex ds v = (front : List ℕ) × (last n : ℕ) × (ds ≡ front ++ last �
 abbrev pub Unhexed : List ℕ → List ℕ → Option ℕ → Type 0
 Unhexed t v None = All IsHexOrBlank t × IsHex (digits_in t) v
 Unhexed t v (Some place) =
-    ((front rest : List ℕ) × (c : ℕ) × (t ≡ front ++ c ∷ rest) × All IsHexOrBlank front × ¬ (IsHexOrBlank c) × ArePairs (digits_in front) v × (place ≡ length front))
+    ((front rest : List ℕ) × (c : ℕ) × (t ≡ front ++ c ∷ rest) × All IsHexOrBlank front × ¬ (IsHexOrBlank c) × ArePairs (digits_in front) v
+    × (place ≡ length front))
     ⊎ All IsHexOrBlank t × IsOddHex (digits_in t) v × (place ≡ length t)

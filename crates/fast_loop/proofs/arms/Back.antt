@@ -42,11 +42,20 @@ further from mid to n k is behind = behind ∙ ap (drop k) is ∙ drop-drop k n 
 module _ {S : Type 0} (takes stops : S → EventData → S → Type 0) (set : Set) (l : Limits) (m : Machine) (from : Spot) (s : S) where
   -- a step to the machine's own place
   placed_step : (m' : Machine) (to : Spot) (n : ℕ) (result : Result Turn FaultCode) (s' : S) → StandsAt m' from to n
-      → IsStep takes stops set l (placed m from.place) from.rest.now s (record { bytes = n; turn = result }) s' m' → IsStep takes stops set l (placed m from.place) from.rest.now s (record { bytes = n; turn = result }) s' (placed m' to.place)
-  placed_step m' to n result s' h step = subst (λ (c : CursorData). IsStep takes stops set l (placed m from.place) from.rest.now s (record { bytes = n; turn = result }) s' (record m' { cursor = c })) (sym h.at) step
+      → IsStep takes stops set l (placed m from.place) from.rest.now s (record {
+        bytes = n;
+        turn = result;
+      }) s' m' → IsStep takes stops set l (placed m from.place) from.rest.now s (record { bytes = n; turn = result }) s' (placed m' to.place)
+  placed_step m' to n result s' h step = subst (λ (c : CursorData). IsStep takes stops set l (placed m from.place) from.rest.now s (record {
+    bytes = n;
+    turn = result;
+  }) s' (record m' { cursor = c })) (sym h.at) step
 
   pub went_by : (m' : Machine) (to : Spot) (n : ℕ) (turn : Turn) (s' : S) → StandsAt m' from to n → m'.waiting ≡ Field
-      → IsStep takes stops set l (placed m from.place) from.rest.now s (record { bytes = n; turn = Ok turn }) s' m' → WentBy takes stops set l m from s n turn s' m' to
+      → IsStep takes stops set l (placed m from.place) from.rest.now s (record {
+        bytes = n;
+        turn = Ok turn;
+      }) s' m' → WentBy takes stops set l m from s n turn s' m' to
   went_by m' to n turn s' h waits step = record {
     rest = h.rest;
     waits = waits;
@@ -56,18 +65,32 @@ module _ {S : Type 0} (takes stops : S → EventData → S → Type 0) (set : Se
 
   -- It took bytes.
   pub went_took : (m' : Machine) (to : Spot) (n : ℕ) (turn : Turn) (s' : S) → StandsAt m' from to n → m'.waiting ≡ Field → 0 < n → turn ≢ Waits
-      → IsStep takes stops set l (placed m from.place) from.rest.now s (record { bytes = n; turn = Ok turn }) s' m' → HasWent takes stops set l m from s Went.Took s' m' to
+      → IsStep takes stops set l (placed m from.place) from.rest.now s (record {
+        bytes = n;
+        turn = Ok turn;
+      }) s' m' → HasWent takes stops set l m from s Went.Took s' m' to
   went_took m' to n turn s' h waits some on step =
       (n, some, went_by m' to n Handed s' h waits (took_handed takes stops set l (placed m from.place) m' from.rest.now s n turn s' some on step))
 
   -- The sink stopped.
   pub went_stopped : (m' : Machine) (to : Spot) (n : ℕ) (code : FaultCode) (s' : S) → StandsAt m' from to n → code ≡ SinkStopped
-      → IsStep takes stops set l (placed m from.place) from.rest.now s (record { bytes = n; turn = Err code }) s' m' → HasWent takes stops set l m from s Went.Stopped s' m' to
-  went_stopped m' to n code s' h stopped step =
-      (n, h.rest, h.place, subst (λ (c : FaultCode). IsStep takes stops set l (placed m from.place) from.rest.now s (record { bytes = n; turn = Err c }) s' (placed m' to.place)) stopped (placed_step m' to n (Err code) s' h step))
+      → IsStep takes stops set l (placed m from.place) from.rest.now s (record {
+        bytes = n;
+        turn = Err code;
+      }) s' m' → HasWent takes stops set l m from s Went.Stopped s' m' to
+  went_stopped m' to n code s' h stopped step = (
+    n,
+    h.rest,
+    h.place,
+    subst (λ (c : FaultCode). IsStep takes stops set l (placed m from.place) from.rest.now s (record {
+      bytes = n;
+      turn = Err c;
+    }) s' (placed m' to.place)) stopped (placed_step m' to n (Err code) s' h step),
+  )
 
 -- The map of the segment that began, so many bytes.
-pub mapped_step : {S : Type 0} (takes stops : S → EventData → S → Type 0) (set : Set) (l : Limits) (m a : Machine) (rest : List ℕ) (s mid : S) (n width k : ℕ) (c : CursorData) (t : Turns) → a.waiting ≡ Field → 0 < width
+pub mapped_step : {S : Type 0} (takes stops : S → EventData → S → Type 0) (set : Set) (l : Limits) (m a : Machine) (rest : List ℕ)
+    (s mid : S) (n width k : ℕ) (c : CursorData) (t : Turns) → a.waiting ≡ Field → 0 < width
     → IsMapTaken a.cursor.map (drop n rest) c.map (Whole k) → IsFitMap l.strict width c.map → c ≡ record a.cursor { map = c.map } → t.count ≡ a.turns.count + 1
     → IsStep takes stops set l m rest s (record { bytes = n; turn = Ok (opened_turn width) }) mid (awaiting width a)
     → IsStep takes stops set l m rest s (record { bytes = n + k; turn = Ok Silent }) mid (record a { cursor = c; turns = t })
@@ -77,7 +100,10 @@ mapped_step takes stops set l m a rest s mid n (suc w) k c t waits some taken fi
     let width : ℕ = suc w in
     let b' : Machine = record b { cursor = c; turns = t } in
     let can : CanTurn set l b' = map_turns set l b width c t (drop n rest) k refl step.goes_on taken fit same in
-    step_waits takes stops set l m rest s (n + k) (Ok Silent) mid b' (record a { cursor = c; turns = t }) Field (ap (λ (w : Waiting). record a { waiting = w; cursor = c; turns = t }) waits) (λ e. cc e)
+    step_waits takes stops set l m rest s (n + k) (Ok Silent) mid b' (record a {
+      cursor = c;
+      turns = t;
+    }) Field (ap (λ (w : Waiting). record a { waiting = w; cursor = c; turns = t }) waits) (λ e. cc e)
     (step_unit takes stops set l m b rest s mid n (record { bytes = k; turn = Ok Silent }) mid b' step
     (taken_to takes stops set l _ b.cursor.map (drop n rest) k (turning set l b') mid (Ok Silent) mid b' taken.0 taken.1
     (map_read set l b width c t (drop n rest) k refl step.goes_on taken fit same)

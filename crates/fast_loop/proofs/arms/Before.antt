@@ -25,7 +25,8 @@ not_more rest n k inside within = rw (take_rest rest n, length-drop n rest) (ome
 plus_none : (n d w : ℕ) → d ≡ 0 → n ≡ n + d * w
 plus_none n d w e = rw e (omega arith)
 
-pub so_far_none : {S : Type 0} (takes stops : S → EventData → S → Type 0) (set : Set) (l : Limits) (m : Machine) (piece : List ℕ) (s : S) → CanTurn set l m → IsSoFar takes stops set l m piece s piece s m
+pub so_far_none : {S : Type 0} (takes stops : S → EventData → S → Type 0) (set : Set) (l : Limits) (m : Machine) (piece : List ℕ) (s : S)
+    → CanTurn set l m → IsSoFar takes stops set l m piece s piece s m
 so_far_none takes stops set l m piece s can =
     let none : length piece - length piece ≡ 0 = omega arith in
     record {

@@ -30,7 +30,8 @@ use Rattle.fast_machine.specs.declared.machine.Waiting.TheVariants.{Text, Bytes}
 use Rattle.fast_loop.specs.declared.spot.Spot.{Spot}
 use Rattle.fast_machine.specs.declared.turns.Turns.{Turns}
 use Rattle.fast_loop.specs.declared.spot.Went.{Went}
-use Rattle.fast_machine.specs.device.Positions.{placed, Set, body_in, frames_in, unit_then, bit_of, meaning, turning, CanTake, CanTurn, IsReady, IsSupplied, IsAtField, BeginsWithText, GoesOnWithBytes}
+use Rattle.fast_machine.specs.device.Positions.{placed, Set, body_in, frames_in, unit_then, bit_of, meaning, turning, CanTake, CanTurn}
+use Rattle.fast_machine.specs.device.Positions.{IsReady, IsSupplied, IsAtField, BeginsWithText, GoesOnWithBytes}
 use Rattle.fast_loop.specs.device.Arms.{IsAtSpot, HasWent}
 use Rattle.fast_machine.specs.device.Gathered.{IsKeptAs}
 use Rattle.fast_loop.specs.device.Begun.{IsKeptFrom}
@@ -42,16 +43,26 @@ use Rattle.fast_machine.proofs.steps.FieldTurns.{state_of, ready_at, supplied_li
 use Rattle.fast_machine.proofs.steps.TurnCounts.{one_turn}
 use Rattle.fast_machine.proofs.units.Waitings.{waits_at}
 
-module _ {S : Type 0} (takes stops : S → EventData → S → Type 0) (set : Set) (l : Limits) (m : Machine) (later : NameLaterNodes set.nodes) (can : CanTurn set l m) (n : ℕ) (f : FieldData) (at : IsAtField set m.cursor n f) (sent : IsSent f (bit_of f (state_of m)))
-    (t : Scratch) (turns : Turns) (room : t.capacity ≡ m.text.capacity) (counts : turns.count ≡ m.turns.count + 1) (rest : List ℕ) (some : 0 < length rest) (s : S) where
+module _ {S : Type 0} (takes stops : S → EventData → S → Type 0) (set : Set) (l : Limits) (m : Machine) (later : NameLaterNodes set.nodes)
+    (can : CanTurn set l m) (n : ℕ) (f : FieldData) (at : IsAtField set m.cursor n f) (sent : IsSent f (bit_of f (state_of m)))
+    (t : Scratch) (turns : Turns) (room : t.capacity ≡ m.text.capacity) (counts : turns.count ≡ m.turns.count + 1) (rest : List ℕ)
+    (some : 0 < length rest) (s : S) where
   -- the machine, which waits for more of this unit
   abbrev waiting_for : Waiting → Machine
   waiting_for w = record m { waiting = w; text = t; turns = turns }
 
   supplied : {w : Waiting} → IsSupplied set l (waiting_for w)
-  supplied {w} = supplied_like set l m (waiting_for w) can.supplied (record { terms = refl; text = room; joined = refl; identifier = refl; rests = refl; latest = refl }) can.supplied.counted
+  supplied {w} = supplied_like set l m (waiting_for w) can.supplied (record {
+    terms = refl;
+    text = room;
+    joined = refl;
+    identifier = refl;
+    rests = refl;
+    latest = refl;
+  }) can.supplied.counted
 
-  by_turns : (w : Waiting) → IsReady set l (waiting_for w) → TurnsTo (turning set l m) rest (meaning set l (waiting_for w)) → Waits (meaning set l (waiting_for w))
+  by_turns : (w : Waiting) → IsReady set l (waiting_for w) → TurnsTo (turning set l m) rest (meaning set l (waiting_for w))
+      → Waits (meaning set l (waiting_for w))
       → ((way : Way) (k : ℕ) → HasTurns way set l 0 k m → HasTurnsBehind (Ok TurnWaits) way set l k (waiting_for w))
       → IsStep takes stops set l m rest s (record { bytes = length rest; turn = Ok TurnWaits }) s (waiting_for w)
   by_turns w ready taken waits counted =
@@ -61,11 +72,13 @@ module _ {S : Type 0} (takes stops : S → EventData → S → Type 0) (set : Se
       (turn_waits takes stops set l (meaning set l (waiting_for w)) s (waiting_for w) refl waits ready) counted
 
   -- It goes on with a later unit, in front of which the others are whole.
-  pub begun_step : (stage : Stage) (from : ℕ) → HasBegun l.strict (bounds l) f (previous_at f.entry (slots_dictionary m.slots)) rest stage from → t.text ≡ drop from rest
+  pub begun_step : (stage : Stage) (from : ℕ) → HasBegun l.strict (bounds l) f
+      (previous_at f.entry (slots_dictionary m.slots)) rest stage from → t.text ≡ drop from rest
       → IsStep takes stops set l m rest s (record { bytes = length rest; turn = Ok TurnWaits }) s (waiting_for (Bytes stage))
   begun_step stage from h is =
       let b : Machine = waiting_for (Bytes stage) in
-      let from_stage : Reader Dictionary = reader_of l.strict (unit_then (bounds l) (frames_in set m.cursor.frames) (body_in set m.cursor.left) (state_of m) stage) in
+      let from_stage : Reader Dictionary = reader_of l.strict
+      (unit_then (bounds l) (frames_in set m.cursor.frames) (body_in set m.cursor.left) (state_of m) stage) in
       let can_take : CanTake (Bytes stage) set l b = (
         can.placed,
         can.mapped,
@@ -76,7 +89,8 @@ module _ {S : Type 0} (takes stops : S → EventData → S → Type 0) (set : Se
       let ready : IsReady set l b = ready_at set l b (Bytes stage) supplied refl can_take in
       let stays : Stays from_stage t.text = waits_at set l b later ready (Bytes stage) (λ e. cc e) can_take in
       let first : TurnsTo (turning set l m) (take from rest) from_stage =
-      turns_as (field_here set l m f n sent at) (stage_here set l m f n stage at) (turns_on (λ o. reader_of l.strict (behind_field set (bounds l) m f n o)) h.turns) in
+      turns_as (field_here set l m f n sent at) (stage_here set l m f n stage at)
+      (turns_on (λ o. reader_of l.strict (behind_field set (bounds l) m f n o)) h.turns) in
       by_turns (Bytes stage) ready
       (subst (λ (w : List ℕ). TurnsTo (turning set l m) w (after_bytes from_stage t.text)) (ap (λ w. take from rest ++ w) is ∙ take-append-drop from rest)
       (turns_run first (record { quiet = stays.quiet; becomes = refl })))
@@ -84,25 +98,37 @@ module _ {S : Type 0} (takes stops : S → EventData → S → Type 0) (set : Se
       (λ way k c. one_turn way set l k m.turns.count turns.count m.counted m.cursor counts c)
 
   -- It goes on with its only unit, an ASCII text.
-  pub ascii_step : IsAsciiFirst f → ascii_text f.optional l.max_text rest [] cut → t.text ≡ rest → IsStep takes stops set l m rest s (record { bytes = length rest; turn = Ok TurnWaits }) s (waiting_for Text)
+  pub ascii_step : IsAsciiFirst f → ascii_text f.optional l.max_text rest [] cut → t.text ≡ rest → IsStep takes stops set l m rest s (record {
+    bytes = length rest;
+    turn = Ok TurnWaits;
+  }) s (waiting_for Text)
   ascii_step first front is =
       let b : Machine = waiting_for Text in
       let can_take : CanTake Text set l b = (
         can.placed,
         can.mapped,
         can.unused,
-        subst (λ (x : Body). BeginsWithText l x (state_of m) t.text) (sym at.3) (sent, first, subst (λ (w : List ℕ). ascii_text f.optional l.max_text w [] cut) (sym is) front),
+        subst (λ (x : Body). BeginsWithText l x (state_of m) t.text) (sym at.3)
+            (sent, first, subst (λ (w : List ℕ). ascii_text f.optional l.max_text w [] cut) (sym is) front),
       ) in
       let ready : IsReady set l b = ready_at set l b Text supplied refl can_take in
       let stays : Stays (turning set l m) t.text = waits_at set l b later ready Text (λ e. cc e) can_take in
-      by_turns Text ready (subst (λ (w : List ℕ). TurnsTo (turning set l m) w (after_bytes (turning set l m) t.text)) is (record { quiet = stays.quiet; becomes = refl }))
+      by_turns Text ready (subst (λ (w : List ℕ). TurnsTo (turning set l m) w (after_bytes (turning set l m) t.text)) is (record {
+        quiet = stays.quiet;
+        becomes = refl;
+      }))
       stays.waits
       (λ way k c. one_turn way set l k m.turns.count turns.count m.counted m.cursor counts c)
 
-module _ {S : Type 0} (takes stops : S → EventData → S → Type 0) (set : Set) (l : Limits) (m m' : Machine) (from to : Spot) (went : Went) (s : S) (waits : went ≡ Went.Waits) (place : to.place ≡ from.place) (end : to.rest.now ≡ drop (length from.rest.now) from.rest.now)
-    (spot : IsAtSpot set l m from.place) (later : NameLaterNodes set.nodes) (n : ℕ) (f : FieldData) (at : IsAtField set (at_place m.cursor from.place) n f) (sent : IsSent f (bit_of f (state_of (placed m from.place)))) where
+module _ {S : Type 0} (takes stops : S → EventData → S → Type 0) (set : Set) (l : Limits) (m m' : Machine) (from to : Spot) (went : Went)
+    (s : S) (waits : went ≡ Went.Waits) (place : to.place ≡ from.place) (end : to.rest.now ≡ drop (length from.rest.now) from.rest.now)
+    (spot : IsAtSpot set l m from.place) (later : NameLaterNodes set.nodes) (n : ℕ) (f : FieldData)
+    (at : IsAtField set (at_place m.cursor from.place) n f) (sent : IsSent f (bit_of f (state_of (placed m from.place)))) where
   went_to : (w : Waiting) (t : Scratch) (turns : Turns) → m' ≡ record m { waiting = w; text = t; turns = turns }
-      → IsStep takes stops set l (placed m from.place) from.rest.now s (record { bytes = length from.rest.now; turn = Ok TurnWaits }) s (placed (record m { waiting = w; text = t; turns = turns }) from.place)
+      → IsStep takes stops set l (placed m from.place) from.rest.now s (record {
+        bytes = length from.rest.now;
+        turn = Ok TurnWaits;
+      }) s (placed (record m { waiting = w; text = t; turns = turns }) from.place)
       → HasWent takes stops set l m from s went s m' to
   went_to w t turns same step =
       let b : Machine = record m { waiting = w; text = t; turns = turns } in
@@ -111,26 +137,34 @@ module _ {S : Type 0} (takes stops : S → EventData → S → Type 0) (set : Se
         length from.rest.now,
         end,
         subst (λ (p : Place). IsPlaceOf m.cursor p) (sym place) spot.place,
-        subst (λ (p : Place). IsStep takes stops set l (placed m from.place) from.rest.now s (record { bytes = length from.rest.now; turn = Ok TurnWaits }) s (placed b p)) (sym place) step,
+        subst (λ (p : Place). IsStep takes stops set l (placed m from.place) from.rest.now s (record {
+          bytes = length from.rest.now;
+          turn = Ok TurnWaits;
+        }) s (placed b p)) (sym place) step,
       ))
 
   -- The arm has kept the bytes of a text that has begun.
-  pub begun_went : (r : BegunText) → IsKeptFrom m m' from.rest.now r → HasBegun l.strict (bounds l) f (previous_at f.entry (slots_dictionary m.slots)) from.rest.now r.stage r.from
+  pub begun_went : (r : BegunText) → IsKeptFrom m m' from.rest.now r
+      → HasBegun l.strict (bounds l) f (previous_at f.entry (slots_dictionary m.slots)) from.rest.now r.stage r.from
       → HasWent takes stops set l m from s went s m' to
   begun_went r kept h =
       let some = h.some in
       let within = h.within in
       went_to (Bytes r.stage) m'.text m'.turns kept.same
-      (begun_step takes stops set l (placed m from.place) later spot.can n f at sent m'.text m'.turns kept.room kept.turn from.rest.now (omega (arith, some, within)) s r.stage r.from h kept.text)
+      (begun_step takes stops set l (placed m from.place) later spot.can n f at sent m'.text m'.turns kept.room kept.turn from.rest.now
+      (omega (arith, some, within)) s r.stage r.from h kept.text)
 
   -- The arm has kept an ASCII text.
-  pub ascii_went : IsAsciiFirst f → IsKeptAs Text m m' from.rest.now → 0 < length from.rest.now → ((nullable : Bool) → ascii_text nullable l.max_text from.rest.now [] cut) → HasWent takes stops set l m from s went s m' to
+  pub ascii_went : IsAsciiFirst f → IsKeptAs Text m m' from.rest.now → 0 < length from.rest.now
+      → ((nullable : Bool) → ascii_text nullable l.max_text from.rest.now [] cut) → HasWent takes stops set l m from s went s m' to
   ascii_went first kept some front =
       went_to Text m'.text m'.turns kept.same
-      (ascii_step takes stops set l (placed m from.place) later spot.can n f at sent m'.text m'.turns kept.room kept.turn from.rest.now some s first (front f.optional) kept.text)
+      (ascii_step takes stops set l (placed m from.place) later spot.can n f at sent m'.text m'.turns kept.room kept.turn from.rest.now
+      some s first (front f.optional) kept.text)
 
 -- The arm has kept the rest, or has done nothing.
-pub kept_or_not : {S : Type 0} (takes stops : S → EventData → S → Type 0) (set : Set) (l : Limits) (m m' : Machine) (from to : Spot) (went : Went) (s : S) (kept : Bool) → (kept ≡ true → HasWent takes stops set l m from s went s m' to)
+pub kept_or_not : {S : Type 0} (takes stops : S → EventData → S → Type 0) (set : Set) (l : Limits) (m m' : Machine) (from to : Spot)
+    (went : Went) (s : S) (kept : Bool) → (kept ≡ true → HasWent takes stops set l m from s went s m' to)
     → (kept ≡ false → (went ≡ Went.Declined) × (to ≡ from)) → (kept ≡ false → m' ≡ m) → HasWent takes stops set l m from s went s m' to
 kept_or_not takes stops set l m m' from to went s true done not same = done refl
 kept_or_not takes stops set l m m' from to went s false done not same =

@@ -55,7 +55,9 @@ unneeded Tail optional varies uses = refl
 pub op_node : (t : Templates) (m : Machine) (p : Place) (op : Op) → IsAtOp (set_of t) p op → (x : Node) × (slice_get t.nodes.items op.node ≡ Some x)
 op_node t m p op at = node_here t (at_place m.cursor p) op.node at.1 at.0
 
-module _ (t : Templates) (l : Limits) (m : Machine) (p : Place) (op : Op) (kind : Kind) (operator : Operator) (optional : Bool) (spot : IsAtSpot (set_of t) l m p) (at : IsAtOp (set_of t) p op) (coded : IsFieldOp (set_of t) op kind operator optional) (x : Node) (found : slice_get t.nodes.items op.node ≡ Some x) where
+module _ (t : Templates) (l : Limits) (m : Machine) (p : Place) (op : Op) (kind : Kind) (operator : Operator) (optional : Bool)
+    (spot : IsAtSpot (set_of t) l m p) (at : IsAtOp (set_of t) p op) (coded : IsFieldOp (set_of t) op kind operator optional) (x : Node)
+    (found : slice_get t.nodes.items op.node ≡ Some x) where
   -- the field
   abbrev pub instruction : FieldInstruction
   instruction = (coded x found).0
@@ -73,7 +75,8 @@ module _ (t : Templates) (l : Limits) (m : Machine) (p : Place) (op : Op) (kind 
   at_field = field_head t (at_place m.cursor p) op.node x at.1 found instruction shape_is
 
   pub served : Serves (length (slots_dictionary m.slots)) (slots_terms m.slots) field_of
-  served = serves_here (set_of t) l (placed m p) field_of spot.can.supplied (served_node (set_of t) l (placed m p) op.node x (Shape.Field instruction) spot.can.supplied found shape_is)
+  served = serves_here (set_of t) l (placed m p) field_of spot.can.supplied
+      (served_node (set_of t) l (placed m p) op.node x (Shape.Field instruction) spot.can.supplied found shape_is)
 
   pub entry_there : IsEntryFor m.slots operator op.entry
   entry_there keeps = served.within op.entry (as_coded.entry keeps)
@@ -82,21 +85,29 @@ module _ (t : Templates) (l : Limits) (m : Machine) (p : Place) (op : Op) (kind 
   uses_as = ap (λ o. operator_uses_bit o field_of.optional) as_coded.operator ∙ ap (operator_uses_bit operator) as_coded.optional
 
   -- It stands in the stream.
-  pub is_sent : operator ≢ Constant → (operator_uses_bit operator optional ≡ false) ⊎ (first_bit (bits_left (at_place m.cursor p)) ≡ true) → IsSent field_of (bit_of field_of (state_of (placed m p)))
-  is_sent varies stands = sent_by_bit field_of (state_of (placed m p)) (operator_uses_bit operator optional) (subst (λ o. o ≢ Constant) (sym as_coded.operator) varies) uses_as stands
+  pub is_sent : operator ≢ Constant → (operator_uses_bit operator optional ≡ false) ⊎ (first_bit (bits_left (at_place m.cursor p)) ≡ true)
+      → IsSent field_of (bit_of field_of (state_of (placed m p)))
+  is_sent varies stands = sent_by_bit field_of (state_of (placed m p)) (operator_uses_bit operator optional)
+      (subst (λ o. o ≢ Constant) (sym as_coded.operator) varies) uses_as stands
 
   -- Its bit is clear.
-  pub bit_clear : operator_uses_bit operator optional ≡ true → first_bit (bits_left (at_place m.cursor p)) ≡ false → false ≡ bit_of field_of (state_of (placed m p))
+  pub bit_clear : operator_uses_bit operator optional ≡ true → first_bit (bits_left (at_place m.cursor p)) ≡ false
+      → false ≡ bit_of field_of (state_of (placed m p))
   bit_clear uses clear = sym (ap (λ b. if b then first_bit (bits_left (at_place m.cursor p)) else true) (uses_as ∙ uses) ∙ clear)
 
 -- A number that stands whole in the piece.
-pub item_taken : (t : Templates) (l : Limits) (m : Machine) (from : Spot) (op : Op) (kind : Kind) (operator : Operator) (optional : Bool) (spot : IsAtSpot (set_of t) l m from.place) (at : IsAtOp (set_of t) from.place op) (coded : IsFieldOp (set_of t) op kind operator optional) (x : Node) (found : slice_get t.nodes.items op.node ≡ Some x)
-    (slots : Slots) (r : TakenItem) → operator ≢ Constant → (operator_uses_bit operator optional ≡ false) ⊎ (first_bit (bits_left (at_place m.cursor from.place)) ≡ true) → slots_terms slots ≡ slots_terms m.slots
+pub item_taken : (t : Templates) (l : Limits) (m : Machine) (from : Spot) (op : Op) (kind : Kind) (operator : Operator) (optional : Bool)
+    (spot : IsAtSpot (set_of t) l m from.place) (at : IsAtOp (set_of t) from.place op)
+    (coded : IsFieldOp (set_of t) op kind operator optional) (x : Node) (found : slice_get t.nodes.items op.node ≡ Some x)
+    (slots : Slots) (r : TakenItem) → operator ≢ Constant → (operator_uses_bit operator optional ≡ false)
+    ⊎ (first_bit (bits_left (at_place m.cursor from.place)) ≡ true) → slots_terms slots ≡ slots_terms m.slots
     → IsSentItem kind optional operator op.entry l.strict from.rest.now m.slots slots r
-    → IsFieldTaken (set_of t) l m (record m { slots = slots }) from op.node (field_of t l m from.place op kind operator optional spot at coded x found) (option_map number_data r.item) r.bytes
+    → IsFieldTaken (set_of t) l m (record m { slots = slots }) from op.node
+    (field_of t l m from.place op kind operator optional spot at coded x found) (option_map number_data r.item) r.bytes
 item_taken t l m from op kind operator optional spot at coded x found slots r varies stands terms h =
     let f = field_of t l m from.place op kind operator optional spot at coded x found in
-    let (some, within, gives) = h f (bounds l) [] (as_coded t l m from.place op kind operator optional spot at coded x found) (served t l m from.place op kind operator optional spot at coded x found) in
+    let (some, within, gives) = h f (bounds l) [] (as_coded t l m from.place op kind operator optional spot at coded x found)
+    (served t l m from.place op kind operator optional spot at coded x found) in
     record {
       spot = spot;
       kept = refl;
@@ -114,10 +125,17 @@ item_taken t l m from op kind operator optional spot at coded x found slots r va
     }
 
 -- A number of which nothing is sent, or none, by what is decided for this field.
-pub decided_unsent : (t : Templates) (l : Limits) (m : Machine) (p : Place) (op : Op) (kind : Kind) (operator : Operator) (optional : Bool) (spot : IsAtSpot (set_of t) l m p) (at : IsAtOp (set_of t) p op) (coded : IsFieldOp (set_of t) op kind operator optional) (x : Node) (found : slice_get t.nodes.items op.node ≡ Some x)
-    (slots : Slots) (item : Option Number) → operator_uses_bit operator optional ≡ true → needs_bytes operator false ≡ false → first_bit (bits_left (at_place m.cursor p)) ≡ false → slots_terms slots ≡ slots_terms m.slots
-    → IsDecided (decide (field_of t l m p op kind operator optional spot at coded x found) (previous_at (field_of t l m p op kind operator optional spot at coded x found).entry (slots_dictionary m.slots)) false nothing) (field_of t l m p op kind operator optional spot at coded x found) (slots_dictionary m.slots) (slots_dictionary slots) (Ok (source_of item))
-    → IsFieldUnsent (set_of t) l m (record m { slots = slots }) p op.node (field_of t l m p op kind operator optional spot at coded x found) false (option_map number_data item)
+pub decided_unsent : (t : Templates) (l : Limits) (m : Machine) (p : Place) (op : Op) (kind : Kind) (operator : Operator) (optional : Bool)
+    (spot : IsAtSpot (set_of t) l m p) (at : IsAtOp (set_of t) p op) (coded : IsFieldOp (set_of t) op kind operator optional) (x : Node)
+    (found : slice_get t.nodes.items op.node ≡ Some x)
+    (slots : Slots) (item : Option Number) → operator_uses_bit operator optional ≡ true → needs_bytes operator false ≡ false
+    → first_bit (bits_left (at_place m.cursor p)) ≡ false → slots_terms slots ≡ slots_terms m.slots
+    → IsDecided (decide (field_of t l m p op kind operator optional spot at coded x found)
+    (previous_at (field_of t l m p op kind operator optional spot at coded x found).entry (slots_dictionary m.slots)) false nothing)
+    (field_of t l m p op kind operator optional spot at coded x found) (slots_dictionary m.slots) (slots_dictionary slots)
+    (Ok (source_of item))
+    → IsFieldUnsent (set_of t) l m (record m { slots = slots }) p op.node
+    (field_of t l m p op kind operator optional spot at coded x found) false (option_map number_data item)
 decided_unsent t l m p op kind operator optional spot at coded x found slots item uses unneeded clear terms (outcome, decided, settled) =
     let f = field_of t l m p op kind operator optional spot at coded x found in
     let same = as_coded t l m p op kind operator optional spot at coded x found in
@@ -135,9 +153,15 @@ decided_unsent t l m p op kind operator optional spot at coded x found slots ite
     }
 
 -- The same by what is decided for each field that is so.
-pub item_unsent : (t : Templates) (l : Limits) (m : Machine) (p : Place) (op : Op) (kind : Kind) (operator : Operator) (optional : Bool) (spot : IsAtSpot (set_of t) l m p) (at : IsAtOp (set_of t) p op) (coded : IsFieldOp (set_of t) op kind operator optional) (x : Node) (found : slice_get t.nodes.items op.node ≡ Some x)
-    (slots : Slots) (item : Option Number) → operator_uses_bit operator optional ≡ true → needs_bytes operator false ≡ false → first_bit (bits_left (at_place m.cursor p)) ≡ false → slots_terms slots ≡ slots_terms m.slots
+pub item_unsent : (t : Templates) (l : Limits) (m : Machine) (p : Place) (op : Op) (kind : Kind) (operator : Operator) (optional : Bool)
+    (spot : IsAtSpot (set_of t) l m p) (at : IsAtOp (set_of t) p op) (coded : IsFieldOp (set_of t) op kind operator optional) (x : Node)
+    (found : slice_get t.nodes.items op.node ≡ Some x)
+    (slots : Slots) (item : Option Number) → operator_uses_bit operator optional ≡ true → needs_bytes operator false ≡ false
+    → first_bit (bits_left (at_place m.cursor p)) ≡ false → slots_terms slots ≡ slots_terms m.slots
     → IsUnsentItem kind optional operator op.entry m.slots slots item
-    → IsFieldUnsent (set_of t) l m (record m { slots = slots }) p op.node (field_of t l m p op kind operator optional spot at coded x found) false (option_map number_data item)
+    → IsFieldUnsent (set_of t) l m (record m { slots = slots }) p op.node
+    (field_of t l m p op kind operator optional spot at coded x found) false (option_map number_data item)
 item_unsent t l m p op kind operator optional spot at coded x found slots item uses unneeded clear terms h =
-    decided_unsent t l m p op kind operator optional spot at coded x found slots item uses unneeded clear terms (h (field_of t l m p op kind operator optional spot at coded x found) (as_coded t l m p op kind operator optional spot at coded x found) (served t l m p op kind operator optional spot at coded x found))
+    decided_unsent t l m p op kind operator optional spot at coded x found slots item uses unneeded clear terms
+    (h (field_of t l m p op kind operator optional spot at coded x found)
+    (as_coded t l m p op kind operator optional spot at coded x found) (served t l m p op kind operator optional spot at coded x found))

@@ -42,33 +42,42 @@ group_here t c p op node v may body ns optional at coded same there shape items 
     let (inside, is) = coded v (subst (λ i. slice_get t.nodes.items i ≡ Some v) same there) in
     let both : Group optional inside ≡ Group may body = sym is ∙ shape in
     let here : may ≡ optional = sym (cc both) in
-    subst (λ b. IsAtGroup (set_of t) (at_place c p) node b ns) here (group_head t (at_place c p) node v (at.1 ∙ ap Some (sym same)) there may body ns shape items)
+    subst (λ b. IsAtGroup (set_of t) (at_place c p) node b ns) here
+    (group_head t (at_place c p) node v (at.1 ∙ ap Some (sym same)) there may body ns shape items)
 
 -- A group that has no bit is there.
-pub group_always : (set : Set) (l : Limits) (m : Machine) (from : Spot) (node : ℕ) (body : List ℕ) → IsAtGroup set (at_place m.cursor from.place) node false body → IsGroupHere set l m from from node body
+pub group_always : (set : Set) (l : Limits) (m : Machine) (from : Spot) (node : ℕ) (body : List ℕ)
+    → IsAtGroup set (at_place m.cursor from.place) node false body → IsGroupHere set l m from from node body
 group_always set l m from node body next = record {
   rest = refl;
   left = refl;
-  begins = begun_from set l (placed m from.place) (placed m from.place) node body (group_there set l (placed m from.place) (placed m from.place) node body next refl);
+  begins = begun_from set l (placed m from.place) (placed m from.place) node body
+      (group_there set l (placed m from.place) (placed m from.place) node body next refl);
 }
 
 -- A group whose bit is set is there.
-pub group_by_bit : (set : Set) (l : Limits) (m : Machine) (from to : Spot) (node : ℕ) (body : List ℕ) → to.rest.now ≡ from.rest.now → place_left to.place ≡ place_left from.place
+pub group_by_bit : (set : Set) (l : Limits) (m : Machine) (from to : Spot) (node : ℕ) (body : List ℕ) → to.rest.now ≡ from.rest.now
+    → place_left to.place ≡ place_left from.place
     → bits_left (at_place m.cursor to.place) ≡ later_bits (bits_left (at_place m.cursor from.place))
     → at_place m.cursor to.place ≡ record (at_place m.cursor from.place) { used = (at_place m.cursor to.place).used }
-    → IsAtGroup set (at_place m.cursor from.place) node true body → first_bit (bits_left (at_place m.cursor from.place)) ≡ true → IsGroupHere set l m from to node body
+    → IsAtGroup set (at_place m.cursor from.place) node true body → first_bit (bits_left (at_place m.cursor from.place)) ≡ true
+    → IsGroupHere set l m from to node body
 group_by_bit set l m from to node body rest left later same next first = record {
   rest = rest;
   left = left;
-  begins = begun_from set l (placed m from.place) (placed m to.place) node body (group_present set l (placed m from.place) (placed m to.place) (at_place m.cursor to.place) node body next first same later refl);
+  begins = begun_from set l (placed m from.place) (placed m to.place) node body
+      (group_present set l (placed m from.place) (placed m to.place) (at_place m.cursor to.place) node body next first same later refl);
 }
 
-module _ {S : Type 0} (takes stops : S → EventData → S → Type 0) (set : Set) (l : Limits) (m : Machine) (from : Spot) (t : Turns) (counts : t.count ≡ m.turns.count + 1) (node : ℕ) (body : List ℕ) where
+module _ {S : Type 0} (takes stops : S → EventData → S → Type 0) (set : Set) (l : Limits) (m : Machine) (from : Spot) (t : Turns)
+    (counts : t.count ≡ m.turns.count + 1) (node : ℕ) (body : List ℕ) where
   -- A group that is there: a turn with its event is a step.
-  pub entered_step : (to : Spot) (h : IsGroupHere set l m from to node body) (c : CursorData) → c ≡ at_place m.cursor to.place → (optional : Bool) → IsAtGroup set (at_place m.cursor to.place) node optional body
+  pub entered_step : (to : Spot) (h : IsGroupHere set l m from to node body) (c : CursorData) → c ≡ at_place m.cursor to.place
+      → (optional : Bool) → IsAtGroup set (at_place m.cursor to.place) node optional body
       → (s : S) (result : Result Turn FaultCode) (s' : S) (m' : Machine) → result ≢ Ok Silent
       → IsTurn takes stops set l (reader_of l.strict (group_from set (bounds l) node body (slots_dictionary m.slots) m.counted c)) s result s' m'
-      → ((way : Way) (k : ℕ) (may : Bool) → IsAtGroup set c node may body → IsWithinTurns way set l 1 k t.count m.counted c → HasTurnsBehind result way set l k m')
+      → ((way : Way) (k : ℕ) (may : Bool) → IsAtGroup set c node may body → IsWithinTurns way set l 1 k t.count m.counted c
+      → HasTurnsBehind result way set l k m')
       → IsStep takes stops set l (placed m from.place) from.rest.now s (record { bytes = 0; turn = result }) s' m'
   entered_step to h c is optional next s result s' m' on turn turns =
       turn_step takes stops set l (placed m from.place) from.rest.now s result s' m'
@@ -78,12 +87,17 @@ module _ {S : Type 0} (takes stops : S → EventData → S → Type 0) (set : Se
       (λ way k w.
       let one = one_turn way set l k m.turns.count t.count m.counted (at_place m.cursor from.place) counts w in
       let here : IsWithinTurns way set l 1 k t.count m.counted (at_place m.cursor to.place) =
-      subst (λ (ns : List ℕ). IsWithinTurns way set l 1 k t.count m.counted (record m.cursor { left = ns; used = (at_place m.cursor to.place).used })) (sym h.left)
+      subst (λ (ns : List ℕ). IsWithinTurns way set l 1 k t.count m.counted (record m.cursor {
+        left = ns;
+        used = (at_place m.cursor to.place).used;
+      })) (sym h.left)
       (record { each = one.each; body = one.body; frames = one.frames; most = one.most; all = one.all }) in
-      turns way k optional (subst (λ (x : CursorData). IsAtGroup set x node optional body) (sym is) next) (subst (IsWithinTurns way set l 1 k t.count m.counted) (sym is) here))
+      turns way k optional (subst (λ (x : CursorData). IsAtGroup set x node optional body) (sym is) next)
+      (subst (IsWithinTurns way set l 1 k t.count m.counted) (sym is) here))
 
   -- An absent group: a turn past it is a step.
-  pub absent_group : (p : Place) → CanTurn set l (placed m from.place) → IsAtGroup set (at_place m.cursor from.place) node true body → first_bit (bits_left (at_place m.cursor from.place)) ≡ false
+  pub absent_group : (p : Place) → CanTurn set l (placed m from.place) → IsAtGroup set (at_place m.cursor from.place) node true body
+      → first_bit (bits_left (at_place m.cursor from.place)) ≡ false
       → at_place m.cursor p ≡ record (at_place m.cursor from.place) { left = drop 1 (at_place m.cursor from.place).left; used = (at_place m.cursor p).used }
       → bits_left (at_place m.cursor p) ≡ later_bits (bits_left (at_place m.cursor from.place)) → (s : S)
       → IsStep takes stops set l (placed m from.place) from.rest.now s (record { bytes = 0; turn = Ok Silent }) s (placed (record m { turns = t }) p)
@@ -92,7 +106,14 @@ module _ {S : Type 0} (takes stops : S → EventData → S → Type 0) (set : Se
       let counting : Machine = record before { turns = t } in
       let mid : CursorData = record before.cursor { used = (at_place m.cursor p).used } in
       let ready : CanTurn set l counting = record {
-        supplied = supplied_like set l before counting can.supplied (record { terms = refl; text = refl; joined = refl; identifier = refl; rests = refl; latest = refl }) can.supplied.counted;
+        supplied = supplied_like set l before counting can.supplied (record {
+          terms = refl;
+          text = refl;
+          joined = refl;
+          identifier = refl;
+          rests = refl;
+          latest = refl;
+        }) can.supplied.counted;
         placed = can.placed;
         mapped = can.mapped;
         unused = can.unused;
@@ -100,5 +121,7 @@ module _ {S : Type 0} (takes stops : S → EventData → S → Type 0) (set : Se
       turn_step takes stops set l before from.rest.now s (Ok Silent) s (placed (record m { turns = t }) p)
       (group_absent takes stops set l counting mid (at_place m.cursor p) node body s ready next first refl later past)
       (λ e. (next.2, ap (λ (x : CursorData). x.left) past))
-      (λ way k w. passed way set l k t.count t.count m.counted m.counted before.cursor (at_place m.cursor p) (group next.0 true (body_in set body)) next.3 refl refl
-      (ap (λ (x : CursorData). x.left) past) (ap (λ (x : CursorData). x.frames) past) (one_turn way set l k m.turns.count t.count m.counted before.cursor counts w))
+      (λ way k w. passed way set l k t.count t.count m.counted m.counted before.cursor (at_place m.cursor p)
+      (group next.0 true (body_in set body)) next.3 refl refl
+      (ap (λ (x : CursorData). x.left) past) (ap (λ (x : CursorData). x.frames) past)
+      (one_turn way set l k m.turns.count t.count m.counted before.cursor counts w))

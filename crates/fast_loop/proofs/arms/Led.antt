@@ -39,7 +39,8 @@ past_left : (c c' : CursorData) (result : Result Turn FaultCode) → OnOk result
 past_left c c' (Ok t) past e = ap (λ (x : CursorData). x.left) past.same
 past_left c c' (Err x) past e = absurd (cc e)
 
-module _ {S : Type 0} (takes stops : S → EventData → S → Type 0) (set : Set) (l : Limits) (m m1 : Machine) (t : Turns) (from : Spot) (p q : Place) (node : ℕ) (f : FieldData) (value : Option ScalarData) (n : ℕ)
+module _ {S : Type 0} (takes stops : S → EventData → S → Type 0) (set : Set) (l : Limits) (m m1 : Machine) (t : Turns) (from : Spot)
+    (p q : Place) (node : ℕ) (f : FieldData) (value : Option ScalarData) (n : ℕ)
     (h : IsLedTo set l m m1 from p node f value n) (counts : t.count ≡ m.turns.count + 1) (place : IsPlaceOf m.cursor q) where
   -- the machine before the instruction, with what this keeps, and behind it
   abbrev before : Machine
@@ -56,7 +57,14 @@ module _ {S : Type 0} (takes stops : S → EventData → S → Type 0) (set : Se
 
   can_keep : CanTurn set l keeping
   can_keep = record {
-    supplied = supplied_like set l before keeping h.spot.can.supplied (record { terms = h.terms; text = refl; joined = refl; identifier = refl; rests = refl; latest = refl }) h.spot.can.supplied.counted;
+    supplied = supplied_like set l before keeping h.spot.can.supplied (record {
+      terms = h.terms;
+      text = refl;
+      joined = refl;
+      identifier = refl;
+      rests = refl;
+      latest = refl;
+    }) h.spot.can.supplied.counted;
     placed = h.spot.can.placed;
     mapped = h.spot.can.mapped;
     unused = h.spot.can.unused;
@@ -68,23 +76,31 @@ module _ {S : Type 0} (takes stops : S → EventData → S → Type 0) (set : Se
 
   -- what a turn behind them moves
   abbrev MovesOn : S → Result Turn FaultCode → S → Type 0
-  MovesOn s result s' = (waits : Reader Dictionary) → Moves takes stops read_on s result s' (reader_of l.strict (going_on set (bounds l) (slots_dictionary m1.slots) m.counted (at_place m.cursor q))) waits
+  MovesOn s result s' = (waits : Reader Dictionary) → Moves takes stops read_on s result s'
+      (reader_of l.strict (going_on set (bounds l) (slots_dictionary m1.slots) m.counted (at_place m.cursor q))) waits
 
   known : n ≡ 0 → turning set l before ≡ read_on
   known none = (subst (λ (k : ℕ). TurnsTo (turning set l before) (take k from.rest.now) read_on) none h.turns).becomes
 
-  past_from : (result : Result Turn FaultCode) → OnOk result (IsPast (at_place m.cursor p) (at_place m.cursor q)) → OnOk result (IsPast before.cursor after.cursor)
-  past_from (Ok turn) past = record { same = ap (λ (ns : List ℕ). record after.cursor { left = ns }) (ap (λ (c : CursorData). c.left) past.same ∙ ap (drop 1) h.left) }
+  past_from : (result : Result Turn FaultCode) → OnOk result (IsPast (at_place m.cursor p) (at_place m.cursor q))
+      → OnOk result (IsPast before.cursor after.cursor)
+  past_from (Ok turn) past = record {
+    same = ap (λ (ns : List ℕ). record after.cursor { left = ns })
+        (ap (λ (c : CursorData). c.left) past.same ∙ ap (drop 1) h.left);
+  }
   past_from (Err c) past = tt
 
-  led_step : (s : S) (result : Result Turn FaultCode) (s' : S) → MovesOn s result s' → OnOk result (IsPast (at_place m.cursor p) (at_place m.cursor q)) → result ≢ Ok Waits → (n ≡ 0) ⊎ (0 < n)
+  led_step : (s : S) (result : Result Turn FaultCode) (s' : S) → MovesOn s result s'
+      → OnOk result (IsPast (at_place m.cursor p) (at_place m.cursor q)) → result ≢ Ok Waits → (n ≡ 0) ⊎ (0 < n)
       → IsStep takes stops set l before from.rest.now s (record { bytes = n; turn = result }) s' after
   led_step s result s' moves past on (inl none) =
       subst (λ (k : ℕ). IsStep takes stops set l before from.rest.now s (record { bytes = k; turn = result }) s' after) (sym none)
       (turn_step takes stops set l before from.rest.now s result s' after
-      (turn_moved takes stops set l (turning set l before) read_on s result s' keeping after (known none) (moves (meaning set l after)) can_keep refl refl (past_from result past) on)
+      (turn_moved takes stops set l (turning set l before) read_on s result s' keeping after (known none)
+      (moves (meaning set l after)) can_keep refl refl (past_from result past) on)
       (λ e. (h.some, past_left before.cursor after.cursor result (past_from result past) e))
-      (λ way k c. finished way set l k keeping after h.instruction result h.next refl (past_from result past) on (one_turn way set l k m.turns.count t.count m.counted before.cursor counts c)))
+      (λ way k c. finished way set l k keeping after h.instruction result h.next refl (past_from result past) on
+      (one_turn way set l k m.turns.count t.count m.counted before.cursor counts c)))
   led_step s result s' moves past on (inr some) =
       bytes_step takes stops set l before after from.rest.now s n read_on result s' some h.within h.turns
       (record {
@@ -92,17 +108,25 @@ module _ {S : Type 0} (takes stops : S → EventData → S → Type 0) (set : Se
         supplied = supplied_moved set l keeping after can_keep.supplied refl refl;
         goes_on = goes_on_moved set l keeping after result can_keep refl refl (past_from result past) on;
       })
-      (λ way k c. finished way set l k keeping after h.instruction result h.next refl (past_from result past) on (one_turn way set l k m.turns.count t.count m.counted before.cursor counts c))
+      (λ way k c. finished way set l k keeping after h.instruction result h.next refl (past_from result past) on
+      (one_turn way set l k m.turns.count t.count m.counted before.cursor counts c))
 
-  module _ (to : Spot) (s : S) (turn : Turn) (s' : S) (rest : to.rest.now ≡ drop n from.rest.now) (same : to.place ≡ q) (moves : MovesOn s (Ok turn) s') (past : IsPast (at_place m.cursor p) (at_place m.cursor q)) (on : turn ≢ Waits) where
+  module _ (to : Spot) (s : S) (turn : Turn) (s' : S) (rest : to.rest.now ≡ drop n from.rest.now) (same : to.place ≡ q)
+      (moves : MovesOn s (Ok turn) s') (past : IsPast (at_place m.cursor p) (at_place m.cursor q)) (on : turn ≢ Waits) where
     -- Past it without a byte.
     pub led_went : n ≡ 0 → WentBy takes stops set l m from s 0 turn s' (record m1 { turns = t }) to
     led_went none = subst (λ (x : Machine). WentBy takes stops set l m from s 0 turn s' (record x { turns = t }) to) (sym h.kept) (record {
       rest = rest ∙ ap (λ (k : ℕ). drop k from.rest.now) none;
       waits = h.spot.waits;
       place = subst (λ (x : Place). IsPlaceOf m.cursor x) (sym same) place;
-      step = subst (λ (x : Place). IsStep takes stops set l before from.rest.now s (record { bytes = 0; turn = Ok turn }) s' (placed (record kept { turns = t }) x)) (sym same)
-          (subst (λ (k : ℕ). IsStep takes stops set l before from.rest.now s (record { bytes = k; turn = Ok turn }) s' after) none (led_step s (Ok turn) s' moves past (λ e. on (cc e)) (inl none)));
+      step = subst (λ (x : Place). IsStep takes stops set l before from.rest.now s (record {
+        bytes = 0;
+        turn = Ok turn;
+      }) s' (placed (record kept { turns = t }) x)) (sym same)
+          (subst (λ (k : ℕ). IsStep takes stops set l before from.rest.now s (record {
+            bytes = k;
+            turn = Ok turn;
+          }) s' after) none (led_step s (Ok turn) s' moves past (λ e. on (cc e)) (inl none)));
     })
 
     -- Past it by its bytes.
@@ -114,15 +138,24 @@ module _ {S : Type 0} (takes stops : S → EventData → S → Type 0) (set : Se
         rest = rest;
         waits = h.spot.waits;
         place = subst (λ (x : Place). IsPlaceOf m.cursor x) (sym same) place;
-        step = subst (λ (x : Place). IsStep takes stops set l before from.rest.now s (record { bytes = n; turn = Ok Handed }) s' (placed (record kept { turns = t }) x)) (sym same)
+        step = subst (λ (x : Place). IsStep takes stops set l before from.rest.now s (record {
+          bytes = n;
+          turn = Ok Handed;
+        }) s' (placed (record kept { turns = t }) x)) (sym same)
             (took_handed takes stops set l before after from.rest.now s n turn s' some on (led_step s (Ok turn) s' moves past (λ e. on (cc e)) (inr some)));
       },
     )
 
   -- The sink stopped at its value.
   pub led_stopped : (w : List ℕ) (s s' : S) → w ≡ drop n from.rest.now → MovesOn s (Err SinkStopped) s' → (n ≡ 0) ⊎ (0 < n)
-      → (k : ℕ) × (w ≡ drop k from.rest.now) × IsPlaceOf m1.cursor q × IsStep takes stops set l before from.rest.now s (record { bytes = k; turn = Err SinkStopped }) s' (placed (record m1 { turns = t }) q)
+      → (k : ℕ) × (w ≡ drop k from.rest.now) × IsPlaceOf m1.cursor q × IsStep takes stops set l before from.rest.now s (record {
+        bytes = k;
+        turn = Err SinkStopped;
+      }) s' (placed (record m1 { turns = t }) q)
   led_stopped w s s' rest moves some =
-      subst (λ (x : Machine). (k : ℕ) × (w ≡ drop k from.rest.now) × IsPlaceOf x.cursor q × IsStep takes stops set l before from.rest.now s (record { bytes = k; turn = Err SinkStopped }) s' (placed (record x { turns = t }) q))
+      subst (λ (x : Machine). (k : ℕ) × (w ≡ drop k from.rest.now) × IsPlaceOf x.cursor q × IsStep takes stops set l before from.rest.now s (record {
+        bytes = k;
+        turn = Err SinkStopped;
+      }) s' (placed (record x { turns = t }) q))
       (sym h.kept)
       (n, rest, place, led_step s (Err SinkStopped) s' moves tt (λ e. cc e) some)

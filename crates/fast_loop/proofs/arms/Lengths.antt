@@ -1,6 +1,7 @@
 -- The length of a sequence, and what follows.
 use Rattle.std.proofs.Common.{refl, sym, ap, ◌∙◌, subst, inl}
-use Rattle.std.specs.Prelude.{◌≡◌, ◌≢◌, ℕ, ◌+◌, ◌≤◌, Bool, true, false, List, [], take, drop, slice_get, pos, Option, Some, None, option_map, Result, Ok, Err, if◌then◌else◌, Vec}
+use Rattle.std.specs.Prelude.{◌≡◌, ◌≢◌, ℕ, ◌+◌, ◌≤◌, Bool, true, false, List, [], take, drop, slice_get, pos, Option, Some, None}
+use Rattle.std.specs.Prelude.{option_map, Result, Ok, Err, if◌then◌else◌, Vec}
 use Rattle.std.specs.Global.{Global}
 use Rattle.fast_fronts.specs.declared.fronts.First.TheVariants as First
 use Rattle.fast_fronts.specs.device.Fronts.{IsFirstInt}
@@ -62,7 +63,8 @@ use Rattle.fast_machine.proofs.fields.ScalarNodes.{served_node}
 use Rattle.fast_machine.proofs.fields.SentFields.{field_sent}
 use Rattle.fast_machine.proofs.steps.FieldTurns.{state_of, behind, serves_here, supplied_like, turn_silent}
 use Rattle.fast_machine.proofs.steps.Opened.{opened_not_silent}
-use Rattle.fast_machine.proofs.steps.SegmentTurns.{IsBehind, can_turn_behind, length_from, length_absent, length_within, elements_of, sequence_next, turn_halt, turn_more}
+use Rattle.fast_machine.proofs.steps.SegmentTurns.{IsBehind, can_turn_behind, length_from, length_absent, length_within, elements_of}
+use Rattle.fast_machine.proofs.steps.SegmentTurns.{sequence_next, turn_halt, turn_more}
 use Rattle.fast_machine.proofs.steps.TurnCounts.{claim_within, length_passed, one_turn, passed, turns_taken}
 
 -- a length as an item
@@ -72,18 +74,27 @@ length_item (Some n) = Some (Number.Unsigned n)
 
 -- what is read behind the field of a length
 abbrev pub behind_length : Set → Limits → Machine → ℕ → List ℕ → Found → Grammar Dictionary
-behind_length set l m node body = sequence_from_then (bounds l) node (segment_then (body_in set body) (body_then (bounds l) (body_in set body))) (behind set l m)
+behind_length set l m node body = sequence_from_then (bounds l) node
+    (segment_then (body_in set body) (body_then (bounds l) (body_in set body))) (behind set l m)
 
 -- The length stands at a source that no text changes: its bytes.
-length_turns : (set : Set) (l : Limits) (m : Machine) (node : ℕ) (f : FieldData) (body rest : List ℕ) (x : Option ℕ) (n : ℕ) → IsAtSequence set m.cursor node f body → IsSent f (bit_of f (state_of m))
-    → IsLastUnit (reader_of l.strict (field_term (bounds l) f (previous_at f.entry (slots_dictionary m.slots)) true)) f [] rest (slots_dictionary m.slots) (slots_dictionary m.slots) [] (Whole (source_of (length_item x)) n)
+length_turns : (set : Set) (l : Limits) (m : Machine) (node : ℕ) (f : FieldData) (body rest : List ℕ) (x : Option ℕ) (n : ℕ)
+    → IsAtSequence set m.cursor node f body → IsSent f (bit_of f (state_of m))
+    → IsLastUnit (reader_of l.strict (field_term (bounds l) f (previous_at f.entry (slots_dictionary m.slots)) true)) f [] rest
+    (slots_dictionary m.slots) (slots_dictionary m.slots) [] (Whole (source_of (length_item x)) n)
     → TurnsTo (turning set l m) (take n rest) (length_from set l m node (option_map U x) f body)
 length_turns set l m node f body rest x n next sent (some, within, gives) =
     let k = behind_length set l m node body in
     let st = state_of m in
     let o = gives.outcome in
     turns_as (sequence_next set l m node f body next ∙ field_sent l.strict (bounds l) f st k sent)
-    (sym (ap (λ (r : Found). reader_of l.strict (k r)) (λ i. ((gives.settled.value ∙ stands x) i, record { context = record { dictionary = sym gives.settled.dictionary i; counted = m.counted }; bits = (state_past f (slots_dictionary m.slots) m.counted m.cursor).bits }))))
+    (sym (ap (λ (r : Found). reader_of l.strict (k r)) (λ i. (
+      (gives.settled.value ∙ stands x) i,
+      record {
+        context = record { dictionary = sym gives.settled.dictionary i; counted = m.counted };
+        bits = (state_past f (slots_dictionary m.slots) m.counted m.cursor).bits;
+      },
+    ))))
     (turns_done (λ y. reader_of l.strict (k (found f st y))) gives.turns)
   where
     stands : (x : Option ℕ) → value_at (source_of (length_item x)) f (slots_dictionary m.slots) [] (take n rest) ≡ option_map U x
@@ -91,7 +102,8 @@ length_turns set l m node f body rest x n next sent (some, within, gives) =
     stands (Some y) = refl
 
 -- A length without an operator that is whole in the piece.
-pub length_taken : (set : Set) (l : Limits) (m : Machine) (from : Spot) (node : ℕ) (f : FieldData) (body : List ℕ) (optional : Bool) (x : Option ℕ) (n : ℕ) → IsAtSpot set l m from.place
+pub length_taken : (set : Set) (l : Limits) (m : Machine) (from : Spot) (node : ℕ) (f : FieldData) (body : List ℕ) (optional : Bool)
+    (x : Option ℕ) (n : ℕ) → IsAtSpot set l m from.place
     → IsAtSequence set (at_place m.cursor from.place) node f body → IsFieldAs f UInt32 optional no_operator 0 → Serves set.entries (slots_terms m.slots) f
     → IsFirstInt (λ y. option_map pos y) l.strict (unsigned_up_to 4294967295) optional (First.Whole x n) from.rest.now
     → IsLengthTaken set l m from node f body (option_map U x) n
@@ -100,8 +112,13 @@ length_taken set l m from node f body optional x n spot next so serves first =
     let no_bit : uses_bit f ≡ false = ap (λ o. operator_uses_bit o f.optional) so.operator in
     let varies : f.operator ≢ Constant = subst (λ o. o ≢ Constant) (sym so.operator) (λ e. cc e) in
     let here = serves_here set l before f spot.can.supplied serves in
-    let keeps : KeepsItem UInt32 no_operator 0 m.slots m.slots (length_item x) = λ g may be served. ap (λ e. write_at e (item_held UInt32 (length_item x)) (slots_dictionary m.slots)) (sym (no_entry g served (ap keeps_value be.operator))) in
-    let unit = sent_item UInt32 optional no_operator 0 l.strict from.rest.now m.slots m.slots (option_map pos x) (record { item = length_item x; bytes = n }) refl (λ e. cc e) (λ e. cc e) first (same x) keeps f (bounds l) [] so here in
+    let keeps : KeepsItem UInt32 no_operator 0 m.slots m.slots (length_item x) =
+    λ g may be served. ap (λ e. write_at e (item_held UInt32 (length_item x)) (slots_dictionary m.slots))
+    (sym (no_entry g served (ap keeps_value be.operator))) in
+    let unit = sent_item UInt32 optional no_operator 0 l.strict from.rest.now m.slots m.slots (option_map pos x) (record {
+      item = length_item x;
+      bytes = n;
+    }) refl (λ e. cc e) (λ e. cc e) first (same x) keeps f (bounds l) [] so here in
     record {
       spot = spot;
       at = next;
@@ -116,8 +133,10 @@ length_taken set l m from node f body optional x n spot next so serves first =
     same (Some y) = refl
 
 -- The same of the next instruction's node.
-pub sequence_taken : (t : Templates) (l : Limits) (m : Machine) (from : Spot) (op : Op) (node : ℕ) (v : Node) (length : FieldInstruction) (body : Vec ℕ Global) (ns : List ℕ) (optional : Bool) (x : Option ℕ) (n : ℕ)
-    → IsAtSpot (set_of t) l m from.place → IsAtOp (set_of t) from.place op → ((y : Node) → slice_get t.nodes.items op.node ≡ Some y → IsSequenceCoded optional y.shape)
+pub sequence_taken : (t : Templates) (l : Limits) (m : Machine) (from : Spot) (op : Op) (node : ℕ) (v : Node) (length : FieldInstruction)
+    (body : Vec ℕ Global) (ns : List ℕ) (optional : Bool) (x : Option ℕ) (n : ℕ)
+    → IsAtSpot (set_of t) l m from.place → IsAtOp (set_of t) from.place op
+    → ((y : Node) → slice_get t.nodes.items op.node ≡ Some y → IsSequenceCoded optional y.shape)
     → node ≡ op.node → slice_get t.nodes.items node ≡ Some v → v.shape ≡ Sequence length body → ns ≡ body.items
     → IsFirstInt (λ y. option_map pos y) l.strict (unsigned_up_to 4294967295) optional (First.Whole x n) from.rest.now
     → IsLengthTaken (set_of t) l m from node (field_data length) ns (option_map U x) n
@@ -137,7 +156,8 @@ sequence_taken t l m from op node v x body ns optional y n spot at coded same th
     })
     served.0 first
 
-module _ {S : Type 0} (takes stops : S → EventData → S → Type 0) (set : Set) (l : Limits) (m : Machine) (from : Spot) (node : ℕ) (f : FieldData) (body : List ℕ) (value : Option ScalarData) (n : ℕ) (h : IsLengthTaken set l m from node f body value n)
+module _ {S : Type 0} (takes stops : S → EventData → S → Type 0) (set : Set) (l : Limits) (m : Machine) (from : Spot) (node : ℕ)
+    (f : FieldData) (body : List ℕ) (value : Option ScalarData) (n : ℕ) (h : IsLengthTaken set l m from node f body value n)
     (t : Turns) (counts : t.count ≡ m.turns.count + 1) where
   -- the machine before the sequence, and with the turn counted
   abbrev before : Machine
@@ -148,7 +168,14 @@ module _ {S : Type 0} (takes stops : S → EventData → S → Type 0) (set : Se
 
   can : CanTurn set l counting
   can = record {
-    supplied = supplied_like set l before counting h.spot.can.supplied (record { terms = refl; text = refl; joined = refl; identifier = refl; rests = refl; latest = refl }) h.spot.can.supplied.counted;
+    supplied = supplied_like set l before counting h.spot.can.supplied (record {
+      terms = refl;
+      text = refl;
+      joined = refl;
+      identifier = refl;
+      rests = refl;
+      latest = refl;
+    }) h.spot.can.supplied.counted;
     placed = h.spot.can.placed;
     mapped = h.spot.can.mapped;
     unused = h.spot.can.unused;
@@ -158,11 +185,14 @@ module _ {S : Type 0} (takes stops : S → EventData → S → Type 0) (set : Se
   counted_turn way k c = one_turn way set l k m.turns.count t.count m.counted before.cursor counts c
 
   -- The length's bytes, and a turn behind them.
-  length_step : (s : S) (result : Result Turn FaultCode) (s' : S) (m' : Machine) → IsTurn takes stops set l (length_from set l before node value f body) s result s' m'
+  length_step : (s : S) (result : Result Turn FaultCode) (s' : S) (m' : Machine)
+      → IsTurn takes stops set l (length_from set l before node value f body) s result s' m'
       → ((way : Way) (k : ℕ) → IsWithinTurns way set l 1 k t.count m.counted before.cursor → HasTurnsBehind result way set l k m')
       → IsStep takes stops set l before from.rest.now s (record { bytes = n; turn = result }) s' m'
   length_step s result s' m' turn turns =
-      bytes_step takes stops set l before m' from.rest.now s n (length_from set l before node value f body) result s' h.some h.within h.turns turn (λ way k c. turns way k (counted_turn way k c))
+      bytes_step takes stops set l before m' from.rest.now s n
+      (length_from set l before node value f body) result s' h.some h.within h.turns turn
+      (λ way k c. turns way k (counted_turn way k c))
 
   -- the bits that are left
   same_bits : bits_left before.cursor ≡ (state_past f (slots_dictionary m.slots) m.counted before.cursor).bits
@@ -170,14 +200,20 @@ module _ {S : Type 0} (takes stops : S → EventData → S → Type 0) (set : Se
 
   module _ (c : CursorData) (is : c ≡ record before.cursor { left = drop 1 before.cursor.left }) where
     -- Without a length there is no sequence.
-    pub absent_step : value ≡ None → (s : S) → IsStep takes stops set l before from.rest.now s (record { bytes = n; turn = Ok Silent }) s (record counting { cursor = c })
+    pub absent_step : value ≡ None → (s : S) → IsStep takes stops set l before from.rest.now s (record {
+      bytes = n;
+      turn = Ok Silent;
+    }) s (record counting { cursor = c })
     absent_step none s =
         length_step s (Ok Silent) s (record counting { cursor = c })
         (turn_silent takes stops set l s counting counting c f (length_from set l before node value f body) can same_bits refl is
         (length_absent set l before node value f body (sym (ap (option_map integer_of) none))))
-        (λ way k w. passed way set l k t.count t.count m.counted m.counted before.cursor c (sequence h.at.0 f (body_in set body)) h.at.3 refl refl (ap (λ (x : CursorData). x.left) is) (ap (λ (x : CursorData). x.frames) is) w)
+        (λ way k w. passed way set l k t.count t.count m.counted m.counted before.cursor c
+        (sequence h.at.0 f (body_in set body)) h.at.3 refl refl (ap (λ (x : CursorData). x.left) is)
+        (ap (λ (x : CursorData). x.frames) is) w)
 
-    module _ (claimed count : ℕ) (sent : value ≡ Some (U claimed)) (fits : within_limits (bounds l) m.counted claimed ≡ Ok count) (few : m.counted + count ≤ l.max_total) where
+    module _ (claimed count : ℕ) (sent : value ≡ Some (U claimed)) (fits : within_limits (bounds l) m.counted claimed ≡ Ok count)
+        (few : m.counted + count ≤ l.max_total) where
       -- the machine at the sequence's elements
       abbrev behind_it : Machine
       behind_it = record counting { cursor = c; counted = m.counted + count }
@@ -197,18 +233,26 @@ module _ {S : Type 0} (takes stops : S → EventData → S → Type 0) (set : Se
       begins = length_within set l counting behind_it node value f body (pos claimed) count (sym (ap (option_map integer_of) sent)) (sym fits) is_behind
 
       -- The sink stops at its beginning,
-      pub stopped_step : (s : S) (code : FaultCode) (s' : S) → (code ≡ SinkStopped) × stops s (SequenceStart node count) s' → IsStep takes stops set l before from.rest.now s (record { bytes = n; turn = Err code }) s' behind_it
+      pub stopped_step : (s : S) (code : FaultCode) (s' : S) → (code ≡ SinkStopped) × stops s (SequenceStart node count) s'
+          → IsStep takes stops set l before from.rest.now s (record {
+            bytes = n;
+            turn = Err code;
+          }) s' behind_it
       stopped_step s code s' stopped =
-          length_step s (Err code) s' behind_it (turn_halt takes stops set l (length_from set l before node value f body) (elements_of set l behind_it count body) (SequenceStart node count) s code s' behind_it begins stopped can_behind.supplied)
+          length_step s (Err code) s' behind_it (turn_halt takes stops set l (length_from set l before node value f body)
+          (elements_of set l behind_it count body) (SequenceStart node count) s code s' behind_it begins stopped can_behind.supplied)
           (λ way k w. turns_taken way set l k t.count m.counted before.cursor w)
 
       -- or its elements follow.
-      pub elements_step : (s mid : S) (begun : Result ℕ FaultCode) (s' : S) (m' : Machine) → takes s (SequenceStart node count) mid → IsTurn takes stops set l (elements_of set l behind_it count body) mid (opened_result begun) s' (opened_by begun m')
+      pub elements_step : (s mid : S) (begun : Result ℕ FaultCode) (s' : S) (m' : Machine) → takes s (SequenceStart node count) mid
+          → IsTurn takes stops set l (elements_of set l behind_it count body) mid (opened_result begun) s' (opened_by begun m')
           → ((way : Way) (k : ℕ) → HasTurnsFrom way set l k count body behind_it → HasTurnsBehind (opened_result begun) way set l k (opened_by begun m'))
           → IsStep takes stops set l before from.rest.now s (record { bytes = n; turn = opened_result begun }) s' (opened_by begun m')
       elements_step s mid begun s' m' taken turn turns =
           length_step s (opened_result begun) s' (opened_by begun m')
-          (turn_more takes stops set l (length_from set l before node value f body) (elements_of set l behind_it count body) (SequenceStart node count) s mid (opened_result begun) s' (opened_by begun m') begins taken turn (opened_not_silent begun))
+          (turn_more takes stops set l (length_from set l before node value f body) (elements_of set l behind_it count body)
+          (SequenceStart node count) s mid (opened_result begun) s' (opened_by begun m') begins taken turn (opened_not_silent begun))
           (λ way k w. turns way k
-          (length_passed way set l k t.count t.count m.counted (m.counted + count) before.cursor c h.at.0 f body count h.at.3 refl refl few (claim_within l m.counted claimed count fits)
+          (length_passed way set l k t.count t.count m.counted (m.counted + count) before.cursor c h.at.0 f body count h.at.3 refl refl few
+          (claim_within l m.counted claimed count fits)
           (ap (λ (x : CursorData). x.left) is) (ap (λ (x : CursorData). x.frames) is) w))

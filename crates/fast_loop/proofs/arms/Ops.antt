@@ -5,7 +5,24 @@ use Rattle.std.proofs.lemmas.Option.{slice_get_cases}
 use Rattle.fast_tree.specs.declared.instructions.Node.{Node}
 use Rattle.fast_program.specs.declared.codes.Code.{Code}
 use Rattle.fast_program.specs.declared.ops.Op.{Op}
-use Rattle.fast_program.specs.declared.codes.Code.TheVariants.{General, End, UInt32Plain, UInt32NullablePlain, UInt32Default, UInt32NullableDefault, UInt32Copy, UInt32NullableCopy, UInt32Increment, UInt32NullableIncrement, UInt32Delta, UInt32NullableDelta, Int32Plain, Int32NullablePlain, Int32Default, Int32NullableDefault, Int32Copy, Int32NullableCopy, Int32Increment, Int32NullableIncrement, Int32Delta, Int32NullableDelta, UInt64Plain, UInt64NullablePlain, UInt64Default, UInt64NullableDefault, UInt64Copy, UInt64NullableCopy, UInt64Increment, UInt64NullableIncrement, UInt64Delta, UInt64NullableDelta, Int64Plain, Int64NullablePlain, Int64Default, Int64NullableDefault, Int64Copy, Int64NullableCopy, Int64Increment, Int64NullableIncrement, Int64Delta, Int64NullableDelta, Constant, DecimalPlain, DecimalNullablePlain, DecimalCopy, DecimalNullableCopy, DecimalDelta, DecimalNullableDelta, AsciiPlain, AsciiNullablePlain, AsciiDefault, AsciiNullableDefault, AsciiCopy, AsciiNullableCopy, AsciiTail, AsciiNullableTail, AsciiDelta, AsciiNullableDelta, UnicodePlain, UnicodeNullablePlain, UnicodeDelta, UnicodeNullableDelta, BytesPlain, BytesNullablePlain, BytesTail, BytesNullableTail, Parts, PartsDefault, PartsNullableDefault, PartsCopy, PartsNullableCopy, Group, OptionalGroup, Sequence, OptionalSequence}
+use Rattle.fast_program.specs.declared.codes.Code.TheVariants.{General, End, UInt32Plain, UInt32NullablePlain, UInt32Default}
+use Rattle.fast_program.specs.declared.codes.Code.TheVariants.{UInt32NullableDefault, UInt32Copy, UInt32NullableCopy, UInt32Increment}
+use Rattle.fast_program.specs.declared.codes.Code.TheVariants.{UInt32NullableIncrement, UInt32Delta, UInt32NullableDelta, Int32Plain}
+use Rattle.fast_program.specs.declared.codes.Code.TheVariants.{Int32NullablePlain, Int32Default, Int32NullableDefault, Int32Copy}
+use Rattle.fast_program.specs.declared.codes.Code.TheVariants.{Int32NullableCopy, Int32Increment, Int32NullableIncrement, Int32Delta}
+use Rattle.fast_program.specs.declared.codes.Code.TheVariants.{Int32NullableDelta, UInt64Plain, UInt64NullablePlain, UInt64Default}
+use Rattle.fast_program.specs.declared.codes.Code.TheVariants.{UInt64NullableDefault, UInt64Copy, UInt64NullableCopy, UInt64Increment}
+use Rattle.fast_program.specs.declared.codes.Code.TheVariants.{UInt64NullableIncrement, UInt64Delta, UInt64NullableDelta, Int64Plain}
+use Rattle.fast_program.specs.declared.codes.Code.TheVariants.{Int64NullablePlain, Int64Default, Int64NullableDefault, Int64Copy}
+use Rattle.fast_program.specs.declared.codes.Code.TheVariants.{Int64NullableCopy, Int64Increment, Int64NullableIncrement, Int64Delta}
+use Rattle.fast_program.specs.declared.codes.Code.TheVariants.{Int64NullableDelta, Constant, DecimalPlain, DecimalNullablePlain}
+use Rattle.fast_program.specs.declared.codes.Code.TheVariants.{DecimalCopy, DecimalNullableCopy, DecimalDelta, DecimalNullableDelta}
+use Rattle.fast_program.specs.declared.codes.Code.TheVariants.{AsciiPlain, AsciiNullablePlain, AsciiDefault, AsciiNullableDefault}
+use Rattle.fast_program.specs.declared.codes.Code.TheVariants.{AsciiCopy, AsciiNullableCopy, AsciiTail, AsciiNullableTail, AsciiDelta}
+use Rattle.fast_program.specs.declared.codes.Code.TheVariants.{AsciiNullableDelta, UnicodePlain, UnicodeNullablePlain, UnicodeDelta}
+use Rattle.fast_program.specs.declared.codes.Code.TheVariants.{UnicodeNullableDelta, BytesPlain, BytesNullablePlain, BytesTail}
+use Rattle.fast_program.specs.declared.codes.Code.TheVariants.{BytesNullableTail, Parts, PartsDefault, PartsNullableDefault, PartsCopy}
+use Rattle.fast_program.specs.declared.codes.Code.TheVariants.{PartsNullableCopy, Group, OptionalGroup, Sequence, OptionalSequence}
 use Rattle.fast_tree.specs.declared.instructions.Shape.{Shape}
 use Rattle.fast_tree.specs.declared.operators.Operator.{Operator}
 use Rattle.fast_program.specs.device.Runs.{is_end}
@@ -21,7 +38,8 @@ pub at_code : {A : Type 0} {code : Code} (op : Op) (k : Code) → is_end k ≡ f
 at_code op k goes_on here is told = told (λ e. apart (sym (ap is_end e) ∙ ap is_end (sym here ∙ is) ∙ goes_on))
 
 -- What the code says of the node's shape.
-pub shape_at : {code : Code} (op : Op) (shape : Shape) (k : Code) → is_end k ≡ false → code ≡ op.code → code ≡ k → (op.code ≢ End → IsOpOf op op.node shape) → IsClaimed (says k) op.entry shape
+pub shape_at : {code : Code} (op : Op) (shape : Shape) (k : Code) → is_end k ≡ false → code ≡ op.code → code ≡ k
+    → (op.code ≢ End → IsOpOf op op.node shape) → IsClaimed (says k) op.entry shape
 shape_at op shape k goes_on here is told = claimed op op.node shape k (at_code op k goes_on here is told) (sym here ∙ is)
 
 -- The operators of fields under no delta that are no constants.

@@ -1,6 +1,7 @@
 -- Decimals by parts: the reader of the exponent, then the reader of the mantissa.
 use Rattle.std.proofs.Common.{refl, sym, ap, ◌∙◌, subst, inl, inr, arith}
-use Rattle.std.specs.Prelude.{◌≡◌, ◌⊎◌, ℕ, zero, suc, ◌+◌, ◌-◌, ◌<◌, ◌≤◌, Bool, true, false, List, [], length, take, drop, slice_get, ℤ, Option, Some, None, Ok, option_map, if◌then◌else◌}
+use Rattle.std.specs.Prelude.{◌≡◌, ◌⊎◌, ℕ, zero, suc, ◌+◌, ◌-◌, ◌<◌, ◌≤◌, Bool, true, false, List, [], length, take, drop, slice_get, ℤ}
+use Rattle.std.specs.Prelude.{Option, Some, None, Ok, option_map, if◌then◌else◌}
 use Rattle.std.proofs.lemmas.List.{length-drop, take_rest}
 use Rattle.std.proofs.Math.Seq.{take-add}
 use Rattle.fast_wire.specs.meaning.Integers.{IsWithin, exponent_range}
@@ -54,7 +55,8 @@ use Rattle.fast_machine.proofs.fields.SentFields.{field_sent, field_unsent}
 use Rattle.fast_machine.proofs.steps.FieldTurns.{serves_here, serves_known, can_turn_slots, behind, parts_next}
 
 -- The op's node is a decimal by these parts.
-pub at_decimal : (t : Templates) (l : Limits) (m : Machine) (p : Place) (op : Op) → IsAtSpot (set_of t) l m p → IsAtOp (set_of t) p op → (x : Node) → slice_get t.nodes.items op.node ≡ Some x → (e f : FieldInstruction) → x.shape ≡ Decimal e f
+pub at_decimal : (t : Templates) (l : Limits) (m : Machine) (p : Place) (op : Op) → IsAtSpot (set_of t) l m p → IsAtOp (set_of t) p op
+    → (x : Node) → slice_get t.nodes.items op.node ≡ Some x → (e f : FieldInstruction) → x.shape ≡ Decimal e f
     → IsAtDecimal (set_of t) l m p op.node e f
 at_decimal t l m p op spot at x found e f is =
     let served = served_node (set_of t) l (placed m p) op.node x (Decimal e f) spot.can.supplied found is in
@@ -72,7 +74,8 @@ some_or : (n : ℕ) → (n ≡ 0) ⊎ (0 < n)
 some_or zero = inl refl
 some_or (suc n) = inr (omega arith)
 
-module _ (s : Bool) (l : Bounds) (field : FieldInstruction) (bit : Bool) (rest : List ℕ) (seen old new : Slots) (counted : ℕ) (b : List Bool) (k : Found → Grammar Dictionary) (x : Option ℤ) (n : ℕ) where
+module _ (s : Bool) (l : Bounds) (field : FieldInstruction) (bit : Bool) (rest : List ℕ) (seen old new : Slots) (counted : ℕ)
+    (b : List Bool) (k : Found → Grammar Dictionary) (x : Option ℤ) (n : ℕ) where
   abbrev f : FieldData
   f = field_data field
 
@@ -87,15 +90,26 @@ module _ (s : Bool) (l : Bounds) (field : FieldInstruction) (bit : Bool) (rest :
   Leads = Turns (reader_of s (field_in l f here >>= k)) (take n rest) (reader_of s (k (option_map number_data (part_item x), past)))
 
   module _ (is_bit : bit ≡ bit_of f here) (same : IsAsSeen field seen old) where
-    settled_as : (d : Dictionary) (o : Outcome) (piece : List ℕ) → IsSettled o f (source_of (part_item x)) (slots_dictionary old) d [] piece → d ≡ slots_dictionary new
+    settled_as : (d : Dictionary) (o : Outcome) (piece : List ℕ)
+        → IsSettled o f (source_of (part_item x)) (slots_dictionary old) d [] piece → d ≡ slots_dictionary new
         → k (found f here o) ≡ k (option_map number_data (part_item x), past)
     settled_as d o piece h e =
-        ap k (λ i. ((h.value ∙ item_value (part_item x) f d [] piece) i, record { context = record { dictionary = (sym h.dictionary ∙ e) i; counted = counted }; bits = past.bits }))
+        ap k (λ i. (
+          (h.value ∙ item_value (part_item x) f d [] piece) i,
+          record {
+            context = record { dictionary = (sym h.dictionary ∙ e) i; counted = counted };
+            bits = past.bits;
+          },
+        ))
 
-    leads_by : (needs : Bool) → needs_bytes field.operator bit ≡ needs → IsPartBy needs field bit s rest seen x n → (0 < n → KeepsPart field old new x) → (n ≡ 0 → slots_dictionary old ≡ slots_dictionary new) → Leads
+    leads_by : (needs : Bool) → needs_bytes field.operator bit ≡ needs → IsPartBy needs field bit s rest seen x n
+        → (0 < n → KeepsPart field old new x) → (n ≡ 0 → slots_dictionary old ≡ slots_dictionary new) → Leads
     leads_by true needs (some, within, sent) kept left =
         let (has, inside, gives) = sent old new l [] same (kept some) in
-        let stands : IsSent f (bit_of f here) = record { varies = needs_some f.operator bit needs; as_sent = λ m p. ap (field_term m f p) (sym is_bit) ∙ stands_sent f bit m p needs } in
+        let stands : IsSent f (bit_of f here) = record {
+          varies = needs_some f.operator bit needs;
+          as_sent = λ m p. ap (field_term m f p) (sym is_bit) ∙ stands_sent f bit m p needs;
+        } in
         turns_as (field_sent s l f here k stands) (sym (ap (reader_of s) (settled_as (slots_dictionary new) gives.outcome (take n rest) gives.settled refl)))
         (turns_done (λ o. reader_of s (k (found f here o))) gives.turns)
     leads_by false needs (none, known) kept left =
@@ -114,15 +128,18 @@ module _ (s : Bool) (l : Bounds) (field : FieldInstruction) (bit : Bool) (rest :
     part_leads h kept left = leads_by (needs_bytes field.operator bit) refl h kept left
 
 -- The bytes of a part are within the piece.
-within_by : (needs : Bool) (field : FieldInstruction) (bit s : Bool) (rest : List ℕ) (seen : Slots) (x : Option ℤ) (n : ℕ) → IsPartBy needs field bit s rest seen x n → n ≤ length rest
+within_by : (needs : Bool) (field : FieldInstruction) (bit s : Bool) (rest : List ℕ) (seen : Slots) (x : Option ℤ) (n : ℕ)
+    → IsPartBy needs field bit s rest seen x n → n ≤ length rest
 within_by true field bit s rest seen x n h = h.1
 within_by false field bit s rest seen x n h = let none = h.0 in omega (arith, none)
 
-pub part_within : (field : FieldInstruction) (bit s : Bool) (rest : List ℕ) (seen : Slots) (x : Option ℤ) (n : ℕ) → IsPart field bit s rest seen x n → n ≤ length rest
+pub part_within : (field : FieldInstruction) (bit s : Bool) (rest : List ℕ) (seen : Slots) (x : Option ℤ) (n : ℕ)
+    → IsPart field bit s rest seen x n → n ≤ length rest
 part_within field bit s rest seen x n h = within_by (needs_bytes field.operator bit) field bit s rest seen x n h
 
 -- So are those of both, of which the second stands behind the first.
-pub both_within : (e f : FieldInstruction) (bit set_bit s : Bool) (rest : List ℕ) (seen : Slots) (x y : ℤ) (used n : ℕ) → IsPart e bit s rest seen (Some x) used → IsPart f set_bit s (take (length rest - used) (drop used rest)) seen (Some y) n
+pub both_within : (e f : FieldInstruction) (bit set_bit s : Bool) (rest : List ℕ) (seen : Slots) (x y : ℤ) (used n : ℕ)
+    → IsPart e bit s rest seen (Some x) used → IsPart f set_bit s (take (length rest - used) (drop used rest)) seen (Some y) n
     → used + n ≤ length rest
 both_within e f bit set_bit s rest seen x y used n first second =
     let u = part_within e bit s rest seen (Some x) used first in
@@ -135,9 +152,11 @@ module _ (set : Set) (l : Limits) (m : Machine) (from : Spot) (node : ℕ) (e f 
   before = placed m from.place
 
   -- What serves the machine's slots serves others of the same terms.
-  pub serves_as : (slots : Slots) (field : FieldInstruction) → slots_terms slots ≡ slots_terms m.slots → Serves set.entries (slots_terms m.slots) (field_data field) → ServesField slots field
+  pub serves_as : (slots : Slots) (field : FieldInstruction) → slots_terms slots ≡ slots_terms m.slots
+      → Serves set.entries (slots_terms m.slots) (field_data field) → ServesField slots field
   serves_as slots field terms serves =
-      serves_here set l (record before { slots = slots }) (field_data field) (can_turn_slots set l before slots at.spot.can terms).supplied (serves_known set before slots (field_data field) terms serves)
+      serves_here set l (record before { slots = slots }) (field_data field) (can_turn_slots set l before slots at.spot.can terms).supplied
+      (serves_known set before slots (field_data field) terms serves)
 
   -- The parts are served here.
   pub exponent_serves : ServesField m.slots e
@@ -160,20 +179,28 @@ module _ (set : Set) (l : Limits) (m : Machine) (from : Spot) (node : ℕ) (e f 
   abbrev behind_exponent : Found → Grammar Dictionary
   behind_exponent = mantissa_after_then (bounds l) node mantissa (behind set l before)
 
-  module _ (mid : Slots) (bit : Bool) (is_bit : bit ≡ bit_at_place m.cursor from.place exponent) (terms : slots_terms mid ≡ slots_terms m.slots) (used : ℕ) where
+  module _ (mid : Slots) (bit : Bool) (is_bit : bit ≡ bit_at_place m.cursor from.place exponent)
+      (terms : slots_terms mid ≡ slots_terms m.slots) (used : ℕ) where
     -- the state behind the exponent
     abbrev state_between : State
-    state_between = record { context = record { dictionary = slots_dictionary mid; counted = m.counted }; bits = if uses_bit exponent then later_bits bits else bits }
+    state_between = record {
+      context = record { dictionary = slots_dictionary mid; counted = m.counted };
+      bits = if uses_bit exponent then later_bits bits else bits;
+    }
 
     exponent_leads : (x : Option ℤ) → IsPart e bit l.strict from.rest.now m.slots x used → (0 < used → KeepsPart e m.slots mid x) → (used ≡ 0 → mid ≡ m.slots)
         → Turns (turning set l before) (take used from.rest.now) (reader_of l.strict (behind_exponent (option_map number_data (part_item x), state_between)))
     exponent_leads x part kept left =
         turns_as (parts_next set l before node exponent mantissa at.next) refl
-        (part_leads l.strict (bounds l) e bit from.rest.now m.slots m.slots mid m.counted bits behind_exponent x used is_bit (record { serves = exponent_serves; same = refl }) part kept
+        (part_leads l.strict (bounds l) e bit from.rest.now m.slots m.slots mid m.counted bits behind_exponent x used is_bit (record {
+          serves = exponent_serves;
+          same = refl;
+        }) part kept
         (λ none. sym (ap slots_dictionary (left none))))
 
     -- Without an exponent there is no decimal.
-    pub absent_led : IsPart e bit l.strict from.rest.now m.slots None used → (0 < used → KeepsPart e m.slots mid None) → (used ≡ 0 → mid ≡ m.slots) → IsLedTo set l m (record m { slots = mid }) from from.place node exponent None used
+    pub absent_led : IsPart e bit l.strict from.rest.now m.slots None used → (0 < used → KeepsPart e m.slots mid None)
+        → (used ≡ 0 → mid ≡ m.slots) → IsLedTo set l m (record m { slots = mid }) from from.place node exponent None used
     absent_led part kept left = record {
       spot = at.spot;
       kept = refl;
@@ -194,18 +221,27 @@ module _ (set : Set) (l : Limits) (m : Machine) (from : Spot) (node : ℕ) (e f 
 
       -- the state behind it
       abbrev state_behind : State
-      state_behind = record { context = record { dictionary = slots_dictionary new; counted = m.counted }; bits = if uses_bit mantissa then later_bits state_between.bits else state_between.bits }
+      state_behind = record {
+        context = record { dictionary = slots_dictionary new; counted = m.counted };
+        bits = if uses_bit mantissa then later_bits state_between.bits else state_between.bits;
+      }
 
-      mantissa_leads : set_bit ≡ bit_of mantissa state_between → IsAsSeen f m.slots mid → IsPart f set_bit l.strict (drop used from.rest.now) m.slots (Some y) n → (0 < n → KeepsPart f mid new (Some y)) → (n ≡ 0 → new ≡ mid)
-          → Turns (reader_of l.strict (field_in (bounds l) mantissa state_between >>= behind_mantissa)) (take n (drop used from.rest.now)) (reader_of l.strict (handed_then node (behind set l before) (Some (Dec x y)) state_behind))
+      mantissa_leads : set_bit ≡ bit_of mantissa state_between → IsAsSeen f m.slots mid
+          → IsPart f set_bit l.strict (drop used from.rest.now) m.slots (Some y) n → (0 < n → KeepsPart f mid new (Some y))
+          → (n ≡ 0 → new ≡ mid)
+          → Turns (reader_of l.strict (field_in (bounds l) mantissa state_between >>= behind_mantissa)) (take n (drop used from.rest.now))
+          (reader_of l.strict (handed_then node (behind set l before) (Some (Dec x y)) state_behind))
       mantissa_leads is_set seen part kept left =
-          part_leads l.strict (bounds l) f set_bit (drop used from.rest.now) m.slots mid new m.counted state_between.bits behind_mantissa (Some y) n is_set seen part kept
+          part_leads l.strict (bounds l) f set_bit (drop used from.rest.now) m.slots mid new m.counted state_between.bits behind_mantissa
+          (Some y) n is_set seen part kept
           (λ none. sym (ap slots_dictionary (left none)))
 
       -- An exponent in its range is followed by the mantissa.
-      mantissa_next : IsWithin exponent_range x → reader_of l.strict (behind_exponent (Some (I x), state_between)) ≡ reader_of l.strict (field_in (bounds l) mantissa state_between >>= behind_mantissa)
+      mantissa_next : IsWithin exponent_range x → reader_of l.strict (behind_exponent (Some (I x), state_between)) ≡ reader_of l.strict
+          (field_in (bounds l) mantissa state_between >>= behind_mantissa)
       mantissa_next inside =
-          result_done l.strict (ranged exponent_range R1 x) (λ z. field_in (bounds l) mantissa state_between >>= (λ r. handed_then node (behind set l before) (decimal_with z r.0) r.1)) (ranged_within exponent_range R1 x inside)
+          result_done l.strict (ranged exponent_range R1 x) (λ z. field_in (bounds l) mantissa state_between >>=
+          (λ r. handed_then node (behind set l before) (decimal_with z r.0) r.1)) (ranged_within exponent_range R1 x inside)
 
       module _ (behind_bit : bits_left (at_place m.cursor p) ≡ state_between.bits) (same : place_left p ≡ place_left from.place) where
         -- The mantissa's bit stands behind the exponent's.
@@ -213,16 +249,25 @@ module _ (set : Set) (l : Limits) (m : Machine) (from : Spot) (node : ℕ) (e f 
         bit_behind is = is ∙ ap (λ (b : List Bool). if uses_bit mantissa then first_bit b else true) behind_bit
 
         -- What is to be read behind the decimal.
-        decimal_behind : reader_of l.strict (handed_then node (behind set l before) (Some (Dec x y)) state_behind) ≡ reader_of l.strict (value_then set (bounds l) node (Some (Dec x y)) mantissa (slots_dictionary new) m.counted (at_place m.cursor p))
+        decimal_behind : reader_of l.strict (handed_then node (behind set l before) (Some (Dec x y)) state_behind) ≡ reader_of l.strict
+            (value_then set (bounds l) node (Some (Dec x y)) mantissa (slots_dictionary new) m.counted (at_place m.cursor p))
         decimal_behind =
-            ap (λ (ns : List ℕ). reader_of l.strict (handed_then node (resume (bounds l) (frames_in set m.cursor.frames) (body_in set (drop 1 ns))) (Some (Dec x y)) state_behind)) (sym same)
-            ∙ ap (λ (b : List Bool). reader_of l.strict (handed_then node (resume (bounds l) (frames_in set m.cursor.frames) (body_in set (drop 1 (place_left p)))) (Some (Dec x y))
-            (record { context = record { dictionary = slots_dictionary new; counted = m.counted }; bits = if uses_bit mantissa then later_bits b else b }))) (sym behind_bit)
+            ap (λ (ns : List ℕ). reader_of l.strict (handed_then node
+            (resume (bounds l) (frames_in set m.cursor.frames) (body_in set (drop 1 ns))) (Some (Dec x y)) state_behind)) (sym same)
+            ∙ ap (λ (b : List Bool). reader_of l.strict (handed_then node
+            (resume (bounds l) (frames_in set m.cursor.frames) (body_in set (drop 1 (place_left p)))) (Some (Dec x y))
+            (record {
+              context = record { dictionary = slots_dictionary new; counted = m.counted };
+              bits = if uses_bit mantissa then later_bits b else b;
+            }))) (sym behind_bit)
 
         -- The decimal.
-        pub decimal_led : IsWithin exponent_range x → IsPart e bit l.strict from.rest.now m.slots (Some x) used → (0 < used → KeepsPart e m.slots mid (Some x)) → (used ≡ 0 → mid ≡ m.slots)
-            → set_bit ≡ bit_at_place m.cursor p mantissa → (0 < used → (q : PreviousData) (d : Dictionary) → previous_at mantissa.entry (write_at exponent.entry q d) ≡ previous_at mantissa.entry d)
-            → IsPart f set_bit l.strict (drop used from.rest.now) m.slots (Some y) n → (0 < n → KeepsPart f mid new (Some y)) → (n ≡ 0 → new ≡ mid) → slots_terms new ≡ slots_terms mid → IsPlaceOf m.cursor p
+        pub decimal_led : IsWithin exponent_range x → IsPart e bit l.strict from.rest.now m.slots (Some x) used
+            → (0 < used → KeepsPart e m.slots mid (Some x)) → (used ≡ 0 → mid ≡ m.slots)
+            → set_bit ≡ bit_at_place m.cursor p mantissa → (0 < used → (q : PreviousData) (d : Dictionary)
+            → previous_at mantissa.entry (write_at exponent.entry q d) ≡ previous_at mantissa.entry d)
+            → IsPart f set_bit l.strict (drop used from.rest.now) m.slots (Some y) n → (0 < n → KeepsPart f mid new (Some y))
+            → (n ≡ 0 → new ≡ mid) → slots_terms new ≡ slots_terms mid → IsPlaceOf m.cursor p
             → IsLedTo set l m (record m { slots = new }) from p node mantissa (Some (Dec x y)) (used + n)
         decimal_led inside first kept left is_set own second kept_too left_too terms_too place = record {
           spot = at.spot;
@@ -239,9 +284,14 @@ module _ (set : Set) (l : Limits) (m : Machine) (from : Spot) (node : ℕ) (e f 
               let size = length-drop used from.rest.now in
               omega (arith, u, v, size);
           turns =
-              subst (λ (w : List ℕ). Turns (turning set l before) w (reader_of l.strict (value_then set (bounds l) node (Some (Dec x y)) mantissa (slots_dictionary new) m.counted (at_place m.cursor p)))) (sym (take-add used n from.rest.now))
+              subst (λ (w : List ℕ). Turns (turning set l before) w
+              (reader_of l.strict (value_then set (bounds l) node (Some (Dec x y)) mantissa (slots_dictionary new) m.counted
+              (at_place m.cursor p)))) (sym (take-add used n from.rest.now))
               (turns_run (turns_as refl (sym (mantissa_next inside)) (exponent_leads (Some x) first kept left))
-              (turns_as refl (sym decimal_behind) (mantissa_leads (bit_behind is_set) (record { serves = serves_as mid f terms at.mantissa; same = still (some_or used) }) second kept_too left_too)));
+              (turns_as refl (sym decimal_behind) (mantissa_leads (bit_behind is_set) (record {
+                serves = serves_as mid f terms at.mantissa;
+                same = still (some_or used);
+              }) second kept_too left_too)));
         }
           where
             still : (used ≡ 0) ⊎ (0 < used) → previous_at mantissa.entry (slots_dictionary mid) ≡ previous_at mantissa.entry (slots_dictionary m.slots)
@@ -257,11 +307,13 @@ pub delta_uses : (f : FieldInstruction) → f.operator ≡ Delta → uses_bit (f
 delta_uses f is = ap (λ o. operator_uses_bit o f.optional) is
 
 -- So it always stands in the stream.
-pub delta_part : (f : FieldInstruction) (s : Bool) (rest : List ℕ) (seen : Slots) (x : Option ℤ) (n : ℕ) → f.operator ≡ Delta → IsPartBy true f true s rest seen x n → IsPart f true s rest seen x n
+pub delta_part : (f : FieldInstruction) (s : Bool) (rest : List ℕ) (seen : Slots) (x : Option ℤ) (n : ℕ) → f.operator ≡ Delta
+    → IsPartBy true f true s rest seen x n → IsPart f true s rest seen x n
 delta_part f s rest seen x n is h = subst (λ (b : Bool). IsPartBy b f true s rest seen x n) (sym (ap (λ o. needs_bytes o true) is)) h
 
 -- what a code says of the parts, of the parts themselves
-pub told_parts : (operator : Operator) (optional : Bool) (entry : ℕ) (e m : FieldInstruction) (shape : Shape) → shape ≡ Decimal e m → IsChangedPartsCoded operator optional entry shape
+pub told_parts : (operator : Operator) (optional : Bool) (entry : ℕ) (e m : FieldInstruction) (shape : Shape) → shape ≡ Decimal e m
+    → IsChangedPartsCoded operator optional entry shape
     → (e.operator ≡ operator) × (e.optional ≡ optional) × (m.operator ≡ Delta) × (m.optional ≡ false) × (m.entry ≡ Some entry)
 told_parts operator optional entry e m shape same (own, its, is, under, may, by_delta, there, kept) =
     let both : Decimal own its ≡ Decimal e m = sym is ∙ same in

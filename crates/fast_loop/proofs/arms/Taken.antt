@@ -64,7 +64,10 @@ module _ {S : Type 0} (takes stops : S → EventData → S → Type 0) (set : Se
 
   -- Where bytes were taken it makes no difference whether something was handed over.
   pub took_handed : (m m' : Machine) (rest : List ℕ) (s : S) (n : ℕ) (turn : Turn) (s' : S) → 0 < n → turn ≢ Waits
-      → IsStep takes stops set l m rest s (record { bytes = n; turn = Ok turn }) s' m' → IsStep takes stops set l m rest s (record { bytes = n; turn = Ok Handed }) s' m'
+      → IsStep takes stops set l m rest s (record {
+        bytes = n;
+        turn = Ok turn;
+      }) s' m' → IsStep takes stops set l m rest s (record { bytes = n; turn = Ok Handed }) s' m'
   took_handed m m' rest s n Silent s' some on h = record {
     within = h.within;
     runs = h.runs;
@@ -77,7 +80,12 @@ module _ {S : Type 0} (takes stops : S → EventData → S → Type 0) (set : Se
   took_handed m m' rest s n Handed s' some on h = h
   took_handed m m' rest s n Waits s' some on h = absurd (on refl)
 
-  module _ (m : Machine) (slots : Slots) (text joined : Scratch) (t : Turns) (from : Spot) (p : Place) (node : ℕ) (f : FieldData) (value : Option ScalarData) (n : ℕ) (h : IsFieldTaken set l m (record m { slots = slots; text = text; joined = joined }) from node f value n) (counts : t.count ≡ m.turns.count + 1) where
+  module _ (m : Machine) (slots : Slots) (text joined : Scratch) (t : Turns) (from : Spot) (p : Place) (node : ℕ) (f : FieldData)
+      (value : Option ScalarData) (n : ℕ) (h : IsFieldTaken set l m (record m {
+        slots = slots;
+        text = text;
+        joined = joined;
+      }) from node f value n) (counts : t.count ≡ m.turns.count + 1) where
     -- the machine before the field, with what the field keeps, and behind it
     abbrev before : Machine
     before = placed m from.place
@@ -90,7 +98,14 @@ module _ {S : Type 0} (takes stops : S → EventData → S → Type 0) (set : Se
 
     can_keep : CanTurn set l keeping
     can_keep = record {
-      supplied = supplied_like set l before keeping h.spot.can.supplied (record { terms = h.terms; text = h.room; joined = h.joined_room; identifier = refl; rests = refl; latest = refl }) h.spot.can.supplied.counted;
+      supplied = supplied_like set l before keeping h.spot.can.supplied (record {
+        terms = h.terms;
+        text = h.room;
+        joined = h.joined_room;
+        identifier = refl;
+        rests = refl;
+        latest = refl;
+      }) h.spot.can.supplied.counted;
       placed = h.spot.can.placed;
       mapped = h.spot.can.mapped;
       unused = h.spot.can.unused;
@@ -100,10 +115,12 @@ module _ {S : Type 0} (takes stops : S → EventData → S → Type 0) (set : Se
     abbrev read_on : Reader Dictionary
     read_on = reader_of l.strict (value_then set (bounds l) node value f (slots_dictionary slots) m.counted (at_place m.cursor from.place))
 
-    settled : behind_field set (bounds l) before f node h.outcome ≡ value_then set (bounds l) node value f (slots_dictionary slots) m.counted (at_place m.cursor from.place)
+    settled : behind_field set (bounds l) before f node h.outcome ≡ value_then set (bounds l) node value f
+        (slots_dictionary slots) m.counted (at_place m.cursor from.place)
     settled =
         let on = resume (bounds l) (frames_in set m.cursor.frames) (body_in set (drop 1 before.cursor.left)) in
-        ap (λ (v : Option ScalarData). handed_then node on v (state_past f (write_at f.entry h.outcome.next (slots_dictionary m.slots)) m.counted before.cursor)) h.is_value
+        ap (λ (v : Option ScalarData). handed_then node on v
+        (state_past f (write_at f.entry h.outcome.next (slots_dictionary m.slots)) m.counted before.cursor)) h.is_value
         ∙ ap (λ (d : Dictionary). handed_then node on value (state_past f d m.counted before.cursor)) (sym h.next)
 
     field_turns : TurnsTo (turning set l before) (take n from.rest.now) read_on
@@ -122,9 +139,11 @@ module _ {S : Type 0} (takes stops : S → EventData → S → Type 0) (set : Se
           supplied = supplied_moved set l keeping behind can_keep.supplied refl refl;
           goes_on = goes_on_moved set l keeping behind result can_keep refl refl past on;
         })
-        (λ way k c. finished way set l k keeping behind _ result h.at.3 refl past on (one_turn way set l k m.turns.count t.count m.counted before.cursor counts c))
+        (λ way k c. finished way set l k keeping behind _ result h.at.3 refl past on
+        (one_turn way set l k m.turns.count t.count m.counted before.cursor counts c))
 
-module _ {S : Type 0} (takes stops : S → EventData → S → Type 0) (set : Set) (l : Limits) (m m1 : Machine) (t : Turns) (from : Spot) (p : Place) (node : ℕ) (f : FieldData) (value : Option ScalarData) (n : ℕ)
+module _ {S : Type 0} (takes stops : S → EventData → S → Type 0) (set : Set) (l : Limits) (m m1 : Machine) (t : Turns) (from : Spot)
+    (p : Place) (node : ℕ) (f : FieldData) (value : Option ScalarData) (n : ℕ)
     (h : IsFieldTaken set l m m1 from node f value n) (counts : t.count ≡ m.turns.count + 1) (place : IsPlaceOf m.cursor p) where
   -- the machine with what the field keeps
   abbrev kept : Machine
@@ -135,35 +154,50 @@ module _ {S : Type 0} (takes stops : S → EventData → S → Type 0) (set : Se
 
   -- what a turn behind the field moves
   abbrev MovesOn : S → Result Turn FaultCode → S → Type 0
-  MovesOn s result s' = (waits : Reader Dictionary) → Moves takes stops (reader_of l.strict (value_then set (bounds l) node value f (slots_dictionary m1.slots) m.counted (at_place m.cursor from.place)))
+  MovesOn s result s' = (waits : Reader Dictionary) → Moves takes stops
+      (reader_of l.strict (value_then set (bounds l) node value f (slots_dictionary m1.slots) m.counted (at_place m.cursor from.place)))
       s result s' (reader_of l.strict (going_on set (bounds l) (slots_dictionary m1.slots) m.counted (at_place m.cursor p))) waits
 
   -- The field, and the turn behind it.
-  went_step : (s : S) (result : Result Turn FaultCode) (s' : S) → MovesOn s result s' → OnOk result (IsPast (at_place m.cursor from.place) (at_place m.cursor p)) → result ≢ Ok Waits
+  went_step : (s : S) (result : Result Turn FaultCode) (s' : S) → MovesOn s result s'
+      → OnOk result (IsPast (at_place m.cursor from.place) (at_place m.cursor p)) → result ≢ Ok Waits
       → IsStep takes stops set l (placed m from.place) from.rest.now s (record { bytes = n; turn = result }) s' (placed (record kept { turns = t }) p)
   went_step s result s' moves past on =
-      taken_step takes stops set l m m1.slots m1.text m1.joined t from p node f value n taken_kept counts s result s' (moves (meaning set l (placed (record kept { turns = t }) p))) past on
+      taken_step takes stops set l m m1.slots m1.text m1.joined t from p node f value n taken_kept counts s result s'
+      (moves (meaning set l (placed (record kept { turns = t }) p))) past on
 
   -- The arm took the field.
-  pub taken_went : (to : Spot) (s : S) (turn : Turn) (s' : S) → to.rest.now ≡ drop n from.rest.now → to.place ≡ p → MovesOn s (Ok turn) s' → IsPast (at_place m.cursor from.place) (at_place m.cursor p) → turn ≢ Waits
+  pub taken_went : (to : Spot) (s : S) (turn : Turn) (s' : S) → to.rest.now ≡ drop n from.rest.now → to.place ≡ p → MovesOn s (Ok turn) s'
+      → IsPast (at_place m.cursor from.place) (at_place m.cursor p) → turn ≢ Waits
       → HasWent takes stops set l m from s Went.Took s' (record m1 { turns = t }) to
-  taken_went to s turn s' rest same moves past on = subst (λ (x : Machine). HasWent takes stops set l m from s Went.Took s' (record x { turns = t }) to) (sym h.kept) (
-    n,
-    h.some,
-    record {
-      rest = rest;
-      waits = h.spot.waits;
-      place = subst (λ (x : Place). IsPlaceOf m.cursor x) (sym same) place;
-      step = subst (λ (x : Place). IsStep takes stops set l (placed m from.place) from.rest.now s (record { bytes = n; turn = Ok Handed }) s' (placed (record kept { turns = t }) x)) (sym same)
-          (took_handed takes stops set l (placed m from.place) (placed (record kept { turns = t }) p) from.rest.now s n turn s' h.some on
-          (went_step s (Ok turn) s' moves past (λ e. on (cc e))));
-    },
-  )
+  taken_went to s turn s' rest same moves past on = subst
+      (λ (x : Machine). HasWent takes stops set l m from s Went.Took s' (record x { turns = t }) to) (sym h.kept) (
+        n,
+        h.some,
+        record {
+          rest = rest;
+          waits = h.spot.waits;
+          place = subst (λ (x : Place). IsPlaceOf m.cursor x) (sym same) place;
+          step = subst (λ (x : Place). IsStep takes stops set l (placed m from.place) from.rest.now s (record {
+            bytes = n;
+            turn = Ok Handed;
+          }) s' (placed (record kept { turns = t }) x)) (sym same)
+              (took_handed takes stops set l (placed m from.place) (placed (record kept { turns = t }) p) from.rest.now s n turn s' h.some on
+              (went_step s (Ok turn) s' moves past (λ e. on (cc e))));
+        },
+      )
 
   -- The sink stopped at its value.
   pub taken_stopped : (w : List ℕ) (s s' : S) → w ≡ drop n from.rest.now → MovesOn s (Err SinkStopped) s'
-      → (k : ℕ) × (w ≡ drop k from.rest.now) × IsPlaceOf m1.cursor p × IsStep takes stops set l (placed m from.place) from.rest.now s (record { bytes = k; turn = Err SinkStopped }) s' (placed (record m1 { turns = t }) p)
+      → (k : ℕ) × (w ≡ drop k from.rest.now) × IsPlaceOf m1.cursor p × IsStep takes stops set l (placed m from.place) from.rest.now s (record {
+        bytes = k;
+        turn = Err SinkStopped;
+      }) s' (placed (record m1 { turns = t }) p)
   taken_stopped w s s' rest moves =
-      subst (λ (x : Machine). (k : ℕ) × (w ≡ drop k from.rest.now) × IsPlaceOf x.cursor p × IsStep takes stops set l (placed m from.place) from.rest.now s (record { bytes = k; turn = Err SinkStopped }) s' (placed (record x { turns = t }) p))
+      subst (λ (x : Machine). (k : ℕ) × (w ≡ drop k from.rest.now) × IsPlaceOf x.cursor p
+      × IsStep takes stops set l (placed m from.place) from.rest.now s (record {
+        bytes = k;
+        turn = Err SinkStopped;
+      }) s' (placed (record x { turns = t }) p))
       (sym h.kept)
       (n, rest, place, went_step s (Err SinkStopped) s' moves tt (λ e. cc e))

@@ -42,7 +42,8 @@ module _ {S : Type 0} (takes stops : S → EventData → S → Type 0) (set : Se
   past_left c c' (Ok t) past e = ap (λ (x : CursorData). x.left) past.same
   past_left c c' (Err x) past e = absurd (cc e)
 
-  module _ (m : Machine) (slots : Slots) (t : Turns) (p q : Place) (node : ℕ) (f : FieldData) (bit : Bool) (value : Option ScalarData) (h : IsFieldUnsent set l m (record m { slots = slots }) p node f bit value) (counts : t.count ≡ m.turns.count + 1) where
+  module _ (m : Machine) (slots : Slots) (t : Turns) (p q : Place) (node : ℕ) (f : FieldData) (bit : Bool) (value : Option ScalarData)
+      (h : IsFieldUnsent set l m (record m { slots = slots }) p node f bit value) (counts : t.count ≡ m.turns.count + 1) where
     abbrev before : Machine
     before = placed m p
 
@@ -54,7 +55,14 @@ module _ {S : Type 0} (takes stops : S → EventData → S → Type 0) (set : Se
 
     can_keep : CanTurn set l keeping
     can_keep = record {
-      supplied = supplied_like set l before keeping h.spot.can.supplied (record { terms = h.terms; text = refl; joined = refl; identifier = refl; rests = refl; latest = refl }) h.spot.can.supplied.counted;
+      supplied = supplied_like set l before keeping h.spot.can.supplied (record {
+        terms = h.terms;
+        text = refl;
+        joined = refl;
+        identifier = refl;
+        rests = refl;
+        latest = refl;
+      }) h.spot.can.supplied.counted;
       placed = h.spot.can.placed;
       mapped = h.spot.can.mapped;
       unused = h.spot.can.unused;
@@ -73,19 +81,28 @@ module _ {S : Type 0} (takes stops : S → EventData → S → Type 0) (set : Se
         (subst (λ (b : Bool). field_term (bounds l) f prior b ≡ of_result (decide f prior b nothing)) h.is_bit h.unsent)
         (subst (λ (b : Bool). decide f prior b nothing ≡ Ok h.outcome) h.is_bit h.decided)
         ∙ ap (λ (r : Found). reader_of l.strict (handed_then node (behind set l before) r.0 r.1))
-        (λ i. (h.is_value i, record { context = record { dictionary = sym h.next i; counted = m.counted }; bits = if uses_bit f then later_bits (bits_left before.cursor) else bits_left before.cursor }))
+        (λ i. (
+          h.is_value i,
+          record {
+            context = record { dictionary = sym h.next i; counted = m.counted };
+            bits = if uses_bit f then later_bits (bits_left before.cursor) else bits_left before.cursor;
+          },
+        ))
 
     -- The turn past it.
-    pub unsent_step : (rest : List ℕ) (s : S) (result : Result Turn FaultCode) (s' : S) → Moves takes stops read_on s result s' (turning set l after) (meaning set l after)
+    pub unsent_step : (rest : List ℕ) (s : S) (result : Result Turn FaultCode) (s' : S)
+        → Moves takes stops read_on s result s' (turning set l after) (meaning set l after)
         → OnOk result (IsPast (at_place m.cursor p) (at_place m.cursor q)) → result ≢ Ok Waits
         → IsStep takes stops set l before rest s (record { bytes = 0; turn = result }) s' after
     unsent_step rest s result s' moves past on =
         turn_step takes stops set l before rest s result s' after
         (turn_moved takes stops set l (turning set l before) read_on s result s' keeping after known moves can_keep refl refl past on)
         (λ e. (h.at.2, past_left before.cursor after.cursor result past e))
-        (λ way k c. finished way set l k keeping after _ result h.at.3 refl past on (one_turn way set l k m.turns.count t.count m.counted before.cursor counts c))
+        (λ way k c. finished way set l k keeping after _ result h.at.3 refl past on
+        (one_turn way set l k m.turns.count t.count m.counted before.cursor counts c))
 
-module _ {S : Type 0} (takes stops : S → EventData → S → Type 0) (set : Set) (l : Limits) (m m1 : Machine) (t : Turns) (from : Spot) (p : Place) (node : ℕ) (f : FieldData) (bit : Bool) (value : Option ScalarData)
+module _ {S : Type 0} (takes stops : S → EventData → S → Type 0) (set : Set) (l : Limits) (m m1 : Machine) (t : Turns) (from : Spot)
+    (p : Place) (node : ℕ) (f : FieldData) (bit : Bool) (value : Option ScalarData)
     (h : IsFieldUnsent set l m m1 from.place node f bit value) (counts : t.count ≡ m.turns.count + 1) (place : IsPlaceOf m.cursor p) where
   abbrev kept : Machine
   kept = record m { slots = m1.slots }
@@ -95,29 +112,44 @@ module _ {S : Type 0} (takes stops : S → EventData → S → Type 0) (set : Se
 
   -- what the turn moves
   abbrev MovesOn : S → Result Turn FaultCode → S → Type 0
-  MovesOn s result s' = (waits : Reader Dictionary) → Moves takes stops (reader_of l.strict (value_then set (bounds l) node value f (slots_dictionary m1.slots) m.counted (at_place m.cursor from.place)))
+  MovesOn s result s' = (waits : Reader Dictionary) → Moves takes stops
+      (reader_of l.strict (value_then set (bounds l) node value f (slots_dictionary m1.slots) m.counted (at_place m.cursor from.place)))
       s result s' (reader_of l.strict (going_on set (bounds l) (slots_dictionary m1.slots) m.counted (at_place m.cursor p))) waits
 
-  went_step : (s : S) (result : Result Turn FaultCode) (s' : S) → MovesOn s result s' → OnOk result (IsPast (at_place m.cursor from.place) (at_place m.cursor p)) → result ≢ Ok Waits
+  went_step : (s : S) (result : Result Turn FaultCode) (s' : S) → MovesOn s result s'
+      → OnOk result (IsPast (at_place m.cursor from.place) (at_place m.cursor p)) → result ≢ Ok Waits
       → IsStep takes stops set l (placed m from.place) from.rest.now s (record { bytes = 0; turn = result }) s' (placed (record kept { turns = t }) p)
   went_step s result s' moves past on =
-      unsent_step takes stops set l m m1.slots t from.place p node f bit value unsent_kept counts from.rest.now s result s' (moves (meaning set l (placed (record kept { turns = t }) p))) past on
+      unsent_step takes stops set l m m1.slots t from.place p node f bit value unsent_kept counts from.rest.now s result s'
+      (moves (meaning set l (placed (record kept { turns = t }) p))) past on
 
   -- The arm went past the field.
-  pub unsent_went : (to : Spot) (s : S) (turn : Turn) (s' : S) → to.rest.now ≡ from.rest.now → to.place ≡ p → MovesOn s (Ok turn) s' → IsPast (at_place m.cursor from.place) (at_place m.cursor p) → turn ≢ Waits
+  pub unsent_went : (to : Spot) (s : S) (turn : Turn) (s' : S) → to.rest.now ≡ from.rest.now → to.place ≡ p → MovesOn s (Ok turn) s'
+      → IsPast (at_place m.cursor from.place) (at_place m.cursor p) → turn ≢ Waits
       → WentBy takes stops set l m from s 0 turn s' (record m1 { turns = t }) to
-  unsent_went to s turn s' rest same moves past on = subst (λ (x : Machine). WentBy takes stops set l m from s 0 turn s' (record x { turns = t }) to) (sym h.kept) (record {
-    rest = rest;
-    waits = h.spot.waits;
-    place = subst (λ (x : Place). IsPlaceOf m.cursor x) (sym same) place;
-    step = subst (λ (x : Place). IsStep takes stops set l (placed m from.place) from.rest.now s (record { bytes = 0; turn = Ok turn }) s' (placed (record kept { turns = t }) x)) (sym same)
-        (went_step s (Ok turn) s' moves past (λ e. on (cc e)));
-  })
+  unsent_went to s turn s' rest same moves past on = subst
+      (λ (x : Machine). WentBy takes stops set l m from s 0 turn s' (record x { turns = t }) to) (sym h.kept) (record {
+        rest = rest;
+        waits = h.spot.waits;
+        place = subst (λ (x : Place). IsPlaceOf m.cursor x) (sym same) place;
+        step = subst (λ (x : Place). IsStep takes stops set l (placed m from.place) from.rest.now s (record {
+          bytes = 0;
+          turn = Ok turn;
+        }) s' (placed (record kept { turns = t }) x)) (sym same)
+            (went_step s (Ok turn) s' moves past (λ e. on (cc e)));
+      })
 
   -- The sink stopped at its value.
   pub unsent_stopped : (s s' : S) → MovesOn s (Err SinkStopped) s'
-      → (k : ℕ) × (from.rest.now ≡ drop k from.rest.now) × IsPlaceOf m1.cursor p × IsStep takes stops set l (placed m from.place) from.rest.now s (record { bytes = k; turn = Err SinkStopped }) s' (placed (record m1 { turns = t }) p)
+      → (k : ℕ) × (from.rest.now ≡ drop k from.rest.now) × IsPlaceOf m1.cursor p × IsStep takes stops set l (placed m from.place) from.rest.now s (record {
+        bytes = k;
+        turn = Err SinkStopped;
+      }) s' (placed (record m1 { turns = t }) p)
   unsent_stopped s s' moves =
-      subst (λ (x : Machine). (k : ℕ) × (from.rest.now ≡ drop k from.rest.now) × IsPlaceOf x.cursor p × IsStep takes stops set l (placed m from.place) from.rest.now s (record { bytes = k; turn = Err SinkStopped }) s' (placed (record x { turns = t }) p))
+      subst (λ (x : Machine). (k : ℕ) × (from.rest.now ≡ drop k from.rest.now) × IsPlaceOf x.cursor p
+      × IsStep takes stops set l (placed m from.place) from.rest.now s (record {
+        bytes = k;
+        turn = Err SinkStopped;
+      }) s' (placed (record x { turns = t }) p))
       (sym h.kept)
       (0, refl, place, went_step s (Err SinkStopped) s' moves tt (λ e. cc e))

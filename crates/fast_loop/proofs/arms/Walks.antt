@@ -21,7 +21,8 @@ use Rattle.fast_machine.proofs.streams.Running.{IsSoFar, so_far_step, so_far_end
 
 module _ {S : Type 0} (takes stops : S → EventData → S → Type 0) (set : Set) (l : Limits) (m : Machine) (from : Spot) (s : S) where
   -- The same under other names.
-  pub went_as : {went : Went} {s' : S} {m' : Machine} {to : Spot} (went' : Went) (s'' : S) (m'' : Machine) (to' : Spot) → m'' ≡ m' → s'' ≡ s' → to' ≡ to → went' ≡ went
+  pub went_as : {went : Went} {s' : S} {m' : Machine} {to : Spot} (went' : Went) (s'' : S) (m'' : Machine) (to' : Spot) → m'' ≡ m'
+      → s'' ≡ s' → to' ≡ to → went' ≡ went
       → HasWent takes stops set l m from s went s' m' to → HasWent takes stops set l m from s went' s'' m'' to'
   went_as {went} {s'} {m'} {to} went' s'' m'' to' e f g i h =
       subst (λ (x : Machine). HasWent takes stops set l m from s went' s'' x to') (sym e)
@@ -30,16 +31,19 @@ module _ {S : Type 0} (takes stops : S → EventData → S → Type 0) (set : Se
       (subst (λ (x : Went). HasWent takes stops set l m from s x s' m' to) (sym i) h)))
 
   -- The place is one of the machine's.
-  pub went_place : (went : Went) (s' : S) (m' : Machine) (to : Spot) → IsPlaceOf m.cursor from.place → HasWent takes stops set l m from s went s' m' to → IsPlaceOf m'.cursor to.place
+  pub went_place : (went : Went) (s' : S) (m' : Machine) (to : Spot) → IsPlaceOf m.cursor from.place
+      → HasWent takes stops set l m from s went s' m' to → IsPlaceOf m'.cursor to.place
   went_place Went.Took s' m' to place (n, some, w) = w.place
   went_place Went.Handed s' m' to place w = w.place
   went_place Went.Silent s' m' to place w = w.place
-  went_place Went.Declined s' m' to place (e, f, g) = subst (λ (x : Machine). IsPlaceOf x.cursor to.place) (sym e) (subst (λ (x : Spot). IsPlaceOf m.cursor x.place) (sym f) place)
+  went_place Went.Declined s' m' to place (e, f, g) = subst (λ (x : Machine). IsPlaceOf x.cursor to.place) (sym e)
+      (subst (λ (x : Spot). IsPlaceOf m.cursor x.place) (sym f) place)
   went_place Went.Stopped s' m' to place w = w.2
   went_place Went.Waits s' m' to place w = w.2
 
   -- Where the arm declined the machine stands where it stood.
-  pub went_nowhere : (went : Went) (s' : S) (m' : Machine) (to : Spot) → IsAtSpot set l m from.place → HasWent takes stops set l m from s went s' m' to → went ≡ Went.Declined → IsAtSpot set l m' to.place
+  pub went_nowhere : (went : Went) (s' : S) (m' : Machine) (to : Spot) → IsAtSpot set l m from.place
+      → HasWent takes stops set l m from s went s' m' to → went ≡ Went.Declined → IsAtSpot set l m' to.place
   went_nowhere went s' m' to spot h e = by (subst (λ (x : Went). HasWent takes stops set l m from s x s' m' to) e h)
     where
       by : HasWent takes stops set l m from s Went.Declined s' m' to → IsAtSpot set l m' to.place
@@ -54,27 +58,47 @@ module _ {S : Type 0} (takes stops : S → EventData → S → Type 0) (set : Se
     went_within = w.step.within
 
     -- A step more.
-    pub went_far : (m0 : Machine) (piece : List ℕ) (s0 : S) → turn ≢ Waits → IsSoFar takes stops set l m0 piece s0 from.rest.now s (placed m from.place) → IsSoFar takes stops set l m0 piece s0 to.rest.now s' (placed m' to.place)
+    pub went_far : (m0 : Machine) (piece : List ℕ) (s0 : S) → turn ≢ Waits
+        → IsSoFar takes stops set l m0 piece s0 from.rest.now s (placed m from.place)
+        → IsSoFar takes stops set l m0 piece s0 to.rest.now s' (placed m' to.place)
     went_far m0 piece s0 on far =
         subst (λ (x : List ℕ). IsSoFar takes stops set l m0 piece s0 x s' (placed m' to.place)) (take_rest from.rest.now n ∙ sym w.rest)
-        (so_far_step takes stops set l m0 piece s0 from.rest.now s (placed m from.place) (record { bytes = n; turn = Ok turn }) turn s' (placed m' to.place) refl on far w.step)
+        (so_far_step takes stops set l m0 piece s0 from.rest.now s (placed m from.place) (record {
+          bytes = n;
+          turn = Ok turn;
+        }) turn s' (placed m' to.place) refl on far w.step)
 
   -- A step in the general way, whose machine stands at its own place.
-  pub step_at : (cur : CursorData) (n : ℕ) (turn : Result Turn FaultCode) (q : UnitTaken) (s' : S) (b : Machine) (p : Place) → cur ≡ at_place m.cursor from.place → q.bytes ≡ n → q.turn ≡ turn → at_place b.cursor p ≡ b.cursor
-      → IsStep takes stops set l (record m { cursor = cur }) from.rest.now s q s' b → IsStep takes stops set l (placed m from.place) from.rest.now s (record { bytes = n; turn = turn }) s' (placed b p)
+  pub step_at : (cur : CursorData) (n : ℕ) (turn : Result Turn FaultCode) (q : UnitTaken) (s' : S) (b : Machine) (p : Place)
+      → cur ≡ at_place m.cursor from.place → q.bytes ≡ n → q.turn ≡ turn → at_place b.cursor p ≡ b.cursor
+      → IsStep takes stops set l (record m { cursor = cur }) from.rest.now s q s' b
+      → IsStep takes stops set l (placed m from.place) from.rest.now s (record { bytes = n; turn = turn }) s' (placed b p)
   step_at cur n turn q s' b p e f g h step =
-      subst (λ (x : CursorData). IsStep takes stops set l (placed m from.place) from.rest.now s (record { bytes = n; turn = turn }) s' (record b { cursor = x })) (sym h)
+      subst (λ (x : CursorData). IsStep takes stops set l (placed m from.place) from.rest.now s (record {
+        bytes = n;
+        turn = turn;
+      }) s' (record b { cursor = x })) (sym h)
       (subst (λ (x : CursorData). IsStep takes stops set l (record m { cursor = x }) from.rest.now s (record { bytes = n; turn = turn }) s' b) e
       (subst (λ (x : Result Turn FaultCode). IsStep takes stops set l (record m { cursor = cur }) from.rest.now s (record { bytes = n; turn = x }) s' b) g
       (subst (λ (k : ℕ). IsStep takes stops set l (record m { cursor = cur }) from.rest.now s (record { bytes = k; turn = q.turn }) s' b) f step)))
 
   -- The last one.
-  pub gone_end : (n : ℕ) (outcome : Result Unit FaultCode) (s' : S) (m' : Machine) (w : List ℕ) (m0 : Machine) (piece : List ℕ) (s0 : S) → w ≡ drop n from.rest.now
-      → IsStep takes stops set l (placed m from.place) from.rest.now s (record { bytes = n; turn = ended outcome }) s' m' → IsSoFar takes stops set l m0 piece s0 from.rest.now s (placed m from.place)
+  pub gone_end : (n : ℕ) (outcome : Result Unit FaultCode) (s' : S) (m' : Machine) (w : List ℕ) (m0 : Machine) (piece : List ℕ) (s0 : S)
+      → w ≡ drop n from.rest.now
+      → IsStep takes stops set l (placed m from.place) from.rest.now s (record {
+        bytes = n;
+        turn = ended outcome;
+      }) s' m' → IsSoFar takes stops set l m0 piece s0 from.rest.now s (placed m from.place)
       → IsStep takes stops set l m0 piece s0 (record { bytes = length piece - length w; turn = ended outcome }) s' m'
   gone_end n outcome s' m' w m0 piece s0 rest step far =
-      subst (λ (x : List ℕ). IsStep takes stops set l m0 piece s0 (record { bytes = length piece - length x; turn = ended outcome }) s' m') (take_rest from.rest.now n ∙ sym rest)
-      (so_far_end takes stops set l m0 piece s0 from.rest.now s (placed m from.place) (record { bytes = n; turn = ended outcome }) (ended outcome) s' m' refl (by outcome) far step)
+      subst (λ (x : List ℕ). IsStep takes stops set l m0 piece s0 (record {
+        bytes = length piece - length x;
+        turn = ended outcome;
+      }) s' m') (take_rest from.rest.now n ∙ sym rest)
+      (so_far_end takes stops set l m0 piece s0 from.rest.now s (placed m from.place) (record {
+        bytes = n;
+        turn = ended outcome;
+      }) (ended outcome) s' m' refl (by outcome) far step)
     where
       by : (o : Result Unit FaultCode) (t : Turn) → ended o ≡ Ok t → t ≡ Waits
       by (Ok u) t e = sym (cc e)

@@ -12,7 +12,11 @@ pub record IsBegunAt (old c : CursorData) (rest ns : List ℕ) : Type 0 where
   pub rests : resting c ≡ resting old
   pub bits : bits_left c ≡ later_bits (bits (take 1 rest))
 
-pub begun_at : (old new c : CursorData) (rest ns : List ℕ) (b start : ℕ) → old.frames ≡ [] → take 1 rest ≡ b ∷ [] → new ≡ record old { map = b ∷ []; used = 0; ends = 8 } → c ≡ record new { left = run_at old.ops start; used = c.used; ends = c.ends }
+pub begun_at : (old new c : CursorData) (rest ns : List ℕ) (b start : ℕ) → old.frames ≡ [] → take 1 rest ≡ b ∷ [] → new ≡ record old {
+  map = b ∷ [];
+  used = 0;
+  ends = 8;
+} → c ≡ record new { left = run_at old.ops start; used = c.used; ends = c.ends }
     → bits_left c ≡ later_bits (bits (b ∷ [])) → run_at old.ops start ≡ ns → IsBegunAt old c rest ns
 begun_at old new c rest ns b start outermost byte same at later nodes = record {
   frames = ap (λ (x : CursorData). x.frames) at ∙ ap (λ (x : CursorData). x.frames) same ∙ outermost;

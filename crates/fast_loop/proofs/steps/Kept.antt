@@ -24,19 +24,23 @@ pub record IsKeptOf (set : Set) (l : Limits) (b a : Machine) (rest : List ℕ) (
 
 module _ {S : Type 0} (takes stops : S → EventData → S → Type 0) (set : Set) (l : Limits) (later : NameLaterNodes set.nodes) where
   -- What was kept was fed.
-  pub kept_fed : (b a : Machine) (rest : List ℕ) (k : ℕ) (s : S) → IsKeptOf set l b a rest k → TookEvents takes (tree_in set) l (waiting_at (meaning set l b)) (take k rest) s s (waiting_at (meaning set l a))
+  pub kept_fed : (b a : Machine) (rest : List ℕ) (k : ℕ) (s : S) → IsKeptOf set l b a rest k
+      → TookEvents takes (tree_in set) l (waiting_at (meaning set l b)) (take k rest) s s (waiting_at (meaning set l a))
   kept_fed b a rest zero s h =
-      subst (λ (x : Machine). TookEvents takes (tree_in set) l (waiting_at (meaning set l b)) [] s s (waiting_at (meaning set l x))) (sym (h.none refl)) (took_none (tree_in set) l takes stops (waiting_at (meaning set l b)) s)
+      subst (λ (x : Machine). TookEvents takes (tree_in set) l (waiting_at (meaning set l b)) [] s s (waiting_at (meaning set l x)))
+      (sym (h.none refl)) (took_none (tree_in set) l takes stops (waiting_at (meaning set l b)) s)
   kept_fed b a rest (suc k) s h =
       let (size, got) = h.kept (omega arith) in
       unit_alone takes stops set l b rest s (suc k) (Ok Waits) (Ok tt) s a (λ t e. cc e) (λ t e. refl) (λ x e. absurd (cc e))
       (gathered_to takes stops set l b a rest later got (omega (arith, size)) s (suc k) (Ok Waits) size refl)
 
   -- Behind a unit.
-  pub both_fed : (m b a : Machine) (rest : List ℕ) (n k : ℕ) (s s' : S) → IsTakenTo takes stops set l (meaning set l m) rest s n (Ok Waits) s' b → IsKeptOf set l b a (take (length rest - n) (drop n rest)) k
+  pub both_fed : (m b a : Machine) (rest : List ℕ) (n k : ℕ) (s s' : S)
+      → IsTakenTo takes stops set l (meaning set l m) rest s n (Ok Waits) s' b → IsKeptOf set l b a (take (length rest - n) (drop n rest)) k
       → TookEvents takes (tree_in set) l (waiting_at (meaning set l m)) (take (n + k) rest) s s' (waiting_at (meaning set l a))
   both_fed m b a rest n k s s' taken h =
-      fed_behind (tree_in set) l takes stops (waiting_at (meaning set l m)) (waiting_at (meaning set l b)) (waiting_at (meaning set l a)) rest n k s s' s' (Ok tt)
+      fed_behind (tree_in set) l takes stops (waiting_at (meaning set l m)) (waiting_at (meaning set l b))
+      (waiting_at (meaning set l a)) rest n k s s' s' (Ok tt)
       (unit_alone takes stops set l m rest s n (Ok Waits) (Ok tt) s' b (λ t e. cc e) (λ t e. refl) (λ x e. absurd (cc e)) taken)
       (kept_fed b a (take (length rest - n) (drop n rest)) k s' h)
 
@@ -51,9 +55,11 @@ kept_ready set l b a rest zero h ready = subst (IsReady set l) (sym (h.none refl
 kept_ready set l b a rest (suc k) h ready = (h.kept (omega arith)).1.ready
 
 -- The turns are what they were.
-pub kept_turns : (set : Set) (l : Limits) (b a : Machine) (rest : List ℕ) (k : ℕ) → IsKeptOf set l b a rest k → (way : Way) (n : ℕ) → HasTurnsWaiting way set l n b → HasTurnsWaiting way set l n a
+pub kept_turns : (set : Set) (l : Limits) (b a : Machine) (rest : List ℕ) (k : ℕ) → IsKeptOf set l b a rest k → (way : Way) (n : ℕ)
+    → HasTurnsWaiting way set l n b → HasTurnsWaiting way set l n a
 kept_turns set l b a rest zero h way n i = subst (λ (x : Machine). HasTurnsWaiting way set l n x) (sym (h.none refl)) i
 kept_turns set l b a rest (suc k) h way n i = gathered_turns way set l n n b a rest (h.kept (omega arith)).1 (le_refl n) i
 
-pub kept_counted : (set : Set) (l : Limits) (m b a : Machine) (rest : List ℕ) (n k : ℕ) → IsKeptOf set l b a rest k → (way : Way) → IsCountedBy (Ok tt) way set l n m b → IsCountedBy (Ok tt) way set l (n + k) m a
+pub kept_counted : (set : Set) (l : Limits) (m b a : Machine) (rest : List ℕ) (n k : ℕ) → IsKeptOf set l b a rest k → (way : Way)
+    → IsCountedBy (Ok tt) way set l n m b → IsCountedBy (Ok tt) way set l (n + k) m a
 kept_counted set l m b a rest n k h way (more, less, turns) = (more, omega (arith, less), λ x i. kept_turns set l b a rest k h way _ (turns x i))

@@ -54,7 +54,8 @@ IsFieldOp set op kind operator optional = (x : Node) → slice_get set.nodes op.
 -- The op's node, if it is a field of ASCII strings under the operator, optional or mandatory, is this string, or absent, complete in these
 -- bytes.
 abbrev pub IsOpText : Set → Op → Operator → Bool → ℕ → List ℕ → Slots → Slots → List ℕ → TakenText → Type 0
-IsOpText set op operator optional room rest old new scratch r = (x : Node) (i : FieldInstruction) (strict : Bool) (b : Bounds) → slice_get set.nodes op.node ≡ Some x → x.shape ≡ Shape.Field i
+IsOpText set op operator optional room rest old new scratch r = (x : Node) (i : FieldInstruction) (strict : Bool) (b : Bounds)
+    → slice_get set.nodes op.node ≡ Some x → x.shape ≡ Shape.Field i
     → b.max_text ≡ room → IsFieldAs (field_data i) Ascii optional operator op.entry → Serves (length (slots_dictionary old)) (slots_terms old) (field_data i)
     → GivesWhole (reader_in old strict b (field_data i)) (field_data i) rest (slots_dictionary old) (slots_dictionary new) scratch r.source r.from r.bytes
 
@@ -65,22 +66,30 @@ pub record IsAtSpot (set : Set) (l : Limits) (m : Machine) (p : Place) : Type 0 
   pub can : CanTurn set l (placed m p)
 
 -- A step from there on, which reads this number of bytes, and ends with this result.
-pub record WentBy {S : Type 0} (takes stops : S → EventData → S → Type 0) (set : Set) (l : Limits) (m : Machine) (from : Spot) (s : S) (n : ℕ) (turn : Turn) (s' : S) (m' : Machine) (to : Spot) : Type 0 where
+pub record WentBy {S : Type 0} (takes stops : S → EventData → S → Type 0) (set : Set) (l : Limits) (m : Machine) (from : Spot) (s : S)
+    (n : ℕ) (turn : Turn) (s' : S) (m' : Machine) (to : Spot) : Type 0 where
   pub rest : to.rest.now ≡ drop n from.rest.now
   pub waits : m'.waiting ≡ Field
   pub place : IsPlaceOf m'.cursor to.place
   pub step : IsStep takes stops set l (placed m from.place) from.rest.now s (record { bytes = n; turn = Ok turn }) s' (placed m' to.place)
 
 -- The effect of an arm, by its result.
-abbrev pub HasWent : {S : Type 0} → (S → EventData → S → Type 0) → (S → EventData → S → Type 0) → Set → Limits → Machine → Spot → S → Went → S → Machine → Spot → Type 0
+abbrev pub HasWent : {S : Type 0} → (S → EventData → S → Type 0) → (S → EventData → S → Type 0) → Set → Limits → Machine → Spot → S → Went
+    → S → Machine → Spot → Type 0
 HasWent takes stops set l m from s Went.Took s' m' to = (n : ℕ) × (0 < n) × WentBy takes stops set l m from s n Handed s' m' to
 HasWent takes stops set l m from s Went.Handed s' m' to = WentBy takes stops set l m from s 0 Handed s' m' to
 HasWent takes stops set l m from s Went.Silent s' m' to = WentBy takes stops set l m from s 0 Silent s' m' to
 HasWent takes stops set l m from s Went.Declined s' m' to = (m' ≡ m) × (to ≡ from) × (s' ≡ s)
 HasWent takes stops set l m from s Went.Stopped s' m' to =
-    (n : ℕ) × (to.rest.now ≡ drop n from.rest.now) × IsPlaceOf m'.cursor to.place × IsStep takes stops set l (placed m from.place) from.rest.now s (record { bytes = n; turn = Err SinkStopped }) s' (placed m' to.place)
+    (n : ℕ) × (to.rest.now ≡ drop n from.rest.now) × IsPlaceOf m'.cursor to.place × IsStep takes stops set l (placed m from.place) from.rest.now s (record {
+      bytes = n;
+      turn = Err SinkStopped;
+    }) s' (placed m' to.place)
 HasWent takes stops set l m from s Went.Waits s' m' to =
-    (n : ℕ) × (to.rest.now ≡ drop n from.rest.now) × IsPlaceOf m'.cursor to.place × IsStep takes stops set l (placed m from.place) from.rest.now s (record { bytes = n; turn = Ok Waits }) s' (placed m' to.place)
+    (n : ℕ) × (to.rest.now ≡ drop n from.rest.now) × IsPlaceOf m'.cursor to.place × IsStep takes stops set l (placed m from.place) from.rest.now s (record {
+      bytes = n;
+      turn = Ok Waits;
+    }) s' (placed m' to.place)
 
 -- The result of an arm after a step that reads n bytes, and goes on.
 abbrev pub IsAnswer : Went → ℕ → Type 0
@@ -94,12 +103,16 @@ ended (Ok u) = Ok Waits
 ended (Err c) = Err c
 
 -- The effect of a step of the loop, by its result. At its end the machine itself is at the position.
-abbrev pub HasGone : {S : Type 0} → (S → EventData → S → Type 0) → (S → EventData → S → Type 0) → Set → Limits → Machine → Spot → S → Gone → S → Machine → Spot → Type 0
+abbrev pub HasGone : {S : Type 0} → (S → EventData → S → Type 0) → (S → EventData → S → Type 0) → Set → Limits → Machine → Spot → S → Gone
+    → S → Machine → Spot → Type 0
 HasGone takes stops set l m from s Gone.Took s' m' to = (n : ℕ) × (0 < n) × WentBy takes stops set l m from s n Handed s' m' to
 HasGone takes stops set l m from s Gone.Handed s' m' to = WentBy takes stops set l m from s 0 Handed s' m' to
 HasGone takes stops set l m from s Gone.Silent s' m' to = WentBy takes stops set l m from s 0 Silent s' m' to
 HasGone takes stops set l m from s (Gone.Ended outcome) s' m' to =
-    (n : ℕ) × (to.rest.now ≡ drop n from.rest.now) × IsStep takes stops set l (placed m from.place) from.rest.now s (record { bytes = n; turn = ended outcome }) s' m'
+    (n : ℕ) × (to.rest.now ≡ drop n from.rest.now) × IsStep takes stops set l (placed m from.place) from.rest.now s (record {
+      bytes = n;
+      turn = ended outcome;
+    }) s' m'
 
 -- The field at the next node is complete in this number of bytes, and has this value, or none: the second machine has stored the value if
 -- the field does, and perhaps a string, or one that was joined, and is otherwise the first.
@@ -119,28 +132,34 @@ pub record IsFieldTaken (set : Set) (l : Limits) (m m' : Machine) (from : Spot) 
   pub next : slots_dictionary m'.slots ≡ write_at f.entry outcome.next (slots_dictionary m.slots)
 
 -- The length of the sequence at the next node is complete in this number of bytes, uses no bit, and has this value, or none.
-pub record IsLengthTaken (set : Set) (l : Limits) (m : Machine) (from : Spot) (node : ℕ) (f : FieldData) (body : List ℕ) (value : Option ScalarData) (n : ℕ) : Type 0 where
+pub record IsLengthTaken (set : Set) (l : Limits) (m : Machine) (from : Spot) (node : ℕ) (f : FieldData) (body : List ℕ)
+    (value : Option ScalarData) (n : ℕ) : Type 0 where
   pub spot : IsAtSpot set l m from.place
   pub at : IsAtSequence set (at_place m.cursor from.place) node f body
   pub no_bit : uses_bit f ≡ false
   pub some : 0 < n
   pub within : n ≤ length from.rest.now
-  pub turns : Turns (turning set l (placed m from.place)) (take n from.rest.now) (reader_of l.strict (length_then set (bounds l) node value f body (slots_dictionary m.slots) m.counted (at_place m.cursor from.place)))
+  pub turns : Turns (turning set l (placed m from.place)) (take n from.rest.now)
+      (reader_of l.strict (length_then set (bounds l) node value f body (slots_dictionary m.slots) m.counted
+      (at_place m.cursor from.place)))
 
 -- From the first spot to the second the bit of the next instruction is used, if it has one: a group that is present.
 pub record IsGroupHere (set : Set) (l : Limits) (m : Machine) (from to : Spot) (node : ℕ) (body : List ℕ) : Type 0 where
   pub rest : to.rest.now ≡ from.rest.now
   pub left : place_left to.place ≡ place_left from.place
-  pub begins : turning set l (placed m from.place) ≡ reader_of l.strict (group_from set (bounds l) node body (slots_dictionary m.slots) m.counted (at_place m.cursor to.place))
+  pub begins : turning set l (placed m from.place) ≡ reader_of l.strict
+      (group_from set (bounds l) node body (slots_dictionary m.slots) m.counted (at_place m.cursor to.place))
 
 -- Nothing is sent of the field at the next node, and it has this value, or none.
-pub record IsFieldUnsent (set : Set) (l : Limits) (m m' : Machine) (p : Place) (node : ℕ) (f : FieldData) (bit : Bool) (value : Option ScalarData) : Type 0 where
+pub record IsFieldUnsent (set : Set) (l : Limits) (m m' : Machine) (p : Place) (node : ℕ) (f : FieldData) (bit : Bool)
+    (value : Option ScalarData) : Type 0 where
   pub spot : IsAtSpot set l m p
   pub kept : m' ≡ record m { slots = m'.slots }
   pub terms : slots_terms m'.slots ≡ slots_terms m.slots
   pub at : IsAtField set (at_place m.cursor p) node f
   pub is_bit : bit ≡ bit_of f (state_in (slots_dictionary m.slots) m.counted (at_place m.cursor p))
-  pub unsent : field_term (bounds l) f (previous_at f.entry (slots_dictionary m.slots)) bit ≡ of_result (decide f (previous_at f.entry (slots_dictionary m.slots)) bit nothing)
+  pub unsent : field_term (bounds l) f (previous_at f.entry (slots_dictionary m.slots)) bit ≡ of_result
+      (decide f (previous_at f.entry (slots_dictionary m.slots)) bit nothing)
   pub outcome : Outcome
   pub decided : decide f (previous_at f.entry (slots_dictionary m.slots)) bit nothing ≡ Ok outcome
   pub is_value : outcome.value ≡ value

@@ -48,7 +48,8 @@ pub record IsAtDecimal (set : Set) (l : Limits) (m : Machine) (p : Place) (node 
 
 -- This number of bytes leads through the next instruction, and its value, if it has one, is to be emitted. Of its bits the one of this
 -- field is still to be used, if that has one, at this position. The second machine has stored the value if the instruction does.
-pub record IsLedTo (set : Set) (l : Limits) (m m' : Machine) (from : Spot) (p : Place) (node : ℕ) (f : FieldData) (value : Option ScalarData) (n : ℕ) : Type 0 where
+pub record IsLedTo (set : Set) (l : Limits) (m m' : Machine) (from : Spot) (p : Place) (node : ℕ) (f : FieldData)
+    (value : Option ScalarData) (n : ℕ) : Type 0 where
   pub spot : IsAtSpot set l m from.place
   pub kept : m' ≡ record m { slots = m'.slots }
   pub terms : slots_terms m'.slots ≡ slots_terms m.slots

@@ -26,7 +26,8 @@ same_node : (ns : List Node) (n k : ℕ) (v w : Node) → slice_get ns n ≡ Som
 same_node ns n k v w found at same = let e : Some w ≡ Some v = sym at ∙ ap (slice_get ns) (sym same) ∙ found in cc e
 
 -- The next node is one more.
-pub field_more : (P : FieldData → Type 0) (ns : List Node) (n : ℕ) (v : Node) → slice_get ns n ≡ Some v → FieldBefore P ns (n + 1) ↔ (FieldBefore P ns n ⊎ AnyField P (shape_data v.shape))
+pub field_more : (P : FieldData → Type 0) (ns : List Node) (n : ℕ) (v : Node) → slice_get ns n ≡ Some v
+    → FieldBefore P ns (n + 1) ↔ (FieldBefore P ns n ⊎ AnyField P (shape_data v.shape))
 field_more P ns n v found = (
   λ some. let (k, w, below, at, any) = some in elim (cases_lt k n) [
     | inl less ↦ inl (k, w, less, at, any)
@@ -71,7 +72,8 @@ has_room : (terms : Terms) (max_text e : ℕ) (w : List ℕ) → terms.max_text 
 has_room terms max_text e w limit short takes = elim (cases_lt max_text (length w)) [ inl long ↦ absurd (short long) | inr less ↦ (omega arith, takes) ]
 
 -- There is room for an initial value that is not too long, if it is no text or the entry takes one.
-room_for : (terms : Terms) (max_text e : ℕ) (o : Option ScalarData) → terms.max_text ≡ max_text → ¬ (IsLongText max_text o) → (IsInitialText o → terms.takes_text e ≡ true) → HasRoomFor terms e o
+room_for : (terms : Terms) (max_text e : ℕ) (o : Option ScalarData) → terms.max_text ≡ max_text → ¬ (IsLongText max_text o)
+    → (IsInitialText o → terms.takes_text e ≡ true) → HasRoomFor terms e o
 room_for terms max_text e None limit short takes = tt
 room_for terms max_text e (Some (U n)) limit short takes = tt
 room_for terms max_text e (Some (I n)) limit short takes = tt
@@ -80,7 +82,8 @@ room_for terms max_text e (Some (AsciiText w)) limit short takes = has_room term
 room_for terms max_text e (Some (UnicodeText w)) limit short takes = has_room terms max_text e w limit short (takes tt)
 room_for terms max_text e (Some (ByteVector w)) limit short takes = has_room terms max_text e w limit short (takes tt)
 
-field_served : (entries : ℕ) (terms : Terms) (max_text : ℕ) (ns : List Node) (f : FieldData) → Suits terms max_text ns → IsAmong ns f → IsUsable entries f → Serves entries terms f
+field_served : (entries : ℕ) (terms : Terms) (max_text : ℕ) (ns : List Node) (f : FieldData) → Suits terms max_text ns → IsAmong ns f
+    → IsUsable entries f → Serves entries terms f
 field_served entries terms max_text ns f suits among usable = record {
   kept = usable.kept;
   within = usable.within;
@@ -91,7 +94,8 @@ field_served entries terms max_text ns f suits among usable = record {
       (λ text. suits.takes e (among (HoldsTextAt e) (at, inr text)));
 }
 
-shape_served : (entries : ℕ) (terms : Terms) (max_text : ℕ) (ns : List Node) (s : ShapeData) → Suits terms max_text ns → ((P : FieldData → Type 0) → AnyField P s → SomeField P ns)
+shape_served : (entries : ℕ) (terms : Terms) (max_text : ℕ) (ns : List Node) (s : ShapeData) → Suits terms max_text ns
+    → ((P : FieldData → Type 0) → AnyField P s → SomeField P ns)
     → IsUsableShape entries s → ServesShape entries terms s
 shape_served entries terms max_text ns (a_field f) suits among usable = field_served entries terms max_text ns f suits among usable
 shape_served entries terms max_text ns (a_decimal e m) suits among usable =
@@ -102,12 +106,14 @@ shape_served entries terms max_text ns (a_decimal e m) suits among usable =
       m_kind,
     )
 shape_served entries terms max_text ns (a_group optional body) suits among usable = tt
-shape_served entries terms max_text ns (a_sequence length body) suits among usable = (field_served entries terms max_text ns length suits among usable.0, usable.1)
+shape_served entries terms max_text ns (a_sequence length body) suits among usable =
+    (field_served entries terms max_text ns length suits among usable.0, usable.1)
 
 -- It serves all nodes.
 pub nodes_served : (entries : ℕ) (terms : Terms) (max_text : ℕ) (ns : List Node) → Suits terms max_text ns → AreUsable entries ns → ServesNodes entries terms ns
 nodes_served entries terms max_text ns suits usable n v found =
-    shape_served entries terms max_text ns (shape_data v.shape) suits (λ P any. (n, v, found, any)) (usable_shape entries (shape_data v.shape) (usable n v found))
+    shape_served entries terms max_text ns (shape_data v.shape) suits (λ P any. (n, v, found, any))
+    (usable_shape entries (shape_data v.shape) (usable n v found))
 
 -- So does the dictionary that is made with the marks of a set.
 pub slots_serve : {E : Type 0} (made : Result Slots E) (entries max_text : ℕ) (marks : List Bool) (ns : List Node)

@@ -30,7 +30,8 @@ head nodes (m ∷ ns) n v later first found =
       body = ap (λ k. body_among nodes (k ∷ ns)) same ∙ body_step nodes n ns v later found;
     }
 
-by_shape : (nodes : List Node) (ns : List ℕ) (n : ℕ) (v : Node) (s : Shape) → Head nodes ns n v → v.shape ≡ s → body_among nodes ns ≡ step (instruction_among nodes (label_of n v) s) (body_among nodes (drop 1 ns))
+by_shape : (nodes : List Node) (ns : List ℕ) (n : ℕ) (v : Node) (s : Shape) → Head nodes ns n v → v.shape ≡ s
+    → body_among nodes ns ≡ step (instruction_among nodes (label_of n v) s) (body_among nodes (drop 1 ns))
 by_shape nodes ns n v s h e = h.body ∙ ap (λ x. step (instruction_among nodes (label_of n v) x) (body_among nodes (drop 1 ns))) e
 
 module _ (t : Templates) (c : CursorData) (n : ℕ) (v : Node) (first : first_node c.left ≡ Some n) (found : slice_get t.nodes.items n ≡ Some v) where
@@ -48,7 +49,10 @@ module _ (t : Templates) (c : CursorData) (n : ℕ) (v : Node) (first : first_no
   parts_head x m e = (label_of n v, refl, here.some, by_shape t.nodes.items c.left n v (Decimal x m) here e)
 
   pub group_head : (optional : Bool) (body : _) (ns : List ℕ) → v.shape ≡ Group optional body → ns ≡ body.items → IsAtGroup (set_of t) c n optional ns
-  group_head optional body ns e same = subst (λ (xs : List ℕ). IsAtGroup (set_of t) c n optional xs) (sym same) (label_of n v, refl, here.some, by_shape t.nodes.items c.left n v (Group optional body) here e)
+  group_head optional body ns e same = subst (λ (xs : List ℕ). IsAtGroup (set_of t) c n optional xs) (sym same)
+      (label_of n v, refl, here.some, by_shape t.nodes.items c.left n v (Group optional body) here e)
 
-  pub sequence_head : (f : FieldInstruction) (body : _) (ns : List ℕ) → v.shape ≡ Sequence f body → ns ≡ body.items → IsAtSequence (set_of t) c n (field_data f) ns
-  sequence_head f body ns e same = subst (λ (xs : List ℕ). IsAtSequence (set_of t) c n (field_data f) xs) (sym same) (label_of n v, refl, here.some, by_shape t.nodes.items c.left n v (Sequence f body) here e)
+  pub sequence_head : (f : FieldInstruction) (body : _) (ns : List ℕ) → v.shape ≡ Sequence f body → ns ≡ body.items
+      → IsAtSequence (set_of t) c n (field_data f) ns
+  sequence_head f body ns e same = subst (λ (xs : List ℕ). IsAtSequence (set_of t) c n (field_data f) xs) (sym same)
+      (label_of n v, refl, here.some, by_shape t.nodes.items c.left n v (Sequence f body) here e)

@@ -1,6 +1,7 @@
 -- The template that an identifier names, and the field of the identifier.
 use Rattle.std.proofs.Common.{refl, sym, ap, ◌∙◌, subst, arith, inl, inr}
-use Rattle.std.specs.Prelude.{◌≡◌, ◌≢◌, ℕ, zero, suc, ◌+◌, ◌<◌, ◌≤◌, Bool, true, false, ◌&&◌, not, nat_le, nat_eq, nat_abs, if◌then◌else◌, IsTrue, ◌↔◌, map, List, [], ◌∷◌, length, drop, slice_get, Option, Some, None, option_map, Result, Ok, Err}
+use Rattle.std.specs.Prelude.{◌≡◌, ◌≢◌, ℕ, zero, suc, ◌+◌, ◌<◌, ◌≤◌, Bool, true, false, ◌&&◌, not, nat_le, nat_eq, nat_abs, if◌then◌else◌}
+use Rattle.std.specs.Prelude.{IsTrue, ◌↔◌, map, List, [], ◌∷◌, length, drop, slice_get, Option, Some, None, option_map, Result, Ok, Err}
 use Rattle.std.proofs.lemmas.Bool.Decides.{eqb_tells}
 use Rattle.fast_wire.specs.meaning.Maps.{bytes_for, bits, first_bit, later_bits}
 use Rattle.fast_value.specs.meaning.Kinds.{ScalarData, integer_of}
@@ -49,9 +50,11 @@ has_id-own : (own : Option ℕ) (id : ℕ) → own ≡ Some id → has_id own id
 has_id-own own id h = ap (λ o. has_id o id) h ∙ same_eq id
 
 -- No template has the identifier.
-with_id-none : (id k : ℕ) (is : List Instruction) (ts : List Template) → ((j : ℕ) (t : Template) → slice_get ts j ≡ Some t → t.id ≢ Some id) → with_id id k (map (template_data is) ts) ≡ Err D9
+with_id-none : (id k : ℕ) (is : List Instruction) (ts : List Template)
+    → ((j : ℕ) (t : Template) → slice_get ts j ≡ Some t → t.id ≢ Some id) → with_id id k (map (template_data is) ts) ≡ Err D9
 with_id-none id k is [] h = refl
-with_id-none id k is (t ∷ ts) h = ap (λ b. if b then Ok (k, template_data is t) else with_id id (suc k) (map (template_data is) ts)) (has_id-other t.id id (h 0 t refl)) ∙ with_id-none id (suc k) is ts (λ j u e. h (suc j) u e)
+with_id-none id k is (t ∷ ts) h = ap (λ b. if b then Ok (k, template_data is t) else with_id id (suc k) (map (template_data is) ts))
+    (has_id-other t.id id (h 0 t refl)) ∙ with_id-none id (suc k) is ts (λ j u e. h (suc j) u e)
 
 -- The first template that has the identifier.
 with_id-first : (id k : ℕ) (is : List Instruction) (ts : List Template) (i : ℕ) (t : Template) → slice_get ts i ≡ Some t → t.id ≡ Some id
@@ -60,7 +63,8 @@ with_id-first id k is [] i t e found first = absurd (cc e)
 with_id-first id k is (u ∷ us) zero t e found first =
     let same : u ≡ t = cc e in
     let none : 0 + k ≡ k = omega arith in
-    ap (λ b. if b then Ok (k, template_data is u) else with_id id (suc k) (map (template_data is) us)) (has_id-own u.id id (ap (λ (v : Template). v.id) same ∙ found))
+    ap (λ b. if b then Ok (k, template_data is u) else with_id id (suc k) (map (template_data is) us))
+    (has_id-own u.id id (ap (λ (v : Template). v.id) same ∙ found))
     ∙ ap (λ (v : Template). Ok (k, template_data is v)) same ∙ ap (λ n. Ok (n, template_data is t)) (sym none)
 with_id-first id k is (u ∷ us) (suc i) t e found first =
     let more : i + suc k ≡ suc i + k = omega arith in
@@ -73,13 +77,16 @@ abbrev pub id_of : Option ScalarData → Option ℕ
 id_of v = option_map (λ x. nat_abs (integer_of x)) v
 
 -- The identifier is no template's.
-pub named_none : (set : Set) (v : Option ScalarData) → ((id j : ℕ) (t : Template) → id_of v ≡ Some id → slice_get set.templates j ≡ Some t → t.id ≢ Some id) → template_of (tree_in set) v ≡ Err D9
+pub named_none : (set : Set) (v : Option ScalarData) → ((id j : ℕ) (t : Template) → id_of v ≡ Some id → slice_get set.templates j ≡ Some t
+    → t.id ≢ Some id) → template_of (tree_in set) v ≡ Err D9
 named_none set None h = refl
-named_none set (Some v) h = with_id-none (nat_abs (integer_of v)) 0 (instructions_from 0 set.nodes) set.templates (λ j t e. h (nat_abs (integer_of v)) j t refl e)
+named_none set (Some v) h = with_id-none (nat_abs (integer_of v)) 0 (instructions_from 0 set.nodes) set.templates
+    (λ j t e. h (nat_abs (integer_of v)) j t refl e)
 
 -- It is that of a template.
 pub named_first : (set : Set) (v : Option ScalarData) (id i : ℕ) (t : Template) → id_of v ≡ Some id → slice_get set.templates i ≡ Some t → t.id ≡ Some id
-    → ((j : ℕ) (u : Template) → j < i → slice_get set.templates j ≡ Some u → u.id ≢ Some id) → template_of (tree_in set) v ≡ Ok (i, template_data (instructions_from 0 set.nodes) t)
+    → ((j : ℕ) (u : Template) → j < i → slice_get set.templates j ≡ Some u → u.id ≢ Some id)
+    → template_of (tree_in set) v ≡ Ok (i, template_data (instructions_from 0 set.nodes) t)
 named_first set None id i t e found own first = absurd (cc e)
 named_first set (Some v) id i t e found own first =
     let same : nat_abs (integer_of v) ≡ id = cc e in
@@ -110,10 +117,12 @@ width-fits true n m h = tested-yes (nat_le (length m) (bytes_for n)) h
 width-fits false n m h = refl
 
 -- A map has more bytes than a segment of so many bits can use, in strict mode; and any other.
-pub narrow-wide : {A : Type 0} (s : Bool) (n : ℕ) (m : List ℕ) (g : Grammar A) → (s && not (nat_le (length m) (bytes_for n))) ≡ true → reader_of s (narrow n m g) ≡ Stop R8
+pub narrow-wide : {A : Type 0} (s : Bool) (n : ℕ) (m : List ℕ) (g : Grammar A) → (s && not (nat_le (length m) (bytes_for n))) ≡ true
+    → reader_of s (narrow n m g) ≡ Stop R8
 narrow-wide s n m g h = ap (λ (v : Result (Unit {0}) Code). bind (settles_reader v) (λ _. reader_of s g)) (width-wide s n m h)
 
-pub narrow-fits : {A : Type 0} (s : Bool) (n : ℕ) (m : List ℕ) (g : Grammar A) → (s && not (nat_le (length m) (bytes_for n))) ≡ false → reader_of s (narrow n m g) ≡ reader_of s g
+pub narrow-fits : {A : Type 0} (s : Bool) (n : ℕ) (m : List ℕ) (g : Grammar A) → (s && not (nat_le (length m) (bytes_for n))) ≡ false
+    → reader_of s (narrow n m g) ≡ reader_of s g
 narrow-fits s n m g h = ap (λ (v : Result (Unit {0}) Code). bind (settles_reader v) (λ _. reader_of s g)) (width-fits s n m h)
 
 -- A whole map whose last of more than seven bits are zero, in strict mode; and any other.
@@ -133,7 +142,8 @@ module _ (set : Set) (s : Bool) (l : Bounds) (m : List ℕ) (v : Option ScalarDa
   -- Behind that of a template: its segment must not want a narrower map, and then its message begins.
   pub behind_known : (i : ℕ) (t : Template) → template_of (tree_in set) v ≡ Ok (i, template_data (instructions_from 0 set.nodes) t)
       → reader_of s (message_behind_then (tree_in set) l m (v, st))
-      ≡ reader_of s (narrow (message_bits (template_data (instructions_from 0 set.nodes) t)) m (message_of_then l i (template_data (instructions_from 0 set.nodes) t) st))
+      ≡ reader_of s (narrow (message_bits (template_data (instructions_from 0 set.nodes) t)) m
+      (message_of_then l i (template_data (instructions_from 0 set.nodes) t) st))
   behind_known i t e = ap (λ r. reader_of s (of_result r >>= (λ u. narrow (message_bits u.1) m (message_of_then l u.0 u.1 st)))) e
 
 -- The dictionary serves the identifier.
@@ -151,7 +161,8 @@ module _ (set : Set) (l : Limits) (m : Machine) (h : IsSupplied set l m) where
   entries_there = let n = slots_sized m.slots in let e = h.entries in let some = h.some_entry in omega (arith, n, e, some)
 
   pub identifier_served : Serves (length (slots_dictionary m.slots)) (slots_terms m.slots) (field_data m.identifier)
-  identifier_served = subst (λ f. Serves (length (slots_dictionary m.slots)) (slots_terms m.slots) f) (sym h.identifier) (serves_identifier (length (slots_dictionary m.slots)) (slots_terms m.slots) entries_there)
+  identifier_served = subst (λ f. Serves (length (slots_dictionary m.slots)) (slots_terms m.slots) f) (sym h.identifier)
+      (serves_identifier (length (slots_dictionary m.slots)) (slots_terms m.slots) entries_there)
 
 -- A cursor whose map is whole has used no bit.
 pub unused_bits : (c : CursorData) → c ≡ record (resting c) { map = c.map } → bits_left c ≡ bits c.map
@@ -166,19 +177,40 @@ not_sent : (l : Bounds) (p : PreviousData) → field_term l identifier p false �
 unfolding field_term
 not_sent l p = refl
 
-pub identifier_unsent : (l : Bounds) (p : PreviousData) (st : State) → first_bit st.bits ≡ false → field_term l identifier p (bit_of identifier st) ≡ of_result (decide identifier p (bit_of identifier st) nothing)
+pub identifier_unsent : (l : Bounds) (p : PreviousData) (st : State) → first_bit st.bits ≡ false
+    → field_term l identifier p (bit_of identifier st) ≡ of_result (decide identifier p (bit_of identifier st) nothing)
 identifier_unsent l p st h = ap (λ b. field_term l identifier p b) h ∙ not_sent l p ∙ ap (λ b. of_result (decide identifier p b nothing)) (sym h)
 
-pub decided_unsent : (p : PreviousData) (st : State) (r : Result Outcome Code) → first_bit st.bits ≡ false → decide identifier p false nothing ≡ r → decide identifier p (bit_of identifier st) nothing ≡ r
+pub decided_unsent : (p : PreviousData) (st : State) (r : Result Outcome Code) → first_bit st.bits ≡ false
+    → decide identifier p false nothing ≡ r → decide identifier p (bit_of identifier st) nothing ≡ r
 decided_unsent p st r h e = ap (λ b. decide identifier p b nothing) h ∙ e
 
 -- What is read behind an identifier, by the outcome of its field and by what the machine keeps.
-pub identified_by : (set : Set) (s : Bool) (l : Bounds) (d d' : Dictionary) (c : CursorData) (o : Outcome) (v : Option ScalarData) → c ≡ record (resting c) { map = c.map } → o.value ≡ v → d' ≡ write_at identifier.entry o.next d
+pub identified_by : (set : Set) (s : Bool) (l : Bounds) (d d' : Dictionary) (c : CursorData) (o : Outcome) (v : Option ScalarData)
+    → c ≡ record (resting c) { map = c.map } → o.value ≡ v → d' ≡ write_at identifier.entry o.next d
     → reader_of s (message_behind_then (tree_in set) l c.map (found identifier (begin d (bits c.map)) o)) ≡ reader_of s (identified_then set l v d' c)
 identified_by set s l d d' c o v e value dictionary =
-    ap (λ x. reader_of s (message_behind_then (tree_in set) l c.map (x, record { context = record { dictionary = write_at identifier.entry o.next d; counted = 0 }; bits = later_bits (bits c.map) }))) value
-    ∙ ap (λ x. reader_of s (message_behind_then (tree_in set) l c.map (v, record { context = record { dictionary = x; counted = 0 }; bits = later_bits (bits c.map) }))) (sym dictionary)
-    ∙ ap (λ b. reader_of s (message_behind_then (tree_in set) l c.map (v, record { context = record { dictionary = d'; counted = 0 }; bits = later_bits b }))) (sym (unused_bits c e))
+    ap (λ x. reader_of s (message_behind_then (tree_in set) l c.map (
+      x,
+      record {
+        context = record { dictionary = write_at identifier.entry o.next d; counted = 0 };
+        bits = later_bits (bits c.map);
+      },
+    ))) value
+    ∙ ap (λ x. reader_of s (message_behind_then (tree_in set) l c.map (
+      v,
+      record {
+        context = record { dictionary = x; counted = 0 };
+        bits = later_bits (bits c.map);
+      },
+    ))) (sym dictionary)
+    ∙ ap (λ b. reader_of s (message_behind_then (tree_in set) l c.map (
+      v,
+      record {
+        context = record { dictionary = d'; counted = 0 };
+        bits = later_bits b;
+      },
+    ))) (sym (unused_bits c e))
 
 -- What an identifier that stands in the stream turns to, it turns to in front of what follows it.
 module _ (set : Set) (s : Bool) (l : Bounds) (d : Dictionary) (m : List ℕ) (bit : first_bit (bits m) ≡ true) where
@@ -186,10 +218,13 @@ module _ (set : Set) (s : Bool) (l : Bounds) (d : Dictionary) (m : List ℕ) (bi
   abbrev pub sent_reader : Reader Outcome
   sent_reader = reader_of s (field_term l identifier (previous_at identifier.entry d) true)
 
-  sent_same : reader_of s (behind_map set l d m) ≡ bind sent_reader (λ o. reader_of s (message_behind_then (tree_in set) l m (found identifier (begin d (bits m)) o)))
+  sent_same : reader_of s (behind_map set l d m) ≡ bind sent_reader
+      (λ o. reader_of s (message_behind_then (tree_in set) l m (found identifier (begin d (bits m)) o)))
   sent_same = field_sent s l identifier (begin d (bits m)) (message_behind_then (tree_in set) l m) (identifier_sent (begin d (bits m)) bit)
 
-  pub sent_turns : (w : List ℕ) (o : Outcome) → Turns sent_reader w (Done o) → Turns (reader_of s (behind_map set l d m)) w (reader_of s (message_behind_then (tree_in set) l m (found identifier (begin d (bits m)) o)))
+  pub sent_turns : (w : List ℕ) (o : Outcome) → Turns sent_reader w (Done o)
+      → Turns (reader_of s (behind_map set l d m)) w (reader_of s
+      (message_behind_then (tree_in set) l m (found identifier (begin d (bits m)) o)))
   sent_turns w o h = turns_as sent_same refl (turns_done (λ x. reader_of s (message_behind_then (tree_in set) l m (found identifier (begin d (bits m)) x))) h)
 
   pub sent_stops : (w : List ℕ) (c : Code) → Turns sent_reader w (Stop c) → Turns (reader_of s (behind_map set l d m)) w (Stop c)

@@ -15,7 +15,8 @@ use Rattle.fast_units.specs.device.UnitFronts.{IsSent}
 use Rattle.fast_machine.specs.device.Positions.{bit_of}
 
 -- Its presence bit is set, or it has none.
-pub sent_by_bit : (f : FieldData) (st : State) (b : Bool) → f.operator ≢ Constant → uses_bit f ≡ b → (b ≡ false) ⊎ (first_bit st.bits ≡ true) → IsSent f (bit_of f st)
+pub sent_by_bit : (f : FieldData) (st : State) (b : Bool) → f.operator ≢ Constant → uses_bit f ≡ b
+    → (b ≡ false) ⊎ (first_bit st.bits ≡ true) → IsSent f (bit_of f st)
 sent_by_bit f st b varies is h = record {
   varies = varies;
   as_sent = λ l p. ap (field_term l f p) (set_by b is h);
@@ -31,6 +32,7 @@ module _ (t : Templates) (c : CursorData) (n : ℕ) (first : first_node c.left �
   pub node_here : (v : Node) × (slice_get t.nodes.items n ≡ Some v)
   node_here = by (slice_get_cases t.nodes.items n).1
     where
-      by : ((x : Node) × (n < length t.nodes.items) × (slice_get t.nodes.items n ≡ Some x) × (get_or t.nodes.items n x ≡ x)) ⊎ ((length t.nodes.items ≤ n) × (slice_get t.nodes.items n ≡ None)) → (v : Node) × (slice_get t.nodes.items n ≡ Some v)
+      by : ((x : Node) × (n < length t.nodes.items) × (slice_get t.nodes.items n ≡ Some x) × (get_or t.nodes.items n x ≡ x))
+          ⊎ ((length t.nodes.items ≤ n) × (slice_get t.nodes.items n ≡ None)) → (v : Node) × (slice_get t.nodes.items n ≡ Some v)
       by (inl (x, below, found, same)) = (x, found)
       by (inr (past, none)) = absurd (omega (arith, within, past))

@@ -20,7 +20,9 @@ use Rattle.fast_machine.specs.device.Serving.{ServesShape}
 use Rattle.fast_tree.specs.device.Bodies.{instruction_among}
 use Rattle.fast_units.specs.device.UnitFronts.{IsSent, IsAsciiFirst}
 use Rattle.fast_machine.specs.device.Scalars.{IsOfField, IsOfFieldLater}
-use Rattle.fast_machine.specs.device.Positions.{Set, body_in, state_in, IsSupplied, IsReady, bit_of, IsAtField, IsAtParts, IsAtSequence, BeginsWithInteger, BeginsWithText, GoesOnWithMantissa, GoesOnWithNumber, GoesOnWithBytes, CanTake}
+use Rattle.fast_machine.specs.device.Positions.{Set, body_in, state_in, IsSupplied, IsReady, bit_of, IsAtField, IsAtParts, IsAtSequence}
+use Rattle.fast_machine.specs.device.Positions.{BeginsWithInteger, BeginsWithText, GoesOnWithMantissa, GoesOnWithNumber, GoesOnWithBytes}
+use Rattle.fast_machine.specs.device.Positions.{CanTake}
 use Rattle.fast_units.specs.declared.stages.Stage.{Stage}
 use Rattle.fast_machine.specs.declared.machine.Machine.{Machine}
 use Rattle.fast_machine.specs.declared.machine.Waiting.{Waiting}
@@ -40,7 +42,8 @@ pub first_below : (limit : ℕ) (ns : List ℕ) (n : ℕ) → AreBelow limit ns 
 first_below limit [] n h e = absurd (cc e)
 first_below limit (k ∷ ns) n h e = let same : k ≡ n = cc e in subst (λ (i : ℕ). i < limit) same (h 0 (omega arith))
 
-module _ (set : Set) (c : CursorData) (n : ℕ) (v : Node) (later : NameLaterNodes set.nodes) (first : first_node c.left ≡ Some n) (found : slice_get set.nodes n ≡ Some v) where
+module _ (set : Set) (c : CursorData) (n : ℕ) (v : Node) (later : NameLaterNodes set.nodes) (first : first_node c.left ≡ Some n)
+    (found : slice_get set.nodes n ≡ Some v) where
   -- The next instruction by its node.
   pub next_is : body_in set c.left ≡ step (instruction_among set.nodes (label_of n v) v.shape) (body_in set (drop 1 c.left))
   next_is = (begins set.nodes c.left n v later first found).1
@@ -54,8 +57,10 @@ module _ (set : Set) (c : CursorData) (n : ℕ) (v : Node) (later : NameLaterNod
   pub at_parts_node : (x m : FieldInstruction) → v.shape ≡ Of.Decimal x m → IsAtParts set c n (field_data x) (field_data m)
   at_parts_node x m e = (label_of n v, refl, (begins set.nodes c.left n v later first found).0, next_as (Of.Decimal x m) e)
 
-  pub at_sequence_node : (x : FieldInstruction) (body : Vec ℕ Global) (ns : List ℕ) → v.shape ≡ Of.Sequence x body → ns ≡ body.items → IsAtSequence set c n (field_data x) ns
-  at_sequence_node x body ns e same = subst (λ (is : List ℕ). IsAtSequence set c n (field_data x) is) (sym same) (label_of n v, refl, (begins set.nodes c.left n v later first found).0, next_as (Of.Sequence x body) e)
+  pub at_sequence_node : (x : FieldInstruction) (body : Vec ℕ Global) (ns : List ℕ) → v.shape ≡ Of.Sequence x body → ns ≡ body.items
+      → IsAtSequence set c n (field_data x) ns
+  at_sequence_node x body ns e same = subst (λ (is : List ℕ). IsAtSequence set c n (field_data x) is) (sym same)
+      (label_of n v, refl, (begins set.nodes c.left n v later first found).0, next_as (Of.Sequence x body) e)
 
   -- A group does not begin with an integer.
   pub no_group : (st : State) (optional : Bool) (body : Vec ℕ Global) → v.shape ≡ Of.Group optional body → BeginsWithInteger (body_in set c.left) st → ⊥
@@ -70,25 +75,29 @@ abbrev pub IsDecimal : Shape → Type 0
 IsDecimal (Of.Decimal e m) = Unit {0}
 IsDecimal s = ⊥
 
-text_field : (l : Limits) (nodes : List Node) (at : Label) (s : Shape) (is : Body) (st : State) (front : List ℕ) → BeginsWithText l (step (instruction_among nodes at s) is) st front → IsField s
+text_field : (l : Limits) (nodes : List Node) (at : Label) (s : Shape) (is : Body) (st : State) (front : List ℕ)
+    → BeginsWithText l (step (instruction_among nodes at s) is) st front → IsField s
 text_field l nodes at (Of.Field f) is st front h = tt
 text_field l nodes at (Of.Decimal e m) is st front h = absurd h
 text_field l nodes at (Of.Group optional body) is st front h = absurd h
 text_field l nodes at (Of.Sequence length body) is st front h = absurd h
 
-number_field : (l : Limits) (nodes : List Node) (at : Label) (s : Shape) (is : Body) (st : State) (stage : Stage) → GoesOnWithNumber l (step (instruction_among nodes at s) is) st stage → IsField s
+number_field : (l : Limits) (nodes : List Node) (at : Label) (s : Shape) (is : Body) (st : State) (stage : Stage)
+    → GoesOnWithNumber l (step (instruction_among nodes at s) is) st stage → IsField s
 number_field l nodes at (Of.Field f) is st stage h = tt
 number_field l nodes at (Of.Decimal e m) is st stage h = absurd h
 number_field l nodes at (Of.Group optional body) is st stage h = absurd h
 number_field l nodes at (Of.Sequence length body) is st stage h = absurd h
 
-bytes_field : (l : Limits) (nodes : List Node) (at : Label) (s : Shape) (is : Body) (st : State) (stage : Stage) (front : List ℕ) → GoesOnWithBytes l (step (instruction_among nodes at s) is) st stage front → IsField s
+bytes_field : (l : Limits) (nodes : List Node) (at : Label) (s : Shape) (is : Body) (st : State) (stage : Stage) (front : List ℕ)
+    → GoesOnWithBytes l (step (instruction_among nodes at s) is) st stage front → IsField s
 bytes_field l nodes at (Of.Field f) is st stage front h = tt
 bytes_field l nodes at (Of.Decimal e m) is st stage front h = absurd h
 bytes_field l nodes at (Of.Group optional body) is st stage front h = absurd h
 bytes_field l nodes at (Of.Sequence length body) is st stage front h = absurd h
 
-mantissa_decimal : (nodes : List Node) (at : Label) (s : Shape) (is : Body) (st : State) → GoesOnWithMantissa (step (instruction_among nodes at s) is) st → IsDecimal s
+mantissa_decimal : (nodes : List Node) (at : Label) (s : Shape) (is : Body) (st : State)
+    → GoesOnWithMantissa (step (instruction_among nodes at s) is) st → IsDecimal s
 mantissa_decimal nodes at (Of.Field f) is st h = absurd h
 mantissa_decimal nodes at (Of.Decimal e m) is st h = tt
 mantissa_decimal nodes at (Of.Group optional body) is st h = absurd h
@@ -110,7 +119,8 @@ is_later w (inl is) = subst IsOfFieldLater (sym is) tt
 is_later w (inr (inl (stage, is))) = subst IsOfFieldLater (sym is) tt
 is_later w (inr (inr (stage, is))) = subst IsOfFieldLater (sym is) tt
 
-module _ (set : Set) (l : Limits) (m : Machine) (n : ℕ) (v : Node) (later : NameLaterNodes set.nodes) (first : first_node m.cursor.left ≡ Some n) (found : slice_get set.nodes n ≡ Some v) where
+module _ (set : Set) (l : Limits) (m : Machine) (n : ℕ) (v : Node) (later : NameLaterNodes set.nodes)
+    (first : first_node m.cursor.left ≡ Some n) (found : slice_get set.nodes n ≡ Some v) where
   abbrev here : State
   here = state_in (slots_dictionary m.slots) m.counted m.cursor
 
@@ -120,14 +130,19 @@ module _ (set : Set) (l : Limits) (m : Machine) (n : ℕ) (v : Node) (later : Na
   later_field Identifier of h = absurd of
   later_field (SegmentMap width) of h = absurd of
   later_field Field of h = absurd of
-  later_field Text of h = text_field l set.nodes (label_of n v) v.shape (body_in set (drop 1 m.cursor.left)) here m.text.text (subst (λ (b : Body). BeginsWithText l b here m.text.text) (next_is set m.cursor n v later first found) h.3)
-  later_field (Number stage) of h = number_field l set.nodes (label_of n v) v.shape (body_in set (drop 1 m.cursor.left)) here stage (subst (λ (b : Body). GoesOnWithNumber l b here stage) (next_is set m.cursor n v later first found) h.2)
-  later_field (Bytes stage) of h = bytes_field l set.nodes (label_of n v) v.shape (body_in set (drop 1 m.cursor.left)) here stage m.text.text (subst (λ (b : Body). GoesOnWithBytes l b here stage m.text.text) (next_is set m.cursor n v later first found) h.3)
+  later_field Text of h = text_field l set.nodes (label_of n v) v.shape (body_in set (drop 1 m.cursor.left)) here m.text.text
+      (subst (λ (b : Body). BeginsWithText l b here m.text.text) (next_is set m.cursor n v later first found) h.3)
+  later_field (Number stage) of h = number_field l set.nodes (label_of n v) v.shape (body_in set (drop 1 m.cursor.left)) here stage
+      (subst (λ (b : Body). GoesOnWithNumber l b here stage) (next_is set m.cursor n v later first found) h.2)
+  later_field (Bytes stage) of h = bytes_field l set.nodes (label_of n v) v.shape
+      (body_in set (drop 1 m.cursor.left)) here stage m.text.text
+      (subst (λ (b : Body). GoesOnWithBytes l b here stage m.text.text) (next_is set m.cursor n v later first found) h.3)
   later_field (Mantissa x) of h = absurd of
 
   -- A mantissa is one of a decimal by parts.
   pub mantissa_parts : GoesOnWithMantissa (body_in set m.cursor.left) here → IsDecimal v.shape
-  mantissa_parts h = mantissa_decimal set.nodes (label_of n v) v.shape (body_in set (drop 1 m.cursor.left)) here (subst (λ (b : Body). GoesOnWithMantissa b here) (next_is set m.cursor n v later first found) h)
+  mantissa_parts h = mantissa_decimal set.nodes (label_of n v) v.shape (body_in set (drop 1 m.cursor.left)) here
+      (subst (λ (b : Body). GoesOnWithMantissa b here) (next_is set m.cursor n v later first found) h)
 
 -- What is no field, and what is no decimal by parts.
 pub not_field : (s : Shape) → IsField s → ((f : FieldInstruction) → s ≡ Of.Field f → ⊥) → ⊥
@@ -143,11 +158,17 @@ not_decimal (Of.Group optional body) h never = absurd h
 not_decimal (Of.Sequence length body) h never = absurd h
 
 -- A machine that took a unit is at the same instruction.
-pub still_at_field : (set : Set) (m a : Machine) (n : ℕ) (f : FieldData) → a ≡ record m { slots = a.slots; entity = a.entity; text = a.text; joined = a.joined } → IsAtField set m.cursor n f → IsAtField set a.cursor n f
+pub still_at_field : (set : Set) (m a : Machine) (n : ℕ) (f : FieldData) → a ≡ record m {
+  slots = a.slots;
+  entity = a.entity;
+  text = a.text;
+  joined = a.joined;
+} → IsAtField set m.cursor n f → IsAtField set a.cursor n f
 still_at_field set m a n f same h = subst (λ (x : Machine). IsAtField set x.cursor n f) (sym same) h
 
 -- The dictionary serves what stands at a node.
-pub served_node : (set : Set) (l : Limits) (m : Machine) (n : ℕ) (v : Node) (s : Shape) → IsSupplied set l m → slice_get set.nodes n ≡ Some v → v.shape ≡ s → ServesShape set.entries (slots_terms m.slots) (shape_data s)
+pub served_node : (set : Set) (l : Limits) (m : Machine) (n : ℕ) (v : Node) (s : Shape) → IsSupplied set l m
+    → slice_get set.nodes n ≡ Some v → v.shape ≡ s → ServesShape set.entries (slots_terms m.slots) (shape_data s)
 served_node set l m n v s h found e = subst (λ (x : Shape). ServesShape set.entries (slots_terms m.slots) (shape_data x)) e (h.serves n v found)
 
 -- Where a machine waits for the first integer of a field, the field stands in the stream, and is no ASCII text.

@@ -16,7 +16,8 @@ use Rattle.fast_dict.specs.meaning.Operators.{Outcome, nothing, decide}
 use Rattle.fast_stream.specs.device.Readers.{Stop, bind}
 use Rattle.fast_stream.specs.meaning.Grammar.{Grammar, give, integer, ascii_text, ◌>>=◌, of_result}
 use Rattle.fast_stream.specs.device.GrammarReaders.{integer_reader, ascii_text_reader, reader_of}
-use Rattle.fast_stream.specs.meaning.Fields.{text, sized, sent_integer, sent_text, decimal_from, integer_change, decimal_change, text_change, item_in, item, change_in, sent, field_by, field_term}
+use Rattle.fast_stream.specs.meaning.Fields.{text, sized, sent_integer, sent_text, decimal_from, integer_change, decimal_change}
+use Rattle.fast_stream.specs.meaning.Fields.{text_change, item_in, item, change_in, sent, field_by, field_term}
 use Rattle.fast_stream.specs.meaning.Messages.{State, Found, field_in, found}
 use Rattle.fast_units.specs.device.Taking.{Waits}
 use Rattle.fast_units.specs.device.UnitFronts.{IsSent}
@@ -25,7 +26,8 @@ use Rattle.fast_stream.proofs.readers.Grammars.{bind-assoc, reader-then}
 use Rattle.fast_units.proofs.Turning.{waits_on}
 
 -- A term that begins with an integer or a text waits, whatever follows it.
-pub integer_waits : {A : Type 0} (s : Bool) (range : Range) (nullable : Bool) (c : Code) (g : Option ℤ → Grammar A) → Waits (reader_of s (integer range nullable c g))
+pub integer_waits : {A : Type 0} (s : Bool) (range : Range) (nullable : Bool) (c : Code) (g : Option ℤ → Grammar A)
+    → Waits (reader_of s (integer range nullable c g))
 unfolding integer_reader
 integer_waits s range nullable c g = (_, refl)
 
@@ -93,18 +95,23 @@ pub field_sent : {A : Type 0} (s : Bool) (l : Bounds) (f : FieldData) (st : Stat
 field_sent s l f st k h = field_then s l f st k ∙ ap (λ g. bind (reader_of s g) (λ o. reader_of s (k (found f st o)))) (h.as_sent l (before f st))
 
 -- It waits for a byte.
-pub field_sent_waits : {A : Type 0} (s : Bool) (l : Bounds) (f : FieldData) (st : State) (k : Found → Grammar A) → IsSent f (bit_of f st) → Waits (reader_of s (field_in l f st >>= k))
-field_sent_waits s l f st k h = subst Waits (sym (field_sent s l f st k h)) (waits_on (reader_of s (field_term l f (before f st) true)) (λ o. reader_of s (k (found f st o))) (field_waits s l f (before f st) h.varies))
+pub field_sent_waits : {A : Type 0} (s : Bool) (l : Bounds) (f : FieldData) (st : State) (k : Found → Grammar A) → IsSent f (bit_of f st)
+    → Waits (reader_of s (field_in l f st >>= k))
+field_sent_waits s l f st k h = subst Waits (sym (field_sent s l f st k h))
+    (waits_on (reader_of s (field_term l f (before f st) true)) (λ o. reader_of s (k (found f st o)))
+    (field_waits s l f (before f st) h.varies))
 
 -- A field of which nothing is sent, and what is decided for it.
 pub field_unsent : {A : Type 0} (s : Bool) (l : Bounds) (f : FieldData) (st : State) (k : Found → Grammar A) (o : Outcome)
-    → field_term l f (before f st) (bit_of f st) ≡ of_result (decide f (before f st) (bit_of f st) nothing) → decide f (before f st) (bit_of f st) nothing ≡ Ok o
+    → field_term l f (before f st) (bit_of f st) ≡ of_result (decide f (before f st) (bit_of f st) nothing)
+    → decide f (before f st) (bit_of f st) nothing ≡ Ok o
     → reader_of s (field_in l f st >>= k) ≡ reader_of s (k (found f st o))
 field_unsent s l f st k o e i =
     field_then s l f st k ∙ ap (λ g. bind (reader_of s g) (λ x. reader_of s (k (found f st x)))) (e ∙ ap of_result i)
 
 pub field_at_fault : {A : Type 0} (s : Bool) (l : Bounds) (f : FieldData) (st : State) (k : Found → Grammar A) (c : Code)
-    → field_term l f (before f st) (bit_of f st) ≡ of_result (decide f (before f st) (bit_of f st) nothing) → decide f (before f st) (bit_of f st) nothing ≡ Err c
+    → field_term l f (before f st) (bit_of f st) ≡ of_result (decide f (before f st) (bit_of f st) nothing)
+    → decide f (before f st) (bit_of f st) nothing ≡ Err c
     → reader_of s (field_in l f st >>= k) ≡ Stop c
 field_at_fault s l f st k c e i =
     field_then s l f st k ∙ ap (λ g. bind (reader_of s g) (λ x. reader_of s (k (found f st x)))) (e ∙ ap of_result i)

@@ -39,19 +39,36 @@ abbrev waiting : Machine → Machine
 waiting m = record m { waiting = Map; cursor = resting m.cursor }
 
 -- Its map is whole then.
-pub behind_map : (set : Set) (l : Limits) (m : Machine) (rest : List ℕ) → IsSupplied set l m → m.entity.bytes ≡ [] → IsEntity (take 1 rest) → IsBehindMap set l (mapped_by m rest)
+pub behind_map : (set : Set) (l : Limits) (m : Machine) (rest : List ℕ) → IsSupplied set l m → m.entity.bytes ≡ [] → IsEntity (take 1 rest)
+    → IsBehindMap set l (mapped_by m rest)
 behind_map set l m rest h unused map = record {
-  supplied = supplied_like set l m (mapped_by m rest) h (record { terms = refl; text = refl; joined = refl; identifier = refl; rests = refl; latest = refl }) h.counted;
+  supplied = supplied_like set l m (mapped_by m rest) h (record {
+    terms = refl;
+    text = refl;
+    joined = refl;
+    identifier = refl;
+    rests = refl;
+    latest = refl;
+  }) h.counted;
   map = map;
   outermost = refl;
   unused = unused;
 }
 
-module _ (set : Set) (l : Limits) (m : Machine) (rest : List ℕ) (h : IsSupplied set l m) (unused : m.entity.bytes ≡ []) (some : 0 < length rest) (stop : 128 ≤ get_or rest 0 0)
-    (id i : ℕ) (t : Template) (found : slice_get set.templates i ≡ Some t) (own : t.id ≡ Some id) (first : (j : ℕ) (u : Template) → j < i → slice_get set.templates j ≡ Some u → u.id ≢ Some id) where
+module _ (set : Set) (l : Limits) (m : Machine) (rest : List ℕ) (h : IsSupplied set l m) (unused : m.entity.bytes ≡ [])
+    (some : 0 < length rest) (stop : 128 ≤ get_or rest 0 0)
+    (id i : ℕ) (t : Template) (found : slice_get set.templates i ≡ Some t) (own : t.id ≡ Some id)
+    (first : (j : ℕ) (u : Template) → j < i → slice_get set.templates j ≡ Some u → u.id ≢ Some id) where
   ready : IsReady set l (waiting m)
   ready = record {
-    supplied = supplied_like set l m (waiting m) h (record { terms = refl; text = refl; joined = refl; identifier = refl; rests = refl; latest = refl }) h.counted;
+    supplied = supplied_like set l m (waiting m) h (record {
+      terms = refl;
+      text = refl;
+      joined = refl;
+      identifier = refl;
+      rests = refl;
+      latest = refl;
+    }) h.counted;
     takes = (below-nil, omega arith, unused, refl);
   }
 
@@ -62,7 +79,8 @@ module _ (set : Set) (l : Limits) (m : Machine) (rest : List ℕ) (h : IsSupplie
   taken = let one = length_one rest in (omega arith, omega (arith, some), omega (arith, one), one_entity rest some stop, refl)
 
   -- The identifier is the one that its entry holds.
-  pub ahead_again : previous_at (Some 0) (slots_dictionary m.slots) ≡ assigned UInt32 (U id) → get_or rest 0 0 < 192 → IsMessageAhead set l (slots_dictionary m.slots) (slots_dictionary m.slots) rest i 1
+  pub ahead_again : previous_at (Some 0) (slots_dictionary m.slots) ≡ assigned UInt32 (U id) → get_or rest 0 0 < 192
+      → IsMessageAhead set l (slots_dictionary m.slots) (slots_dictionary m.slots) rest i 1
   ahead_again held low = record {
     template = t;
     found = found;
@@ -73,7 +91,8 @@ module _ (set : Set) (l : Limits) (m : Machine) (rest : List ℕ) (h : IsSupplie
   }
 
   -- It stands behind the map.
-  pub ahead_sent : (n : ℕ) (d : Dictionary) → IsFirstInt (λ y. Some (pos y)) l.strict (unsigned_up_to 4294967295) false (First.Whole id n) (drop 1 rest) → d ≡ write_at (Some 0) (assigned UInt32 (U id)) (slots_dictionary m.slots)
+  pub ahead_sent : (n : ℕ) (d : Dictionary) → IsFirstInt (λ y. Some (pos y)) l.strict (unsigned_up_to 4294967295) false (First.Whole id n)
+      (drop 1 rest) → d ≡ write_at (Some 0) (assigned UInt32 (U id)) (slots_dictionary m.slots)
       → 192 ≤ get_or rest 0 0 → get_or rest 0 0 < 256 → IsMessageAhead set l (slots_dictionary m.slots) d rest i (1 + n)
   ahead_sent n d whole kept high byte =
       let len : length (drop 1 rest) ≡ length rest - 1 = length-drop 1 rest in

@@ -20,4 +20,11 @@ module _ (set : Set) (l : Limits) (m : Machine) (t : Turns) (w : Waiting) (waits
   can_take ready = subst (λ (v : Waiting). CanTake v set l m) waits ready.takes
 
   pub counted_ready : IsReady set l m → CanTake w set l counted → IsReady set l counted
-  counted_ready ready can = ready_at set l counted w (supplied_like set l m counted ready.supplied (record { terms = refl; text = refl; joined = refl; identifier = refl; rests = refl; latest = refl }) ready.supplied.counted) waits can
+  counted_ready ready can = ready_at set l counted w (supplied_like set l m counted ready.supplied (record {
+    terms = refl;
+    text = refl;
+    joined = refl;
+    identifier = refl;
+    rests = refl;
+    latest = refl;
+  }) ready.supplied.counted) waits can

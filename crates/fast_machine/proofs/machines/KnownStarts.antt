@@ -28,7 +28,8 @@ start_with ts s id (t, found, is, named, its) same =
     }
 
 -- The start of the first template with the identifier, by its number.
-pub start_numbered : (set : Set) (id i : ℕ) (s : Start) (t u : Template) → s.number ≡ i → slice_get set.templates i ≡ Some u → IsStartOf set.program s u → slice_get set.templates i ≡ Some t → t.id ≡ Some id
+pub start_numbered : (set : Set) (id i : ℕ) (s : Start) (t u : Template) → s.number ≡ i → slice_get set.templates i ≡ Some u
+    → IsStartOf set.program s u → slice_get set.templates i ≡ Some t → t.id ≡ Some id
     → ((j : ℕ) (v : Template) → j < i → slice_get set.templates j ≡ Some v → v.id ≢ Some id) → IsStartWith set id s
 start_numbered set id i s t u number there is found own first =
     let both : Some u ≡ Some t = sym there ∙ found in
@@ -46,7 +47,8 @@ pub start_in : (set : Set) (id : ℕ) (s : Start) → IsStartWith set id s → I
 start_in set id s w = (w.template, w.found, w.is, id, w.own)
 
 -- With another start that it knows a machine has all that it needs.
-pub supplied_latest : (set : Set) (l : Limits) (m : Machine) (latest : Option (Bor Start)) → IsSupplied set l m → IfSome latest (λ s. IsStartIn set s.now) → IsSupplied set l (record m { latest = latest })
+pub supplied_latest : (set : Set) (l : Limits) (m : Machine) (latest : Option (Bor Start)) → IsSupplied set l m
+    → IfSome latest (λ s. IsStartIn set s.now) → IsSupplied set l (record m { latest = latest })
 supplied_latest set l m latest h known = record {
   entries = h.entries;
   serves = h.serves;

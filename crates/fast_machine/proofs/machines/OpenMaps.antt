@@ -28,12 +28,17 @@ use Rattle.fast_machine.proofs.steps.TurnCounts.{one_unit}
 use Rattle.fast_units.proofs.Turning.{turns_as}
 
 module _ (set : Set) (l : Limits) (m : Machine) (width : ℕ) (c : CursorData) (turns : TurnCount) (rest : List ℕ) (n : ℕ)
-    (waits : m.waiting ≡ SegmentMap width) (ready : IsReady set l m) (taken : IsMapTaken m.cursor.map rest c.map (Whole n)) (fit : IsFitMap l.strict width c.map) (same : c ≡ record m.cursor { map = c.map }) where
+    (waits : m.waiting ≡ SegmentMap width) (ready : IsReady set l m) (taken : IsMapTaken m.cursor.map rest c.map (Whole n))
+    (fit : IsFitMap l.strict width c.map) (same : c ≡ record m.cursor { map = c.map }) where
   can : CanTake (SegmentMap width) set l m
   can = subst (λ (w : Waiting). CanTake w set l m) waits ready.takes
 
   -- The map of a segment is whole, and the segment goes on.
-  pub map_read : Turns (reader_of l.strict (segment_behind set (bounds l) (slots_dictionary m.slots) m.counted m.cursor width)) (m.cursor.map ++ take n rest) (turning set l (record m { cursor = c; turns = turns }))
+  pub map_read : Turns (reader_of l.strict (segment_behind set (bounds l) (slots_dictionary m.slots) m.counted m.cursor width))
+      (m.cursor.map ++ take n rest) (turning set l (record m {
+        cursor = c;
+        turns = turns;
+      }))
   map_read =
       let d = slots_dictionary m.slots in
       let w : List ℕ = m.cursor.map ++ take n rest in
@@ -58,7 +63,16 @@ module _ (set : Set) (l : Limits) (m : Machine) (width : ℕ) (c : CursorData) (
     unused = can.2;
   }
 
-  pub map_counted : (way : Way) (j : ℕ) → turns.count ≡ m.turns.count + 1 → HasTurns way set l 0 j m → HasTurns way set l 0 (1 + j) (record m { cursor = c; turns = turns })
+  pub map_counted : (way : Way) (j : ℕ) → turns.count ≡ m.turns.count + 1 → HasTurns way set l 0 j m → HasTurns way set l 0 (1 + j) (record m {
+    cursor = c;
+    turns = turns;
+  })
   map_counted way j more h =
       let one = one_unit way set l 0 j m.turns.count turns.count m.counted m.cursor more h in
-      subst (λ (x : CursorData). IsWithinTurns way set l 0 (1 + j) turns.count m.counted x) (sym same) (record { each = one.each; body = one.body; frames = one.frames; most = one.most; all = one.all })
+      subst (λ (x : CursorData). IsWithinTurns way set l 0 (1 + j) turns.count m.counted x) (sym same) (record {
+        each = one.each;
+        body = one.body;
+        frames = one.frames;
+        most = one.most;
+        all = one.all;
+      })

@@ -54,13 +54,17 @@ use Rattle.fast_machine.proofs.machines.UnitTaken.{taken_to, can_take_field}
 use Rattle.fast_machine.proofs.machines.ScalarMachines.{whole_here, still_supplied}
 use Rattle.fast_machine.proofs.machines.ScalarSteps.{goes_on_moved, supplied_moved}
 
-module _ {S : Type 0} (takes stops : S → EventData → S → Type 0) (set : Set) (l : Limits) (m b : Machine) (node : ℕ) (f : FieldData) (rest : List ℕ) (item : Option Number) (n : ℕ) (h : IsSentItem set l m b node f rest item n) where
+module _ {S : Type 0} (takes stops : S → EventData → S → Type 0) (set : Set) (l : Limits) (m b : Machine) (node : ℕ) (f : FieldData)
+    (rest : List ℕ) (item : Option Number) (n : ℕ) (h : IsSentItem set l m b node f rest item n) where
   -- The machine with the number kept stands between two units.
   kept_turn : (t : Turns) → CanTurn set l (record b { turns = t })
   kept_turn t = subst (λ (x : Machine). CanTurn set l (record x { turns = t })) (sym h.kept) (
       let can = can_take_field set l m h.waits h.ready in
       record {
-        supplied = supplied-turns set l (record m { slots = b.slots; entity = b.entity }) t (still_supplied set l m b.slots b.entity m.text m.joined h.terms refl refl h.ready.supplied);
+        supplied = supplied-turns set l (record m {
+          slots = b.slots;
+          entity = b.entity;
+        }) t (still_supplied set l m b.slots b.entity m.text m.joined h.terms refl refl h.ready.supplied);
         placed = can.0;
         mapped = can.1;
         unused = h.none;
@@ -73,16 +77,25 @@ module _ {S : Type 0} (takes stops : S → EventData → S → Type 0) (set : Se
 
   -- What a turn behind the number moves, the field's unit moves.
   pub item_taken : (t : Turns) (s : S) (result : Result Turn FaultCode) (s' : S) (a : Machine)
-      → Moves takes stops (reader_of l.strict (value_then set (bounds l) node (option_map number_data item) f (slots_dictionary b.slots) b.counted b.cursor)) s result s' (turning set l a) (meaning set l a)
+      → Moves takes stops (reader_of l.strict (value_then set (bounds l) node (option_map number_data item) f
+      (slots_dictionary b.slots) b.counted b.cursor)) s result s' (turning set l a) (meaning set l a)
       → a ≡ record b { turns = t; cursor = a.cursor } → resting a.cursor ≡ resting b.cursor → OnOk result (IsPast b.cursor a.cursor) → result ≢ Ok Waits
       → IsTakenTo takes stops set l (meaning set l m) rest s n result s' a
   item_taken t s result s' a moves same depth past on =
-      let unit = whole_here set l m f node Waiting.Field tt (can_take_field set l m h.waits h.ready) h.next b.slots b.entity m.text m.joined m.entity.bytes rest (Settled (source_of item)) n (h.unit m.text.text) in
+      let unit = whole_here set l m f node Waiting.Field tt
+      (can_take_field set l m h.waits h.ready) h.next b.slots b.entity m.text m.joined m.entity.bytes rest (Settled (source_of item)) n
+      (h.unit m.text.text) in
       let value = item_value item f (slots_dictionary b.slots) m.text.text (take n rest) in
-      let there : Reader Dictionary = reader_of l.strict (value_then set (bounds l) node (value_at (source_of item) f (slots_dictionary b.slots) m.text.text (take n rest)) f (slots_dictionary b.slots) m.counted m.cursor) in
+      let there : Reader Dictionary = reader_of l.strict (value_then set (bounds l) node
+      (value_at (source_of item) f (slots_dictionary b.slots) m.text.text (take n rest)) f
+      (slots_dictionary b.slots) m.counted m.cursor) in
       let moved : Moves takes stops there s result s' (turning set l a) (meaning set l a) =
-      subst (λ (v : Option ScalarData). Moves takes stops (reader_of l.strict (value_then set (bounds l) node v f (slots_dictionary b.slots) m.counted m.cursor)) s result s' (turning set l a) (meaning set l a)) (sym value)
-      (subst (λ (x : Machine). Moves takes stops (reader_of l.strict (value_then set (bounds l) node (option_map number_data item) f (slots_dictionary x.slots) x.counted x.cursor)) s result s' (turning set l a) (meaning set l a)) h.kept moves) in
+      subst (λ (v : Option ScalarData). Moves takes stops (reader_of l.strict
+      (value_then set (bounds l) node v f (slots_dictionary b.slots) m.counted m.cursor)) s result s' (turning set l a)
+      (meaning set l a)) (sym value)
+      (subst (λ (x : Machine). Moves takes stops (reader_of l.strict
+      (value_then set (bounds l) node (option_map number_data item) f (slots_dictionary x.slots) x.counted x.cursor)) s result s'
+      (turning set l a) (meaning set l a)) h.kept moves) in
       subst (λ (r : Reader Dictionary). IsTakenTo takes stops set l r rest s n result s' a) (sym has_to_read)
       (taken_to takes stops set l (turning set l m) m.entity.bytes rest n there s result s' a unit.0 unit.1 unit.2 (record {
         moves = moved;
@@ -90,13 +103,18 @@ module _ {S : Type 0} (takes stops : S → EventData → S → Type 0) (set : Se
         goes_on = goes_on_moved set l (record b { turns = t }) a result (kept_turn t) same depth past on;
       }))
 
-module _ (t : Templates) (l : Limits) (m : Machine) (slots : Slots) (node : ℕ) (v : Node) (field : FieldInstruction) (waits : m.waiting ≡ Waiting.Field) (ready : IsReady (set_of t) l m) (next : first_node m.cursor.left ≡ Some node) (found : slice_get t.nodes.items node ≡ Some v) (shape : v.shape ≡ Shape.Field field) (terms : slots_terms slots ≡ slots_terms m.slots) where
+module _ (t : Templates) (l : Limits) (m : Machine) (slots : Slots) (node : ℕ) (v : Node) (field : FieldInstruction)
+    (waits : m.waiting ≡ Waiting.Field) (ready : IsReady (set_of t) l m) (next : first_node m.cursor.left ≡ Some node)
+    (found : slice_get t.nodes.items node ≡ Some v) (shape : v.shape ≡ Shape.Field field)
+    (terms : slots_terms slots ≡ slots_terms m.slots) where
   -- these bytes in hand and those behind them come to this number, or to NULL
   abbrev comes_to : List ℕ → List ℕ → Option Number → ℕ → Type 0
-  comes_to front rest item n = (scratch : List ℕ) → IsLastUnitOf (sent_reader l.strict (bounds l) m.slots field) field front rest m.slots slots scratch (Whole (source_of item) n)
+  comes_to front rest item n = (scratch : List ℕ) → IsLastUnitOf
+      (sent_reader l.strict (bounds l) m.slots field) field front rest m.slots slots scratch (Whole (source_of item) n)
 
   -- The item of the field at the next node, of which no byte was in hand.
-  pub sent_item : (rest : List ℕ) (item : Option Number) (n : ℕ) → m.entity.bytes ≡ [] → comes_to [] rest item n → IsSentItem (set_of t) l m (record m { slots = slots }) node (field_data field) rest item n
+  pub sent_item : (rest : List ℕ) (item : Option Number) (n : ℕ) → m.entity.bytes ≡ [] → comes_to [] rest item n
+      → IsSentItem (set_of t) l m (record m { slots = slots }) node (field_data field) rest item n
   sent_item rest item n none unit = record {
     kept = refl;
     none = none;
@@ -108,7 +126,8 @@ module _ (t : Templates) (l : Limits) (m : Machine) (slots : Slots) (node : ℕ)
   }
 
   -- The bytes in hand, and those that were put behind them, begin with the entity: it ends among the latter.
-  ends_behind : (front rest whole : List ℕ) (item : Option Number) (len k : ℕ) → k ≤ length rest → take (length front + k) whole ≡ front ++ take k rest → length front < len → len ≤ length front + k → comes_to [] whole item len
+  ends_behind : (front rest whole : List ℕ) (item : Option Number) (len k : ℕ) → k ≤ length rest
+      → take (length front + k) whole ≡ front ++ take k rest → length front < len → len ≤ length front + k → comes_to [] whole item len
       → comes_to front rest item (len - length front)
   ends_behind front rest whole item len k inside is behind among unit scratch =
       let (some, within, gives) = unit scratch in
@@ -116,22 +135,29 @@ module _ (t : Templates) (l : Limits) (m : Machine) (slots : Slots) (node : ℕ)
       let fits : n ≤ k = omega (arith, among, behind) in
       let both : len ≡ length front + n = omega (arith, behind) in
       let same : take len whole ≡ front ++ take n rest =
-      sym (take-take len (length front + k) whole among) ∙ ap (take len) is ∙ ap (λ x. take x (front ++ take k rest)) both ∙ take-append-add front (take k rest) n ∙ ap (λ w. front ++ w) (take-take n k rest fits) in (
+      sym (take-take len (length front + k) whole among) ∙ ap (take len) is ∙ ap (λ x. take x (front ++ take k rest)) both
+      ∙ take-append-add front (take k rest) n ∙ ap (λ w. front ++ w) (take-take n k rest fits) in (
         omega (arith, behind),
         omega (arith, fits, inside),
         record {
           outcome = gives.outcome;
           turns = subst (λ w. Taking.Turns (sent_reader l.strict (bounds l) m.slots field) w (Done gives.outcome)) same gives.turns;
           settled = record {
-            value = gives.settled.value ∙ item_value item (field_data field) (slots_dictionary slots) scratch (take len whole) ∙ sym (item_value item (field_data field) (slots_dictionary slots) scratch (take n rest));
+            value = gives.settled.value ∙ item_value item (field_data field) (slots_dictionary slots) scratch (take len whole)
+                ∙ sym (item_value item (field_data field) (slots_dictionary slots) scratch (take n rest));
             dictionary = gives.settled.dictionary;
           };
         },
       )
 
   -- The item of a field of which some bytes were in hand.
-  pub held_item : (e : Pending) (rest whole : List ℕ) (item : Option Number) (len k : ℕ) → e.bytes ≡ [] → k ≤ length rest → take (length m.entity.bytes + k) whole ≡ m.entity.bytes ++ take k rest → length m.entity.bytes < len → len ≤ length m.entity.bytes + k
-      → comes_to [] whole item len → IsSentItem (set_of t) l m (record m { slots = slots; entity = e }) node (field_data field) rest item (len - length m.entity.bytes)
+  pub held_item : (e : Pending) (rest whole : List ℕ) (item : Option Number) (len k : ℕ) → e.bytes ≡ [] → k ≤ length rest
+      → take (length m.entity.bytes + k) whole ≡ m.entity.bytes ++ take k rest → length m.entity.bytes < len
+      → len ≤ length m.entity.bytes + k
+      → comes_to [] whole item len → IsSentItem (set_of t) l m (record m {
+        slots = slots;
+        entity = e;
+      }) node (field_data field) rest item (len - length m.entity.bytes)
   held_item e rest whole item len k none inside is behind among unit = record {
     kept = refl;
     none = none;
@@ -144,16 +170,21 @@ module _ (t : Templates) (l : Limits) (m : Machine) (slots : Slots) (node : ℕ)
 
 module _ {S : Type 0} (takes stops : S → EventData → S → Type 0) where
   -- A field that stands in the stream, and does not begin with a text: the machine waits for it.
-  pub number_waits : (t : Templates) (l : Limits) (m : Machine) (s : S) (node : ℕ) (v : Node) (field : FieldInstruction) → m.waiting ≡ Waiting.Field → CanTurn (set_of t) l m → first_node m.cursor.left ≡ Some node → slice_get t.nodes.items node ≡ Some v
-      → v.shape ≡ Shape.Field field → IsSent (field_data field) (bit_of (field_data field) (state_of m)) → field.kind ≢ Ascii → IsTurn takes stops (set_of t) l (turning (set_of t) l m) s (Ok Waits) s m
+  pub number_waits : (t : Templates) (l : Limits) (m : Machine) (s : S) (node : ℕ) (v : Node) (field : FieldInstruction)
+      → m.waiting ≡ Waiting.Field → CanTurn (set_of t) l m → first_node m.cursor.left ≡ Some node → slice_get t.nodes.items node ≡ Some v
+      → v.shape ≡ Shape.Field field → IsSent (field_data field) (bit_of (field_data field) (state_of m)) → field.kind ≢ Ascii
+      → IsTurn takes stops (set_of t) l (turning (set_of t) l m) s (Ok Waits) s m
   number_waits t l m s node v field waits can next found shape sent other =
-      field_waits takes stops (set_of t) l s m m node (field_data field) can (field_head t m.cursor node v next found field shape) sent refl refl (λ ascii. absurd (other ascii.0)) (λ e. waits)
+      field_waits takes stops (set_of t) l s m m node (field_data field) can
+      (field_head t m.cursor node v next found field shape) sent refl refl (λ ascii. absurd (other ascii.0)) (λ e. waits)
 
   -- Its unit, and the turn behind it, are a step.
-  pub number_step : (set : Set) (l : Limits) (m m' : Machine) (rest : List ℕ) (s : S) (q : UnitTaken) (s' : S) → m.waiting ≡ Waiting.Field → IsTurn takes stops set l (turning set l m) s (Ok Waits) s m
+  pub number_step : (set : Set) (l : Limits) (m m' : Machine) (rest : List ℕ) (s : S) (q : UnitTaken) (s' : S) → m.waiting ≡ Waiting.Field
+      → IsTurn takes stops set l (turning set l m) s (Ok Waits) s m
       → IsTakenTo takes stops set l (meaning set l m) rest s q.bytes q.turn s' m'
       → ((way : Way) (n : ℕ) → HasTurns way set l 1 n m → HasTurnsBehind q.turn way set l (1 + n) m')
       → IsStep takes stops set l m rest s q s' m'
   number_step set l m m' rest s q s' waits turn taken turns =
       unit_step takes stops set l m m rest s s q s' m' turn.moves taken
-      (λ way n h. more_behind q.turn way set l (1 + n) (1 + n + turns_begun_at m.waiting m.cursor.map way (tree_in set) l) m' (omega arith) (turns way n (one_taken way set l n m.turns.count m.counted m.cursor h)))
+      (λ way n h. more_behind q.turn way set l (1 + n) (1 + n + turns_begun_at m.waiting m.cursor.map way (tree_in set) l) m' (omega arith)
+      (turns way n (one_taken way set l n m.turns.count m.counted m.cursor h)))

@@ -41,12 +41,17 @@ length_one [] = omega arith
 length_one (b ∷ w) = omega arith
 
 module _ (set : Set) (l : Limits) (m : Machine) (width : ℕ) (c : CursorData) (turns : TurnCount) (rest : List ℕ)
-    (waits : m.waiting ≡ SegmentMap width) (ready : IsReady set l m) (none : m.cursor.map ≡ []) (taken : IsMapTaken m.cursor.map rest c.map (Whole 1)) (same : c ≡ record m.cursor { map = c.map }) where
+    (waits : m.waiting ≡ SegmentMap width) (ready : IsReady set l m) (none : m.cursor.map ≡ [])
+    (taken : IsMapTaken m.cursor.map rest c.map (Whole 1)) (same : c ≡ record m.cursor { map = c.map }) where
   fit : IsFitMap l.strict width c.map
   fit = fit_short l.strict width c.map (rw (taken.4, none) (length_one rest))
 
   -- The map of a segment is whole, and the segment goes on.
-  pub segment_short : Turns (reader_of l.strict (segment_behind set (bounds l) (slots_dictionary m.slots) m.counted m.cursor width)) (m.cursor.map ++ take 1 rest) (turning set l (record m { cursor = c; turns = turns }))
+  pub segment_short : Turns (reader_of l.strict (segment_behind set (bounds l) (slots_dictionary m.slots) m.counted m.cursor width))
+      (m.cursor.map ++ take 1 rest) (turning set l (record m {
+        cursor = c;
+        turns = turns;
+      }))
   segment_short = map_read set l m width c turns rest 1 waits ready taken fit same
 
   pub segment_turns : CanTurn set l (record m { cursor = c; turns = turns })

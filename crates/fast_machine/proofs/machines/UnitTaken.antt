@@ -30,7 +30,8 @@ use Rattle.fast_units.proofs.Turning.{after_run}
 
 module _ {S : Type 0} (takes stops : S → EventData → S → Type 0) (set : Set) (l : Limits) where
   -- Some bytes lead the reader to another one, of which a turn is taken.
-  pub taken_to : (r : Reader Dictionary) (front rest : List ℕ) (n : ℕ) (q : Reader Dictionary) (s : S) (result : Result Turn FaultCode) (s' : S) (m : Machine) → 0 < n → n ≤ length rest
+  pub taken_to : (r : Reader Dictionary) (front rest : List ℕ) (n : ℕ) (q : Reader Dictionary) (s : S) (result : Result Turn FaultCode)
+      (s' : S) (m : Machine) → 0 < n → n ≤ length rest
       → Turns r (front ++ take n rest) q → IsTurn takes stops set l q s result s' m → IsTakenTo takes stops set l (after_bytes r front) rest s n result s' m
   taken_to r front rest n q s result s' m some within h i =
       let len : length (take n rest) ≡ n = length-take-le n rest within in
@@ -46,8 +47,10 @@ module _ {S : Type 0} (takes stops : S → EventData → S → Type 0) (set : Se
       }
 
   -- The same where no message is begun.
-  pub begun_to : (from : Reader Dictionary) (d : Dictionary) (rest : List ℕ) (n : ℕ) (q : Reader Dictionary) (s : S) (result : Result Turn FaultCode) (s' : S) (m : Machine) → from ≡ Done d → 0 < n → n ≤ length rest
-      → Turns (reader_of l.strict (message_then (tree_in set) (bounds l) d)) (take n rest) q → IsTurn takes stops set l q s result s' m → IsTakenTo takes stops set l from rest s n result s' m
+  pub begun_to : (from : Reader Dictionary) (d : Dictionary) (rest : List ℕ) (n : ℕ) (q : Reader Dictionary) (s : S)
+      (result : Result Turn FaultCode) (s' : S) (m : Machine) → from ≡ Done d → 0 < n → n ≤ length rest
+      → Turns (reader_of l.strict (message_then (tree_in set) (bounds l) d)) (take n rest) q → IsTurn takes stops set l q s result s' m
+      → IsTakenTo takes stops set l from rest s n result s' m
   begun_to from d rest n q s result s' m is some within h i = rw is (record {
     some = some;
     within = within;
@@ -56,22 +59,28 @@ module _ {S : Type 0} (takes stops : S → EventData → S → Type 0) (set : Se
   })
 
   -- The same of an entity, of which a front is in hand.
-  pub whole_to : (c : Code) (room : ℕ) (k : List ℕ → Reader Dictionary) (from : Reader Dictionary) (front rest : List ℕ) (n : ℕ) (s : S) (result : Result Turn FaultCode) (s' : S) (m : Machine)
-      → due (tree_in set) l from ≡ after_bytes (entity_then c room k) front → 0 < n → n ≤ length rest → IsEntity (front ++ take n rest) → length (front ++ take n rest) ≤ room
+  pub whole_to : (c : Code) (room : ℕ) (k : List ℕ → Reader Dictionary) (from : Reader Dictionary) (front rest : List ℕ) (n : ℕ) (s : S)
+      (result : Result Turn FaultCode) (s' : S) (m : Machine)
+      → due (tree_in set) l from ≡ after_bytes (entity_then c room k) front → 0 < n → n ≤ length rest → IsEntity (front ++ take n rest)
+      → length (front ++ take n rest) ≤ room
       → IsTurn takes stops set l (k (front ++ take n rest)) s result s' m → IsTakenTo takes stops set l from rest s n result s' m
   whole_to c room k from front rest n s result s' m here some within entity short h = record {
     some = some;
     within = within;
-    quiet = subst (λ (p : Reader Dictionary). Quiet p (take n rest)) (sym here) (takes_quietly c room k front (take n rest) (open_in_entity front (take n rest) entity) short);
+    quiet = subst (λ (p : Reader Dictionary). Quiet p (take n rest)) (sym here)
+        (takes_quietly c room k front (take n rest) (open_in_entity front (take n rest) entity) short);
     turn = subst (λ (p : Reader Dictionary). IsTurn takes stops set l p s result s' m)
-        (sym (ap (λ (p : Reader Dictionary). after_bytes p (take n rest)) here ∙ sym (after-append (entity_then c room k) front (take n rest)) ∙ whole_gives c room k (front ++ take n rest) entity short)) h;
+        (sym (ap (λ (p : Reader Dictionary). after_bytes p (take n rest)) here
+        ∙ sym (after-append (entity_then c room k) front (take n rest)) ∙ whole_gives c room k (front ++ take n rest) entity short)) h;
   }
 
   -- A unit that is cut ends as a turn that waits.
-  pub cut_to : (from : Reader Dictionary) (rest : List ℕ) (s : S) (m : Machine) {n b : ℕ} {turn : Result Turn FaultCode} → b ≡ n → turn ≡ Ok TurnWaits → IsReady set l m
+  pub cut_to : (from : Reader Dictionary) (rest : List ℕ) (s : S) (m : Machine) {n b : ℕ} {turn : Result Turn FaultCode} → b ≡ n
+      → turn ≡ Ok TurnWaits → IsReady set l m
       → IsTaken takes stops (tree_in set) l from rest s n (Ok tt) s (meaning set l m) → IsTakenTo takes stops set l from rest s b turn s m
   cut_to from rest s m {n} {b} {turn} e i ready h =
-      subst (λ (k : ℕ). IsTakenTo takes stops set l from rest s k turn s m) (sym e) (subst (λ (t : Result Turn FaultCode). IsTakenTo takes stops set l from rest s n t s m) (sym i) (record {
+      subst (λ (k : ℕ). IsTakenTo takes stops set l from rest s k turn s m) (sym e)
+      (subst (λ (t : Result Turn FaultCode). IsTakenTo takes stops set l from rest s n t s m) (sym i) (record {
         some = h.some;
         within = h.within;
         quiet = h.quiet;
@@ -79,10 +88,12 @@ module _ {S : Type 0} (takes stops : S → EventData → S → Type 0) (set : Se
       }))
 
   -- A wrong one ends at its fault.
-  pub wrong_to : (from : Reader Dictionary) (rest : List ℕ) (s : S) (m : Machine) {n b : ℕ} {turn : Result Turn FaultCode} (c : FaultCode) → b ≡ n → turn ≡ Err c → IsSupplied set l m
+  pub wrong_to : (from : Reader Dictionary) (rest : List ℕ) (s : S) (m : Machine) {n b : ℕ} {turn : Result Turn FaultCode} (c : FaultCode)
+      → b ≡ n → turn ≡ Err c → IsSupplied set l m
       → ((q : Reader Dictionary) → IsTaken takes stops (tree_in set) l from rest s n (Err c) s q) → IsTakenTo takes stops set l from rest s b turn s m
   wrong_to from rest s m {n} {b} {turn} c e i supplied h =
-      subst (λ (k : ℕ). IsTakenTo takes stops set l from rest s k turn s m) (sym e) (subst (λ (t : Result Turn FaultCode). IsTakenTo takes stops set l from rest s n t s m) (sym i) (record {
+      subst (λ (k : ℕ). IsTakenTo takes stops set l from rest s k turn s m) (sym e)
+      (subst (λ (t : Result Turn FaultCode). IsTakenTo takes stops set l from rest s n t s m) (sym i) (record {
         some = (h (meaning set l m)).some;
         within = (h (meaning set l m)).within;
         quiet = (h (meaning set l m)).quiet;
@@ -100,7 +111,8 @@ can_turn_on set l m Handed on h = h
 can_turn_on set l m TurnWaits on h = absurd (on refl)
 
 -- It has the turns that are left there.
-pub has_turns_on : (set : Set) (l : Limits) (m : Machine) (way : Way) (n : ℕ) (turn : Turn) → (turn ≡ TurnWaits → ⊥) → HasTurnsBehind (Ok turn) way set l n m → HasTurns way set l 0 n m
+pub has_turns_on : (set : Set) (l : Limits) (m : Machine) (way : Way) (n : ℕ) (turn : Turn) → (turn ≡ TurnWaits → ⊥)
+    → HasTurnsBehind (Ok turn) way set l n m → HasTurns way set l 0 n m
 has_turns_on set l m way n Silent on h = h
 has_turns_on set l m way n Handed on h = h
 has_turns_on set l m way n TurnWaits on h = absurd (on refl)

@@ -11,7 +11,8 @@ use Rattle.fast_machine.specs.device.Positions.{Set}
 use Rattle.fast_machine.specs.device.TurnsLeft.{Way, HasTurns, HasTurnsAt, HasTurnsWaiting}
 use Rattle.fast_machine.proofs.steps.FieldTurns.{ascii_first}
 
-pub first_turns : (way : Way) (set : Set) (l : Limits) (k : ℕ) (f : FieldData) (m a : Machine) → (IsAsciiFirst f → (a.waiting ≡ Text) × (a.text.text ≡ [])) → (¬ (IsAsciiFirst f) → a.waiting ≡ Field)
+pub first_turns : (way : Way) (set : Set) (l : Limits) (k : ℕ) (f : FieldData) (m a : Machine)
+    → (IsAsciiFirst f → (a.waiting ≡ Text) × (a.text.text ≡ [])) → (¬ (IsAsciiFirst f) → a.waiting ≡ Field)
     → a ≡ record m { waiting = a.waiting; text = a.text } → HasTurns way set l 1 k m → HasTurnsWaiting way set l k a
 first_turns way set l k f m a as_text as_number same h = by (ascii_first f)
   where

@@ -30,7 +30,8 @@ use Rattle.fast_machine.specs.declared.turns.Turns.{Turns}
 use Rattle.fast_stream.proofs.streams.Frames.{begin_message}
 
 -- A template nests no deeper than its set.
-pub no_deeper : (is : List Instruction) (ts : List Template) (i : ℕ) (t : Template) → slice_get ts i ≡ Some t → body_depth (template_data is t).body ≤ greatest (map (λ u. body_depth u.body) (map (template_data is) ts))
+pub no_deeper : (is : List Instruction) (ts : List Template) (i : ℕ) (t : Template) → slice_get ts i ≡ Some t
+    → body_depth (template_data is t).body ≤ greatest (map (λ u. body_depth u.body) (map (template_data is) ts))
 no_deeper is [] i t e = absurd (cc e)
 no_deeper is (u ∷ us) zero t e =
     let same : u ≡ t = cc e in
@@ -39,13 +40,18 @@ no_deeper is (u ∷ us) zero t e =
 no_deeper is (u ∷ us) (suc i) t e = let rest = no_deeper is us i t e in omega (arith, rest)
 
 -- what a template leaves of the dictionary
-reset-as : (b : Bool) (d : Dictionary) (bits : List Bool) → reset_if b (record { context = record { dictionary = d; counted = 0 }; bits = bits }) ≡ record { context = record { dictionary = if b then reset d else d; counted = 0 }; bits = bits }
+reset-as : (b : Bool) (d : Dictionary) (bits : List Bool) → reset_if b (record {
+  context = record { dictionary = d; counted = 0 };
+  bits = bits;
+}) ≡ record { context = record { dictionary = if b then reset d else d; counted = 0 }; bits = bits }
 reset-as true d bits = refl
 reset-as false d bits = refl
 
 -- What is read of a message from its first event on.
-pub begun : (set : Set) (s : Bool) (l : Bounds) (n : ℕ) (t : Template) (d d' : Dictionary) (c c' : CursorData) → d' ≡ (if t.reset then reset d else d) → c'.frames ≡ [] → c'.left ≡ t.body.items → bits_left c' ≡ later_bits (bits_left c)
-    → reader_of s (message_of_then l n (template_data (instructions_from 0 set.nodes) t) (state_past identifier d 0 c)) ≡ Emit (MessageStart n) (reader_of s (going_on set l d' 0 c'))
+pub begun : (set : Set) (s : Bool) (l : Bounds) (n : ℕ) (t : Template) (d d' : Dictionary) (c c' : CursorData)
+    → d' ≡ (if t.reset then reset d else d) → c'.frames ≡ [] → c'.left ≡ t.body.items → bits_left c' ≡ later_bits (bits_left c)
+    → reader_of s (message_of_then l n (template_data (instructions_from 0 set.nodes) t) (state_past identifier d 0 c)) ≡ Emit
+    (MessageStart n) (reader_of s (going_on set l d' 0 c'))
 begun set s l n t d d' c c' dictionary frames left bits =
     let on : List ℕ → State → _ = λ ns st. Emit (MessageStart n) (reader_of s (resume l [] (body_in set ns) st)) in
     ap (reader_of s) (begin_message l n (template_data (instructions_from 0 set.nodes) t) (state_past identifier d 0 c))
@@ -56,8 +62,17 @@ begun set s l n t d d' c c' dictionary frames left bits =
     ∙ ap (λ fs. Emit (MessageStart n) (reader_of s (resume l (frames_in set fs) (body_in set c'.left) (state_in d' 0 c')))) (sym frames)
 
 -- The machine can turn.
-pub begun_turns : (set : Set) (l : Limits) (m : Machine) (n : ℕ) (t : Template) (c : CursorData) (s : Slots) (turns : Turns) (latest : Option (Bor Start)) → IfSome latest (λ s. IsStartIn set s.now) → IsBehindMap set l m → slice_get set.templates n ≡ Some t → AreBelow (length set.nodes) t.body.items
-    → slots_terms s ≡ slots_terms m.slots → c.frames ≡ [] → c.left ≡ t.body.items → c.map ≡ m.cursor.map → resting c ≡ resting m.cursor → CanTurn set l (record m { cursor = c; slots = s; counted = 0; turns = turns; latest = latest })
+pub begun_turns : (set : Set) (l : Limits) (m : Machine) (n : ℕ) (t : Template) (c : CursorData) (s : Slots) (turns : Turns)
+    (latest : Option (Bor Start)) → IfSome latest (λ s. IsStartIn set s.now) → IsBehindMap set l m → slice_get set.templates n ≡ Some t
+    → AreBelow (length set.nodes) t.body.items
+    → slots_terms s ≡ slots_terms m.slots → c.frames ≡ [] → c.left ≡ t.body.items → c.map ≡ m.cursor.map → resting c ≡ resting m.cursor
+    → CanTurn set l (record m {
+      cursor = c;
+      slots = s;
+      counted = 0;
+      turns = turns;
+      latest = latest;
+    })
 begun_turns set l m n t c s turns latest known h found below terms frames left map rests =
     let depth : c.depth ≡ m.cursor.depth = ap (λ (x : CursorData). x.depth) rests in
     let deep = no_deeper (instructions_from 0 set.nodes) set.templates n t found in

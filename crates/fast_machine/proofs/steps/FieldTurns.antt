@@ -1,6 +1,7 @@
 -- What holds of a machine behind a turn: at the unit that it waits for, and past an instruction.
 use Rattle.std.proofs.Common.{refl, sym, ap, ◌∙◌, subst, inl, inr, arith}
-use Rattle.std.specs.Prelude.{◌≡◌, ◌≢◌, ◌⊎◌, ℕ, suc, ◌<◌, ◌≤◌, Bool, true, List, [], ◌∷◌, drop, length, ℤ, Option, Some, None, option_map, Result, Ok, Err, OnOk, if◌then◌else◌}
+use Rattle.std.specs.Prelude.{◌≡◌, ◌≢◌, ◌⊎◌, ℕ, suc, ◌<◌, ◌≤◌, Bool, true, List, [], ◌∷◌, drop, length, ℤ, Option, Some, None, option_map}
+use Rattle.std.specs.Prelude.{Result, Ok, Err, OnOk, if◌then◌else◌}
 use Rattle.std.proofs.Math.Nat.{le-max_right}
 use Rattle.fast_wire.specs.meaning.Maps.{later_bits}
 use Rattle.fast_value.specs.declared.settings.Limits.{Limits}
@@ -48,7 +49,9 @@ use Rattle.fast_units.specs.device.UnitFronts.{IsAsciiFirst, IsSent}
 use Rattle.fast_units.specs.device.Scratches.{Held}
 use Rattle.fast_cursor.specs.device.Cursors.{CursorData, resting, bits_left, bits_behind}
 use Rattle.fast_machine.specs.device.Passing.{IsPast, state_past, exponent_then}
-use Rattle.fast_machine.specs.device.Positions.{Set, body_in, IsPlaced, IsSupplied, IsReady, CanTurn, CanTake, IsTurn, GoesOn, turning, meaning, meaning_at, state_in, frames_in, bit_of, term_at, mantissa_then, BeginsWithInteger, BeginsWithText, GoesOnWithMantissa, IsAtField, IsAtParts}
+use Rattle.fast_machine.specs.device.Positions.{Set, body_in, IsPlaced, IsSupplied, IsReady, CanTurn, CanTake, IsTurn, GoesOn, turning}
+use Rattle.fast_machine.specs.device.Positions.{meaning, meaning_at, state_in, frames_in, bit_of, term_at, mantissa_then, BeginsWithInteger}
+use Rattle.fast_machine.specs.device.Positions.{BeginsWithText, GoesOnWithMantissa, IsAtField, IsAtParts}
 use Rattle.fast_stream.proofs.streams.Frames.{at_field}
 use Rattle.fast_machine.proofs.fields.SentFields.{field_sent_waits, field_unsent, field_at_fault}
 use Rattle.fast_units.proofs.Turning.{result_done}
@@ -85,11 +88,13 @@ pub entries_here : (set : Set) (l : Limits) (m : Machine) → IsSupplied set l m
 entries_here set l m h = slots_sized m.slots ∙ h.entries
 
 -- What serves a field of the set serves it by the dictionary's own length.
-pub serves_here : (set : Set) (l : Limits) (m : Machine) (f : FieldData) → IsSupplied set l m → Serves set.entries (slots_terms m.slots) f → Serves (length (slots_dictionary m.slots)) (slots_terms m.slots) f
+pub serves_here : (set : Set) (l : Limits) (m : Machine) (f : FieldData) → IsSupplied set l m → Serves set.entries (slots_terms m.slots) f
+    → Serves (length (slots_dictionary m.slots)) (slots_terms m.slots) f
 serves_here set l m f h i = subst (λ n. Serves n (slots_terms m.slots) f) (sym (entries_here set l m h)) i
 
 -- A field's entry is one of the dictionary.
-pub entry_here : (set : Set) (l : Limits) (m : Machine) (f : FieldData) → IsSupplied set l m → Serves set.entries (slots_terms m.slots) f → (e : ℕ) → f.entry ≡ Some e → e < length (slots_dictionary m.slots)
+pub entry_here : (set : Set) (l : Limits) (m : Machine) (f : FieldData) → IsSupplied set l m → Serves set.entries (slots_terms m.slots) f
+    → (e : ℕ) → f.entry ≡ Some e → e < length (slots_dictionary m.slots)
 entry_here set l m f h i = (serves_here set l m f h i).within
 
 -- The numbers behind the first one are below the limit as well.
@@ -111,7 +116,8 @@ placed_past set c c' h i = rw i.same (record {
 })
 
 -- Behind a turn that leaves the map and takes no byte the machine can take the next one.
-pub can_turn_past : (set : Set) (l : Limits) (m m' : Machine) → CanTurn set l m → IsLike m m' → m'.counted ≤ l.max_total → m'.entity ≡ m.entity → IsPast m.cursor m'.cursor → CanTurn set l m'
+pub can_turn_past : (set : Set) (l : Limits) (m m' : Machine) → CanTurn set l m → IsLike m m' → m'.counted ≤ l.max_total
+    → m'.entity ≡ m.entity → IsPast m.cursor m'.cursor → CanTurn set l m'
 can_turn_past set l m m' h i counted entity past = record {
   supplied = supplied_like set l m m' h.supplied i counted;
   placed = placed_past set m.cursor m'.cursor h.placed past;
@@ -120,7 +126,8 @@ can_turn_past set l m m' h i counted entity past = record {
 }
 
 -- The machine goes on, where its turn is no end.
-pub goes_on_past : (set : Set) (l : Limits) (m m' : Machine) (result : Result Turn FaultCode) → CanTurn set l m → IsLike m m' → m'.counted ≤ l.max_total → m'.entity ≡ m.entity
+pub goes_on_past : (set : Set) (l : Limits) (m m' : Machine) (result : Result Turn FaultCode) → CanTurn set l m → IsLike m m'
+    → m'.counted ≤ l.max_total → m'.entity ≡ m.entity
     → OnOk result (IsPast m.cursor m'.cursor) → result ≢ Ok TurnWaits → GoesOn set l m' result
 goes_on_past set l m m' (Ok Silent) h i counted entity past on = can_turn_past set l m m' h i counted entity past
 goes_on_past set l m m' (Ok Handed) h i counted entity past on = can_turn_past set l m m' h i counted entity past
@@ -129,7 +136,8 @@ goes_on_past set l m m' (Err c) h i counted entity past on = tt
 
 module _ {S : Type 0} (takes stops : S → EventData → S → Type 0) (set : Set) (l : Limits) where
   -- A turn at whose end the machine waits, and has the same to read.
-  pub turn_waits : (r : Reader Dictionary) (s : S) (m' : Machine) → r ≡ meaning set l m' → Waits r → IsReady set l m' → IsTurn takes stops set l r s (Ok TurnWaits) s m'
+  pub turn_waits : (r : Reader Dictionary) (s : S) (m' : Machine) → r ≡ meaning set l m' → Waits r → IsReady set l m'
+      → IsTurn takes stops set l r s (Ok TurnWaits) s m'
   turn_waits r s m' e h ready = record {
     moves = moves_waits takes stops (turning set l m') s e h;
     supplied = ready.supplied;
@@ -137,7 +145,8 @@ module _ {S : Type 0} (takes stops : S → EventData → S → Type 0) (set : Se
   }
 
   -- A turn at whose end the reader stops.
-  pub turn_fault : (r : Reader Dictionary) (s : S) (c : Code) (m' : Machine) → r ≡ Stop c → IsSupplied set l m' → IsTurn takes stops set l r s (Err (Why.Stream c)) s m'
+  pub turn_fault : (r : Reader Dictionary) (s : S) (c : Code) (m' : Machine) → r ≡ Stop c → IsSupplied set l m'
+      → IsTurn takes stops set l r s (Err (Why.Stream c)) s m'
   turn_fault r s c m' e supplied = record {
     moves = moves_fault takes stops (turning set l m') (meaning set l m') s e;
     supplied = supplied;
@@ -164,8 +173,10 @@ meaning_text set l m e i = ap (λ w. meaning_at w set l m) e ∙ ap (λ front. a
 
 -- So has one that waits for a mantissa, from there on.
 pub meaning_mantissa : (set : Set) (l : Limits) (m : Machine) (x : ℤ) → m.waiting ≡ Mantissa x → m.entity.bytes ≡ []
-    → meaning set l m ≡ reader_of l.strict (mantissa_then (bounds l) (frames_in set m.cursor.frames) (body_in set m.cursor.left) (state_in (slots_dictionary m.slots) m.counted m.cursor) x)
-meaning_mantissa set l m x e i = ap (λ w. meaning_at w set l m) e ∙ ap (λ front. after_bytes (reader_of l.strict (term_at (Mantissa x) set (bounds l) m)) front) i
+    → meaning set l m ≡ reader_of l.strict (mantissa_then (bounds l) (frames_in set m.cursor.frames) (body_in set m.cursor.left)
+    (state_in (slots_dictionary m.slots) m.counted m.cursor) x)
+meaning_mantissa set l m x e i = ap (λ w. meaning_at w set l m) e
+    ∙ ap (λ front. after_bytes (reader_of l.strict (term_at (Mantissa x) set (bounds l) m)) front) i
 
 -- A machine with no byte of an integer in hand is ready, if it can take the unit that it waits for.
 pub ready_at : (set : Set) (l : Limits) (m : Machine) (w : Waiting) → IsSupplied set l m → m.waiting ≡ w → CanTake w set l m → IsReady set l m
@@ -241,26 +252,35 @@ mantissa_next set l m n e f x (at, number, some, i) =
     ∙ ap (λ k. reader_of l.strict (field_in (bounds l) f (state_of m) >>= (λ r. handed_then k (behind set l m) (decimal_with x r.0) r.1))) number
 
 -- A machine that has used the bit of a field stands behind it.
-pub state_used : (m m' : Machine) (f : FieldData) → bits_left m'.cursor ≡ (if uses_bit f then later_bits (bits_left m.cursor) else bits_left m.cursor) → m' ≡ record m { cursor = record m.cursor { used = m'.cursor.used; ends = m'.cursor.ends } }
+pub state_used : (m m' : Machine) (f : FieldData) → bits_left m'.cursor
+    ≡ (if uses_bit f then later_bits (bits_left m.cursor) else bits_left m.cursor) → m' ≡ record m {
+      cursor = record m.cursor { used = m'.cursor.used; ends = m'.cursor.ends };
+    }
     → state_of m' ≡ state_past f (slots_dictionary m.slots) m.counted m.cursor
 state_used m m' f bits same =
     ap (λ (x : Machine). record { context = record { dictionary = slots_dictionary x.slots; counted = x.counted }; bits = bits_left m'.cursor }) same
     ∙ ap (λ b. record { context = record { dictionary = slots_dictionary m.slots; counted = m.counted }; bits = b }) bits
 
 -- It is at the same instruction.
-pub parts_used : (set : Set) (m m' : Machine) (n : ℕ) (e f : FieldData) → IsAtParts set m.cursor n e f → m' ≡ record m { cursor = record m.cursor { used = m'.cursor.used; ends = m'.cursor.ends } } → IsAtParts set m'.cursor n e f
+pub parts_used : (set : Set) (m m' : Machine) (n : ℕ) (e f : FieldData) → IsAtParts set m.cursor n e f → m' ≡ record m {
+  cursor = record m.cursor { used = m'.cursor.used; ends = m'.cursor.ends };
+} → IsAtParts set m'.cursor n e f
 parts_used set m m' n e f h same = subst (λ (x : Machine). IsAtParts set x.cursor n e f) (sym same) h
 
 -- An exponent in the range is followed by the mantissa.
-mantissa_behind : (s : Bool) (l : Bounds) (n : ℕ) (f : FieldData) (k : State → Grammar Dictionary) (v : Option ScalarData) (st : State) (x z : ℤ) → option_map integer_of v ≡ Some x → ranged exponent_range R1 x ≡ Ok z
+mantissa_behind : (s : Bool) (l : Bounds) (n : ℕ) (f : FieldData) (k : State → Grammar Dictionary) (v : Option ScalarData) (st : State)
+    (x z : ℤ) → option_map integer_of v ≡ Some x → ranged exponent_range R1 x ≡ Ok z
     → reader_of s (mantissa_after_then l n f k (v, st)) ≡ reader_of s (field_in l f st >>= (λ r. handed_then n k (decimal_with z r.0) r.1))
 mantissa_behind s l n f k None st x z e i = absurd (cc e)
 mantissa_behind s l n f k (Some w) st x z e i =
     let same : integer_of w ≡ x = cc e in
-    result_done s (ranged exponent_range R1 (integer_of w)) (λ y. field_in l f st >>= (λ r. handed_then n k (decimal_with y r.0) r.1)) (ap (ranged exponent_range R1) same ∙ i)
+    result_done s (ranged exponent_range R1 (integer_of w)) (λ y. field_in l f st >>= (λ r. handed_then n k (decimal_with y r.0) r.1))
+    (ap (ranged exponent_range R1) same ∙ i)
 
 pub exponent_there : (set : Set) (l : Limits) (m m' : Machine) (n : ℕ) (e f : FieldData) (v : Option ScalarData) (x z : ℤ)
-    → bits_left m'.cursor ≡ (if uses_bit e then later_bits (bits_left m.cursor) else bits_left m.cursor) → m' ≡ record m { cursor = record m.cursor { used = m'.cursor.used; ends = m'.cursor.ends } }
+    → bits_left m'.cursor ≡ (if uses_bit e then later_bits (bits_left m.cursor) else bits_left m.cursor) → m' ≡ record m {
+      cursor = record m.cursor { used = m'.cursor.used; ends = m'.cursor.ends };
+    }
     → IsAtParts set m.cursor n e f → option_map integer_of v ≡ Some x → ranged exponent_range R1 x ≡ Ok z
     → reader_of l.strict (exponent_then set (bounds l) n v e f (slots_dictionary m.slots) m.counted m.cursor) ≡ mantissa_from set l m' z
 exponent_there set l m m' n e f v x z bits same next known inside =
@@ -270,7 +290,8 @@ exponent_there set l m m' n e f v x z bits same next known inside =
     ∙ sym (mantissa_next set l m' n e f z (parts_used set m m' n e f next same))
 
 -- An exponent outside its range ends the message.
-pub exponent_wrong : (set : Set) (l : Limits) (m : Machine) (n : ℕ) (e f : FieldData) (v : Option ScalarData) (x : ℤ) (c : Code) → option_map integer_of v ≡ Some x → ranged exponent_range R1 x ≡ Err c
+pub exponent_wrong : (set : Set) (l : Limits) (m : Machine) (n : ℕ) (e f : FieldData) (v : Option ScalarData) (x : ℤ) (c : Code)
+    → option_map integer_of v ≡ Some x → ranged exponent_range R1 x ≡ Err c
     → reader_of l.strict (exponent_then set (bounds l) n v e f (slots_dictionary m.slots) m.counted m.cursor) ≡ Stop c
 exponent_wrong set l m n e f None x c known wrong = absurd (cc known)
 exponent_wrong set l m n e f (Some w) x c known wrong =
@@ -279,16 +300,19 @@ exponent_wrong set l m n e f (Some w) x c known wrong =
 
 -- Without an exponent there is no mantissa.
 pub exponent_absent : (set : Set) (l : Limits) (m : Machine) (n : ℕ) (e f : FieldData) (v : Option ScalarData) → option_map integer_of v ≡ None
-    → reader_of l.strict (exponent_then set (bounds l) n v e f (slots_dictionary m.slots) m.counted m.cursor) ≡ reader_of l.strict (behind set l m (state_past e (slots_dictionary m.slots) m.counted m.cursor))
+    → reader_of l.strict (exponent_then set (bounds l) n v e f (slots_dictionary m.slots) m.counted m.cursor) ≡ reader_of l.strict
+    (behind set l m (state_past e (slots_dictionary m.slots) m.counted m.cursor))
 exponent_absent set l m n e f None h = refl
 exponent_absent set l m n e f (Some w) h = absurd (cc h)
 
 -- A field that stands in the stream at a machine.
-pub sent_here : (f : FieldData) (bit : Bool) (st : State) → bit ≡ bit_of f st → f.operator ≢ Constant → ((l : Bounds) (p : PreviousData) → field_term l f p bit ≡ field_term l f p true) → IsSent f (bit_of f st)
+pub sent_here : (f : FieldData) (bit : Bool) (st : State) → bit ≡ bit_of f st → f.operator ≢ Constant
+    → ((l : Bounds) (p : PreviousData) → field_term l f p bit ≡ field_term l f p true) → IsSent f (bit_of f st)
 sent_here f bit st e varies sent = record { varies = varies; as_sent = λ l p. ap (field_term l f p) (sym e) ∙ sent l p }
 
 -- Nothing is sent of a field, and its value stands at a source: what is read behind it.
-pub field_known : {A : Type 0} (s : Bool) (l : Bounds) (f : FieldData) (bit : Bool) (old new : Dictionary) (counted : ℕ) (c : CursorData) (k : Found → Grammar A) (source : ValueSource) (scratch piece : List ℕ)
+pub field_known : {A : Type 0} (s : Bool) (l : Bounds) (f : FieldData) (bit : Bool) (old new : Dictionary) (counted : ℕ) (c : CursorData)
+    (k : Found → Grammar A) (source : ValueSource) (scratch piece : List ℕ)
     → bit ≡ bit_of f (state_in old counted c)
     → field_term l f (previous_at f.entry old) bit ≡ of_result (decide f (previous_at f.entry old) bit nothing)
     → IsDecided (decide f (previous_at f.entry old) bit nothing) f old new (Ok source)
@@ -301,7 +325,13 @@ field_known s l f bit old new counted c k source scratch piece e unsent (o, deci
     field_unsent s l f st k o
     (subst (λ (b : Bool). field_term l f p b ≡ of_result (decide f p b nothing)) e unsent)
     (subst (λ (b : Bool). decide f p b nothing ≡ Ok o) e decided)
-    ∙ ap (λ r. reader_of s (k r)) (λ i. (settled.value i, record { context = record { dictionary = sym settled.dictionary i; counted = counted }; bits = if uses_bit f then later_bits (bits_left c) else bits_left c }))
+    ∙ ap (λ r. reader_of s (k r)) (λ i. (
+      settled.value i,
+      record {
+        context = record { dictionary = sym settled.dictionary i; counted = counted };
+        bits = if uses_bit f then later_bits (bits_left c) else bits_left c;
+      },
+    ))
 
 -- Nothing is sent of a field, and a fault is decided.
 pub field_wrong : {A : Type 0} (s : Bool) (l : Bounds) (f : FieldData) (bit : Bool) (st : State) (k : Found → Grammar A) (c : Code)
@@ -316,18 +346,27 @@ field_wrong s l f bit st k c e unsent decided =
     (subst (λ (b : Bool). decide f p b nothing ≡ Err c) e decided)
 
 -- A machine that waits, or has another text in hand, has all that it had.
-pub can_turn_waits : (set : Set) (l : Limits) (m : Machine) (w : Waiting) (t : Held) → CanTurn set l m → t.capacity ≡ m.text.capacity → CanTurn set l (record m { waiting = w; text = t })
+pub can_turn_waits : (set : Set) (l : Limits) (m : Machine) (w : Waiting) (t : Held) → CanTurn set l m → t.capacity ≡ m.text.capacity
+    → CanTurn set l (record m {
+      waiting = w;
+      text = t;
+    })
 can_turn_waits set l m w t h room = record {
-  supplied = supplied_like set l m (record m { waiting = w; text = t }) h.supplied (record { terms = refl; text = room; joined = refl; identifier = refl; rests = refl; latest = refl }) h.supplied.counted;
+  supplied = supplied_like set l m (record m {
+    waiting = w;
+    text = t;
+  }) h.supplied (record { terms = refl; text = room; joined = refl; identifier = refl; rests = refl; latest = refl }) h.supplied.counted;
   placed = h.placed;
   mapped = h.mapped;
   unused = h.unused;
 }
 
 -- So has one with other values in the slots.
-pub can_turn_slots : (set : Set) (l : Limits) (m : Machine) (slots : Slots) → CanTurn set l m → slots_terms slots ≡ slots_terms m.slots → CanTurn set l (record m { slots = slots })
+pub can_turn_slots : (set : Set) (l : Limits) (m : Machine) (slots : Slots) → CanTurn set l m → slots_terms slots ≡ slots_terms m.slots
+    → CanTurn set l (record m { slots = slots })
 can_turn_slots set l m slots h terms = record {
-  supplied = supplied_like set l m (record m { slots = slots }) h.supplied (record { terms = terms; text = refl; joined = refl; identifier = refl; rests = refl; latest = refl }) h.supplied.counted;
+  supplied = supplied_like set l m (record m { slots = slots }) h.supplied
+      (record { terms = terms; text = refl; joined = refl; identifier = refl; rests = refl; latest = refl }) h.supplied.counted;
   placed = h.placed;
   mapped = h.mapped;
   unused = h.unused;
@@ -336,21 +375,28 @@ can_turn_slots set l m slots h terms = record {
 -- So has one that has used a bit.
 pub used_by : (set : Set) (l : Limits) (m : Machine) (u v : ℕ) → CanTurn set l m → CanTurn set l (record m { cursor = record m.cursor { used = u; ends = v } })
 used_by set l m u v h = record {
-  supplied = supplied_like set l m (record m { cursor = record m.cursor { used = u; ends = v } }) h.supplied (record { terms = refl; text = refl; joined = refl; identifier = refl; rests = refl; latest = refl }) h.supplied.counted;
+  supplied = supplied_like set l m (record m {
+    cursor = record m.cursor { used = u; ends = v };
+  }) h.supplied (record { terms = refl; text = refl; joined = refl; identifier = refl; rests = refl; latest = refl }) h.supplied.counted;
   placed = record { below = h.placed.below; nested = h.placed.nested; frames = h.placed.frames };
   mapped = h.mapped;
   unused = h.unused;
 }
 
-pub can_turn_used : (set : Set) (l : Limits) (m m' : Machine) → CanTurn set l m → m' ≡ record m { cursor = record m.cursor { used = m'.cursor.used; ends = m'.cursor.ends } } → CanTurn set l m'
+pub can_turn_used : (set : Set) (l : Limits) (m m' : Machine) → CanTurn set l m → m' ≡ record m {
+  cursor = record m.cursor { used = m'.cursor.used; ends = m'.cursor.ends };
+} → CanTurn set l m'
 can_turn_used set l m m' h same = subst (λ (x : Machine). CanTurn set l x) (sym same) (used_by set l m m'.cursor.used m'.cursor.ends h)
 
 -- Other values in the slots serve a field as well.
-pub serves_known : (set : Set) (m : Machine) (slots : Slots) (f : FieldData) → slots_terms slots ≡ slots_terms m.slots → Serves set.entries (slots_terms m.slots) f → Serves set.entries (slots_terms slots) f
+pub serves_known : (set : Set) (m : Machine) (slots : Slots) (f : FieldData) → slots_terms slots ≡ slots_terms m.slots
+    → Serves set.entries (slots_terms m.slots) f → Serves set.entries (slots_terms slots) f
 serves_known set m slots f terms serves = subst (λ (t : Terms). Serves set.entries t f) (sym terms) serves
 
 -- A field's entry is one of the dictionary, whatever the slots then hold.
-pub entry_known : (set : Set) (l : Limits) (m : Machine) (slots : Slots) (f : FieldData) → CanTurn set l m → slots_terms slots ≡ slots_terms m.slots → Serves set.entries (slots_terms m.slots) f → (e : ℕ) → f.entry ≡ Some e → e < length (slots_dictionary slots)
+pub entry_known : (set : Set) (l : Limits) (m : Machine) (slots : Slots) (f : FieldData) → CanTurn set l m
+    → slots_terms slots ≡ slots_terms m.slots → Serves set.entries (slots_terms m.slots) f → (e : ℕ) → f.entry ≡ Some e
+    → e < length (slots_dictionary slots)
 entry_known set l m slots f h terms serves =
     entry_here set l (record m { slots = slots }) f (can_turn_slots set l m slots h terms).supplied (serves_known set m slots f terms serves)
 
@@ -368,30 +414,48 @@ like_moved m m' same rests = record {
 module _ {S : Type 0} (takes stops : S → EventData → S → Type 0) (set : Set) (l : Limits) where
   -- A turn that moves the cursor past the next instruction.
   pub turn_moved : (r p : Reader Dictionary) (s : S) (result : Result Turn FaultCode) (s' : S) (m m' : Machine) → r ≡ p
-      → Moves takes stops p s result s' (turning set l m') (meaning set l m') → CanTurn set l m → m' ≡ record m { cursor = m'.cursor } → resting m'.cursor ≡ resting m.cursor
+      → Moves takes stops p s result s' (turning set l m') (meaning set l m') → CanTurn set l m → m' ≡ record m { cursor = m'.cursor }
+      → resting m'.cursor ≡ resting m.cursor
       → OnOk result (IsPast m.cursor m'.cursor) → result ≢ Ok TurnWaits → IsTurn takes stops set l r s result s' m'
   turn_moved r p s result s' m m' e moves h same rests past on =
-      turn_past takes stops set l r p s result s' m m' e moves h (like_moved m m' same rests) (rw (ap (λ x. x.counted) same) h.supplied.counted) (ap (λ x. x.entity) same) past on
+      turn_past takes stops set l r p s result s' m m' e moves h (like_moved m m' same rests)
+      (rw (ap (λ x. x.counted) same) h.supplied.counted) (ap (λ x. x.entity) same) past on
 
   -- The machine waits for an integer, with which the next instruction begins.
-  pub turn_number : (s : S) (m : Machine) → CanTurn set l m → m.waiting ≡ Field → BeginsWithInteger (body_in set m.cursor.left) (state_of m) → Waits (turning set l m) → IsTurn takes stops set l (turning set l m) s (Ok TurnWaits) s m
-  turn_number s m h waiting begins waits = turn_waits takes stops set l (turning set l m) s m (sym (meaning_field set l m waiting h.unused)) waits (ready_at set l m Field h.supplied waiting (h.placed, h.mapped, begins))
+  pub turn_number : (s : S) (m : Machine) → CanTurn set l m → m.waiting ≡ Field
+      → BeginsWithInteger (body_in set m.cursor.left) (state_of m) → Waits (turning set l m)
+      → IsTurn takes stops set l (turning set l m) s (Ok TurnWaits) s m
+  turn_number s m h waiting begins waits = turn_waits takes stops set l (turning set l m) s m
+      (sym (meaning_field set l m waiting h.unused)) waits (ready_at set l m Field h.supplied waiting (h.placed, h.mapped, begins))
 
   -- The machine waits for a mantissa.
-  pub turn_mantissa : (s : S) (m : Machine) (x : ℤ) (r : Reader Dictionary) → CanTurn set l m → m.waiting ≡ Mantissa x → GoesOnWithMantissa (body_in set m.cursor.left) (state_of m)
-      → r ≡ reader_of l.strict (mantissa_then (bounds l) (frames_in set m.cursor.frames) (body_in set m.cursor.left) (state_of m) x) → Waits r → IsTurn takes stops set l r s (Ok TurnWaits) s m
-  turn_mantissa s m x r h waiting begins e waits = turn_waits takes stops set l r s m (e ∙ sym (meaning_mantissa set l m x waiting h.unused)) waits (ready_at set l m (Mantissa x) h.supplied waiting (h.placed, h.mapped, begins))
+  pub turn_mantissa : (s : S) (m : Machine) (x : ℤ) (r : Reader Dictionary) → CanTurn set l m → m.waiting ≡ Mantissa x
+      → GoesOnWithMantissa (body_in set m.cursor.left) (state_of m)
+      → r ≡ reader_of l.strict (mantissa_then (bounds l) (frames_in set m.cursor.frames) (body_in set m.cursor.left) (state_of m) x)
+      → Waits r → IsTurn takes stops set l r s (Ok TurnWaits) s m
+  turn_mantissa s m x r h waiting begins e waits = turn_waits takes stops set l r s m
+      (e ∙ sym (meaning_mantissa set l m x waiting h.unused)) waits
+      (ready_at set l m (Mantissa x) h.supplied waiting (h.placed, h.mapped, begins))
 
   -- The machine waits for a text, which is the next instruction.
-  turn_text : (s : S) (m : Machine) → CanTurn set l m → m.waiting ≡ Text → m.text.text ≡ [] → BeginsWithText l (body_in set m.cursor.left) (state_of m) [] → Waits (turning set l m) → IsTurn takes stops set l (turning set l m) s (Ok TurnWaits) s m
+  turn_text : (s : S) (m : Machine) → CanTurn set l m → m.waiting ≡ Text → m.text.text ≡ []
+      → BeginsWithText l (body_in set m.cursor.left) (state_of m) [] → Waits (turning set l m)
+      → IsTurn takes stops set l (turning set l m) s (Ok TurnWaits) s m
   turn_text s m h waiting none begins waits = turn_waits takes stops set l (turning set l m) s m (sym (meaning_text set l m waiting none)) waits
-      (ready_at set l m Text h.supplied waiting (h.placed, h.mapped, h.unused, subst (λ w. BeginsWithText l (body_in set m.cursor.left) (state_of m) w) (sym none) begins))
+      (ready_at set l m Text h.supplied waiting (
+        h.placed,
+        h.mapped,
+        h.unused,
+        subst (λ w. BeginsWithText l (body_in set m.cursor.left) (state_of m) w) (sym none) begins,
+      ))
 
-  first_by : (s : S) (m : Machine) (n : ℕ) (f : FieldData) → CanTurn set l m → IsAtField set m.cursor n f → IsSent f (bit_of f (state_of m)) → Waits (turning set l m)
+  first_by : (s : S) (m : Machine) (n : ℕ) (f : FieldData) → CanTurn set l m → IsAtField set m.cursor n f
+      → IsSent f (bit_of f (state_of m)) → Waits (turning set l m)
       → (IsAsciiFirst f → (m.waiting ≡ Text) × (m.text.text ≡ [])) → (¬ (IsAsciiFirst f) → m.waiting ≡ Field) → IsAsciiFirst f ⊎ ¬ (IsAsciiFirst f)
       → IsTurn takes stops set l (turning set l m) s (Ok TurnWaits) s m
   first_by s m n f h next sent waits as_text as_number (inl text) =
-      turn_text s m h (as_text text).0 (as_text text).1 (subst (λ b. BeginsWithText l b (state_of m) []) (sym next.3) (sent, text, nothing_cut f.optional l.max_text)) waits
+      turn_text s m h (as_text text).0 (as_text text).1 (subst (λ b. BeginsWithText l b (state_of m) []) (sym next.3)
+      (sent, text, nothing_cut f.optional l.max_text)) waits
   first_by s m n f h next sent waits as_text as_number (inr other) =
       turn_number s m h (as_number other) (subst (λ b. BeginsWithInteger b (state_of m)) (sym next.3) (sent, other)) waits
 
@@ -411,16 +475,20 @@ module _ {S : Type 0} (takes stops : S → EventData → S → Type 0) (set : Se
       → IsTurn takes stops set l (turning set l m) s (Ok TurnWaits) s m'
   field_waits s m m' n f h next sent same room as_text as_number =
       let there : CanTurn set l m' × IsAtField set m'.cursor n f × IsSent f (bit_of f (state_of m')) =
-      subst (λ (x : Machine). CanTurn set l x × IsAtField set x.cursor n f × IsSent f (bit_of f (state_of x))) (sym same) (can_turn_waits set l m m'.waiting m'.text h room, next, sent) in
-      subst (λ (r : Reader Dictionary). IsTurn takes stops set l r s (Ok TurnWaits) s m') (ap (turning set l) same) (field_first s m' n f there.0 there.1 there.2 as_text as_number)
+      subst (λ (x : Machine). CanTurn set l x × IsAtField set x.cursor n f × IsSent f (bit_of f (state_of x))) (sym same)
+      (can_turn_waits set l m m'.waiting m'.text h room, next, sent) in
+      subst (λ (r : Reader Dictionary). IsTurn takes stops set l r s (Ok TurnWaits) s m') (ap (turning set l) same)
+      (field_first s m' n f there.0 there.1 there.2 as_text as_number)
 
   -- The mantissa of a decimal by parts stands in the stream: the machine waits for it.
-  pub mantissa_waits : (s : S) (m : Machine) (n : ℕ) (e f : FieldData) (x y : ℤ) → y ≡ x → CanTurn set l m → IsAtParts set m.cursor n e f → IsSent f (bit_of f (state_of m))
+  pub mantissa_waits : (s : S) (m : Machine) (n : ℕ) (e f : FieldData) (x y : ℤ) → y ≡ x → CanTurn set l m → IsAtParts set m.cursor n e f
+      → IsSent f (bit_of f (state_of m))
       → IsTurn takes stops set l (mantissa_from set l m x) s (Ok TurnWaits) s (record m { waiting = Mantissa y })
   mantissa_waits s m n e f x y same h next sent =
       turn_mantissa s (record m { waiting = Mantissa y }) y (mantissa_from set l m x) (can_turn_waits set l m (Mantissa y) m.text h refl) refl
       (subst (λ (b : Body). GoesOnWithMantissa b (state_of m)) (sym next.3) sent) (ap (mantissa_from set l m) (sym same))
-      (subst Waits (sym (mantissa_next set l m n e f x next)) (field_sent_waits l.strict (bounds l) f (state_of m) (λ r. handed_then n (behind set l m) (decimal_with x r.0) r.1) sent))
+      (subst Waits (sym (mantissa_next set l m n e f x next))
+      (field_sent_waits l.strict (bounds l) f (state_of m) (λ r. handed_then n (behind set l m) (decimal_with x r.0) r.1) sent))
 
   -- A decimal by parts is next, whose exponent stands in the stream: the machine waits for it.
   pub exponent_waits : (s : S) (m : Machine) (n : ℕ) (e f : FieldData) → CanTurn set l m → IsAtParts set m.cursor n e f → IsSent e (bit_of e (state_of m))
@@ -428,27 +496,39 @@ module _ {S : Type 0} (takes stops : S → EventData → S → Type 0) (set : Se
   exponent_waits s m n e f h next sent =
       turn_number s (record m { waiting = Field }) (can_turn_waits set l m Field m.text h refl) refl
       (subst (λ (b : Body). BeginsWithInteger b (state_of m)) (sym next.3) sent)
-      (subst Waits (sym (parts_next set l m n e f next)) (field_sent_waits l.strict (bounds l) e (state_of m) (mantissa_after_then (bounds l) n f (behind set l m)) sent))
+      (subst Waits (sym (parts_next set l m n e f next)) (field_sent_waits l.strict (bounds l) e (state_of m)
+      (mantissa_after_then (bounds l) n f (behind set l m)) sent))
 
   -- The same turn by another name of what is to be read.
-  pub turn_as : (r r' : Reader Dictionary) (s : S) (result : Result Turn FaultCode) (s' : S) (m' : Machine) → r ≡ r' → IsTurn takes stops set l r' s result s' m' → IsTurn takes stops set l r s result s' m'
+  pub turn_as : (r r' : Reader Dictionary) (s : S) (result : Result Turn FaultCode) (s' : S) (m' : Machine) → r ≡ r'
+      → IsTurn takes stops set l r' s result s' m' → IsTurn takes stops set l r s result s' m'
   turn_as r r' s result s' m' e h = subst (λ (q : Reader Dictionary). IsTurn takes stops set l q s result s' m') (sym e) h
 
   -- Nothing is handed over, and the cursor is past the next instruction.
-  silent_by : (s : S) (m : Machine) (u v : ℕ) (f : FieldData) (r : Reader Dictionary) → CanTurn set l m → bits_behind m.cursor.map u ≡ (if uses_bit f then later_bits (bits_left m.cursor) else bits_left m.cursor)
+  silent_by : (s : S) (m : Machine) (u v : ℕ) (f : FieldData) (r : Reader Dictionary) → CanTurn set l m
+      → bits_behind m.cursor.map u ≡ (if uses_bit f then later_bits (bits_left m.cursor) else bits_left m.cursor)
       → r ≡ reader_of l.strict (behind set l m (state_past f (slots_dictionary m.slots) m.counted m.cursor))
       → IsTurn takes stops set l r s (Ok Silent) s (record m { cursor = record m.cursor { left = drop 1 m.cursor.left; used = u; ends = v } })
   silent_by s m u v f r h bits e =
       let m' : Machine = record m { cursor = record m.cursor { left = drop 1 m.cursor.left; used = u; ends = v } } in
-      turn_moved r r s (Ok Silent) s m m' refl (e ∙ ap (λ b. reader_of l.strict (behind set l m (record { context = record { dictionary = slots_dictionary m.slots; counted = m.counted }; bits = b }))) (sym bits), refl) h refl refl (record { same = refl }) (λ i. absurd (cc i))
+      turn_moved r r s (Ok Silent) s m m' refl (
+        e ∙ ap (λ b. reader_of l.strict (behind set l m (record {
+          context = record { dictionary = slots_dictionary m.slots; counted = m.counted };
+          bits = b;
+        }))) (sym bits),
+        refl,
+      ) h refl refl (record { same = refl }) (λ i. absurd (cc i))
 
   -- The same, first by the bit and then by the instruction.
   pub turn_silent : (s : S) (m m1 : Machine) (c : CursorData) (f : FieldData) (r : Reader Dictionary) → CanTurn set l m
-      → bits_left m1.cursor ≡ (if uses_bit f then later_bits (bits_left m.cursor) else bits_left m.cursor) → m1 ≡ record m { cursor = record m.cursor { used = m1.cursor.used; ends = m1.cursor.ends } } → c ≡ record m1.cursor { left = drop 1 m1.cursor.left }
+      → bits_left m1.cursor ≡ (if uses_bit f then later_bits (bits_left m.cursor) else bits_left m.cursor) → m1 ≡ record m {
+        cursor = record m.cursor { used = m1.cursor.used; ends = m1.cursor.ends };
+      } → c ≡ record m1.cursor { left = drop 1 m1.cursor.left }
       → r ≡ reader_of l.strict (behind set l m (state_past f (slots_dictionary m.slots) m.counted m.cursor))
       → IsTurn takes stops set l r s (Ok Silent) s (record m1 { cursor = c })
   turn_silent s m m1 c f r h bits same moved e =
       let all : record m1 { cursor = c } ≡ record m { cursor = record m.cursor { left = drop 1 m.cursor.left; used = m1.cursor.used; ends = m1.cursor.ends } } =
-      ap (λ (x : CursorData). record m1 { cursor = x }) moved ∙ ap (λ (x : Machine). record x { cursor = record x.cursor { left = drop 1 x.cursor.left } }) same in
+      ap (λ (x : CursorData). record m1 { cursor = x }) moved
+      ∙ ap (λ (x : Machine). record x { cursor = record x.cursor { left = drop 1 x.cursor.left } }) same in
       subst (λ (x : Machine). IsTurn takes stops set l r s (Ok Silent) s x) (sym all)
       (silent_by s m m1.cursor.used m1.cursor.ends f r h (sym (ap (λ (x : Machine). bits_left x.cursor) same) ∙ bits) e)

@@ -36,7 +36,8 @@ pub record IsNextBegun (m : Machine) (c : CursorData) (width : ℕ) : Type 0 whe
   pub cursor : c ≡ entered (left_to m.cursor f fs) (Some e) e.body
   pub bits : width ≡ e.width
 
-begun_by : (m : Machine) (p : Place) (c : CursorData) (width : ℕ) (f : FrameData) (fs : List FrameData) (e : ElementsData) (n : ℕ) → m.cursor.frames ≡ f ∷ fs → f.elements ≡ Some e → e.more ≡ n
+begun_by : (m : Machine) (p : Place) (c : CursorData) (width : ℕ) (f : FrameData) (fs : List FrameData) (e : ElementsData) (n : ℕ)
+    → m.cursor.frames ≡ f ∷ fs → f.elements ≡ Some e → e.more ≡ n
     → c ≡ gone_on m.cursor f fs (next_by n e) → Some width ≡ option_map (λ (x : ElementsData). x.width) (next_by n e) → IsNextBegun (placed m p) c width
 begun_by m p c width f fs e zero frames some count is bits = absurd (cc bits)
 begun_by m p c width f fs e (suc n) frames some count is bits = record {
@@ -49,14 +50,16 @@ begun_by m p c width f fs e (suc n) frames some count is bits = record {
   bits = cc bits;
 }
 
-begun_of : (m : Machine) (p : Place) (c : CursorData) (width : ℕ) (f : FrameData) (fs : List FrameData) (x : Option ElementsData) → m.cursor.frames ≡ f ∷ fs → f.elements ≡ x
+begun_of : (m : Machine) (p : Place) (c : CursorData) (width : ℕ) (f : FrameData) (fs : List FrameData) (x : Option ElementsData)
+    → m.cursor.frames ≡ f ∷ fs → f.elements ≡ x
     → c ≡ gone_on m.cursor f fs (next_of x) → Some width ≡ option_map (λ (x : ElementsData). x.width) (next_of x) → IsNextBegun (placed m p) c width
 begun_of m p c width f fs None frames some is bits = absurd (cc bits)
 begun_of m p c width f fs (Some e) frames some is bits = begun_by m p c width f fs e e.more frames some refl is bits
 
 pub next_begun : (m : Machine) (p : Place) (c : CursorData) (r : Option ℕ) (width : ℕ) → r ≡ Some width → ¬ (m.cursor.frames ≡ [])
     → ((f : FrameData) (fs : List FrameData) → m.cursor.frames ≡ f ∷ fs → c ≡ gone_on m.cursor f fs (next_of f.elements))
-    → ((f : FrameData) (fs : List FrameData) → m.cursor.frames ≡ f ∷ fs → r ≡ option_map (λ (e : ElementsData). e.width) (next_of f.elements)) → IsNextBegun (placed m p) c width
+    → ((f : FrameData) (fs : List FrameData) → m.cursor.frames ≡ f ∷ fs
+    → r ≡ option_map (λ (e : ElementsData). e.width) (next_of f.elements)) → IsNextBegun (placed m p) c width
 next_begun m p c r width some inner next bits =
     let (f, fs, frames) = some_frame m.cursor.frames inner in
     begun_of m p c width f fs f.elements frames refl (next f fs frames) (sym some ∙ bits f fs frames)
@@ -111,14 +114,18 @@ module _ (set : Set) (l : Limits) (m : Machine) (c : CursorData) (width : ℕ) (
 
     supplied : IsSupplied set l (record m { cursor = c })
     supplied = subst (λ (x : CursorData). IsSupplied set l (record m { cursor = x })) (sym b.cursor)
-        (supplied_like set l m (record m { cursor = entered between (Some b.e) b.e.body }) can.supplied (like_at m (entered between (Some b.e) b.e.body) refl) can.supplied.counted)
+        (supplied_like set l m (record m { cursor = entered between (Some b.e) b.e.body }) can.supplied
+        (like_at m (entered between (Some b.e) b.e.body) refl) can.supplied.counted)
 
     -- The sink stops at the end of the element,
-    pub next_stops : (s s' : S) (code : FaultCode) → code ≡ SinkStopped → stops s ElementEnd s' → IsTurn takes stops set l (turning set l m) s (Err code) s' (record m { cursor = c })
-    next_stops s s' code is stopped = turn_halt takes stops set l (turning set l m) behind ElementEnd s code s' (record m { cursor = c }) first (is, stopped) supplied
+    pub next_stops : (s s' : S) (code : FaultCode) → code ≡ SinkStopped → stops s ElementEnd s'
+        → IsTurn takes stops set l (turning set l m) s (Err code) s' (record m { cursor = c })
+    next_stops s s' code is stopped = turn_halt takes stops set l (turning set l m) behind ElementEnd s code s'
+        (record m { cursor = c }) first (is, stopped) supplied
 
     -- or where the next one begins,
-    pub next_halts : (s mid s' : S) (code : FaultCode) → code ≡ SinkStopped → takes s ElementEnd mid → stops mid ElementStart s' → IsTurn takes stops set l (turning set l m) s (Err code) s' (record m { cursor = c })
+    pub next_halts : (s mid s' : S) (code : FaultCode) → code ≡ SinkStopped → takes s ElementEnd mid → stops mid ElementStart s'
+        → IsTurn takes stops set l (turning set l m) s (Err code) s' (record m { cursor = c })
     next_halts s mid s' code is taken stopped =
         turn_more takes stops set l (turning set l m) behind ElementEnd s mid (Err code) s' (record m { cursor = c }) first taken
         (turn_halt takes stops set l behind then ElementStart mid code s' (record m { cursor = c }) second (is, stopped) supplied) (λ e. cc e)
@@ -132,5 +139,6 @@ module _ (set : Set) (l : Limits) (m : Machine) (c : CursorData) (width : ℕ) (
         let fit : AreElementsFit set between.depth (length between.frames) (Some whole) = ends.elements_fit whole refl in
         turn_more takes stops set l (turning set l m) behind ElementEnd s mid (Ok (opened_turn width)) s' (awaiting width begun) first taken
         (turn_in takes stops set l n (awaiting width begun) c (opened_turn width) width (Some b.e) b.e.body behind ElementStart mid s'
-        (opened_waits width begun) (opened_goes width begun) b.cursor (can_turn-turns set l (record m { cursor = between }) t ends.can) (b.bits ∙ fit.2) fit.0 fit.1 fit second started)
+        (opened_waits width begun) (opened_goes width begun) b.cursor (can_turn-turns set l (record m { cursor = between }) t ends.can)
+        (b.bits ∙ fit.2) fit.0 fit.1 fit second started)
         (opened_not_silent (Ok width))

@@ -85,7 +85,8 @@ module _ (t : Tree) (l : Limits) where
   run-one : (n : ℕ) (r : Reader Dictionary) (b : ℕ) → run (message_begun t l) n (waiting_at r) (b ∷ []) ≡ settle (suc n) (after_byte (due t l r) b)
   run-one n r b =
       let e = waiting-step n r b in
-      ap (λ (x : List EventData × Position Dictionary). (x.0 ++ [], x.1)) e ∙ ap (λ es. (es, (settle (suc n) (after_byte (due t l r) b)).1)) (append-nil (settle (suc n) (after_byte (due t l r) b)).0)
+      ap (λ (x : List EventData × Position Dictionary). (x.0 ++ [], x.1)) e
+      ∙ ap (λ es. (es, (settle (suc n) (after_byte (due t l r) b)).1)) (append-nil (settle (suc n) (after_byte (due t l r) b)).0)
 
   run-cons : (n : ℕ) (r : Reader Dictionary) (b : ℕ) (w : List ℕ) → Waits (after_byte (due t l r) b)
       → run (message_begun t l) n (waiting_at r) (b ∷ w) ≡ run (message_begun t l) (suc n) (waiting_at (after_byte (due t l r) b)) w
@@ -142,26 +143,31 @@ module _ (t : Tree) (l : Limits) where
     run-two n from mid u v es h =
         let parts = run-append (message_begun t l) n (n + length u) from u v refl in
         let e : run (message_begun t l) n from u ≡ (es, mid) = h n in
-        pair (parts.0 ∙ ap (λ (x : List EventData × Position Dictionary). x.0 ++ (run (message_begun t l) (n + length u) x.1 v).0) e) (parts.1 ∙ ap (λ (x : List EventData × Position Dictionary). (run (message_begun t l) (n + length u) x.1 v).1) e)
+        pair (parts.0 ∙ ap (λ (x : List EventData × Position Dictionary). x.0 ++ (run (message_begun t l) (n + length u) x.1 v).0) e)
+        (parts.1 ∙ ap (λ (x : List EventData × Position Dictionary). (run (message_begun t l) (n + length u) x.1 v).1) e)
 
     -- one run of bytes after the other
-    pub took_both : (from mid to : Position Dictionary) (u v : List ℕ) (s m s' : S) → TookEvents takes t l from u s m mid → TookEvents takes t l mid v m s' to → TookEvents takes t l from (u ++ v) s s' to
+    pub took_both : (from mid to : Position Dictionary) (u v : List ℕ) (s m s' : S) → TookEvents takes t l from u s m mid
+        → TookEvents takes t l mid v m s' to → TookEvents takes t l from (u ++ v) s s' to
     took_both from mid to u v s m s' a b = record {
       events = a.events ++ b.events;
       leads = λ n. run-two n from mid u v a.events a.leads ∙ ap (λ (x : List EventData × Position Dictionary). (a.events ++ x.0, x.1)) (b.leads (n + length u));
       taken = takes_more takes stops s m s' a.events b.events a.taken b.taken;
     }
 
-    failed_both : (from mid : Position Dictionary) (u v : List ℕ) (s m s' : S) (c : Code) → TookEvents takes t l from u s m mid → Failed takes t l mid v m s' c → Failed takes t l from (u ++ v) s s' c
+    failed_both : (from mid : Position Dictionary) (u v : List ℕ) (s m s' : S) (c : Code) → TookEvents takes t l from u s m mid
+        → Failed takes t l mid v m s' c → Failed takes t l from (u ++ v) s s' c
     failed_both from mid u v s m s' c a b = record {
       events = a.events ++ b.events;
       leads = λ n.
           let sum : n + length u + length v ≡ n + length (u ++ v) = omega (arith, length-append u v) in
-          run-two n from mid u v a.events a.leads ∙ ap (λ (x : List EventData × Position Dictionary). (a.events ++ x.0, x.1)) (b.leads (n + length u)) ∙ ap (λ k. (a.events ++ b.events, at_fault c k)) sum;
+          run-two n from mid u v a.events a.leads ∙ ap (λ (x : List EventData × Position Dictionary). (a.events ++ x.0, x.1))
+          (b.leads (n + length u)) ∙ ap (λ k. (a.events ++ b.events, at_fault c k)) sum;
       taken = takes_more takes stops s m s' a.events b.events a.taken b.taken;
     }
 
-    stopped_both : (from mid : Position Dictionary) (u v : List ℕ) (s m s' : S) → TookEvents takes t l from u s m mid → Stopped takes stops t l mid v m s' → Stopped takes stops t l from (u ++ v) s s'
+    stopped_both : (from mid : Position Dictionary) (u v : List ℕ) (s m s' : S) → TookEvents takes t l from u s m mid
+        → Stopped takes stops t l mid v m s' → Stopped takes stops t l from (u ++ v) s s'
     stopped_both from mid u v s m s' a b = record {
       before = u ++ b.before;
       byte = b.byte;
@@ -175,7 +181,8 @@ module _ (t : Tree) (l : Limits) where
     }
 
     -- Bytes that were fed behind others that were taken.
-    pub fed_both : (from mid to : Position Dictionary) (u v : List ℕ) (s m s' : S) (r : Result Unit FaultCode) → TookEvents takes t l from u s m mid → Fed takes stops t l mid v m r s' to → Fed takes stops t l from (u ++ v) s r s' to
+    pub fed_both : (from mid to : Position Dictionary) (u v : List ℕ) (s m s' : S) (r : Result Unit FaultCode)
+        → TookEvents takes t l from u s m mid → Fed takes stops t l mid v m r s' to → Fed takes stops t l from (u ++ v) s r s' to
     fed_both from mid to u v s m s' (Ok x) a b = took_both from mid to u v s m s' a b
     fed_both from mid to u v s m s' (Err (Why.Stream c)) a b = failed_both from mid u v s m s' c a b
     fed_both from mid to u v s m s' (Err Why.SinkStopped) a b = stopped_both from mid u v s m s' a b
@@ -202,7 +209,8 @@ module _ (t : Tree) (l : Limits) where
           at = k.at;
           took = record { events = []; leads = k.before; taken = refl };
           given = es;
-          gives = λ n. ap (λ (x : List EventData × Position Dictionary). x.0) (k.last n) ∙ ap (λ (x : List ℕ). (settle (suc n) (after_bytes (due t l r) x)).0) (sym e) ∙ settled (suc n);
+          gives = λ n. ap (λ (x : List EventData × Position Dictionary). x.0) (k.last n)
+              ∙ ap (λ (x : List ℕ). (settle (suc n) (after_bytes (due t l r) x)).0) (sym e) ∙ settled (suc n);
           stopped = stopped;
         }
     quiet_fed r b w s (Err Why.L4) s' q h i = hands_no_count takes stops (after_bytes (due t l r) (b ∷ w)) s s' q i
@@ -213,14 +221,17 @@ module _ (t : Tree) (l : Limits) where
     by_list r (b ∷ w) s o s' q some h i = quiet_fed r b w s o s' q h i
 
     -- Bytes of a piece that were fed behind others that were taken.
-    pub fed_behind : (from mid to : Position Dictionary) (piece : List ℕ) (k n : ℕ) (s m s' : S) (o : Result Unit FaultCode) → TookEvents takes t l from (take k piece) s m mid
+    pub fed_behind : (from mid to : Position Dictionary) (piece : List ℕ) (k n : ℕ) (s m s' : S) (o : Result Unit FaultCode)
+        → TookEvents takes t l from (take k piece) s m mid
         → Fed takes stops t l mid (take n (take (length piece - k) (drop k piece))) m o s' to → Fed takes stops t l from (take (k + n) piece) s o s' to
     fed_behind from mid to piece k n s m s' o a b =
         subst (λ (w : List ℕ). Fed takes stops t l from w s o s' to) (sym (take-add k n piece))
-        (fed_both from mid to (take k piece) (take n (drop k piece)) s m s' o a (subst (λ (w : List ℕ). Fed takes stops t l mid (take n w) m o s' to) (take_rest piece k) b))
+        (fed_both from mid to (take k piece) (take n (drop k piece)) s m s' o a
+        (subst (λ (w : List ℕ). Fed takes stops t l mid (take n w) m o s' to) (take_rest piece k) b))
 
     -- where the machine goes on
-    pub fed_on : (from : Position Dictionary) (w : List ℕ) (s : S) (r : Result Unit FaultCode) (s' : S) (to : Position Dictionary) → is_err r ≡ false → Fed takes stops t l from w s r s' to → TookEvents takes t l from w s s' to
+    pub fed_on : (from : Position Dictionary) (w : List ℕ) (s : S) (r : Result Unit FaultCode) (s' : S) (to : Position Dictionary)
+        → is_err r ≡ false → Fed takes stops t l from w s r s' to → TookEvents takes t l from w s s' to
     fed_on from w s (Ok u) s' to e h = h
     fed_on from w s (Err c) s' to e h = absurd (cc e)
 

@@ -15,11 +15,13 @@ module _ {S : Type 0} (takes stops : S → EventData → S → Type 0) where
   hands_waits r s (f, e) = rw e (refl, refl, refl)
 
   -- An event in front was taken, and the rest was handed over.
-  pub hands_more : (e : EventData) (p : Reader Dictionary) (s mid : S) (r : Result Unit FaultCode) (s' : S) (q : Reader Dictionary) → takes s e mid → Hands takes stops p mid r s' q → Hands takes stops (Emit e p) s r s' q
+  pub hands_more : (e : EventData) (p : Reader Dictionary) (s mid : S) (r : Result Unit FaultCode) (s' : S) (q : Reader Dictionary)
+      → takes s e mid → Hands takes stops p mid r s' q → Hands takes stops (Emit e p) s r s' q
   hands_more e p s mid r s' q h i = inl (mid, h, i)
 
   -- The sink stopped at an event in front.
-  pub hands_stopped : (e : EventData) (p : Reader Dictionary) (s s' : S) (q : Reader Dictionary) (c : FaultCode) → (c ≡ Why.SinkStopped) × stops s e s' → Hands takes stops (Emit e p) s (Err c) s' q
+  pub hands_stopped : (e : EventData) (p : Reader Dictionary) (s s' : S) (q : Reader Dictionary) (c : FaultCode)
+      → (c ≡ Why.SinkStopped) × stops s e s' → Hands takes stops (Emit e p) s (Err c) s' q
   hands_stopped e p s s' q c (i, h) = inr (h, ap Err i)
 
   -- An event, and then the end.
@@ -33,5 +35,6 @@ module _ {S : Type 0} (takes stops : S → EventData → S → Type 0) where
   hands_fault s q e = rw e (refl, refl)
 
   -- the same by another name of the reader
-  pub hands_as : {p p' : Reader Dictionary} (s : S) (r : Result Unit FaultCode) (s' : S) (q : Reader Dictionary) → p ≡ p' → Hands takes stops p' s r s' q → Hands takes stops p s r s' q
+  pub hands_as : {p p' : Reader Dictionary} (s : S) (r : Result Unit FaultCode) (s' : S) (q : Reader Dictionary) → p ≡ p'
+      → Hands takes stops p' s r s' q → Hands takes stops p s r s' q
   hands_as s r s' q e h = subst (λ (p : Reader Dictionary). Hands takes stops p s r s' q) (sym e) h

@@ -17,11 +17,13 @@ use Rattle.fast_stream.proofs.streams.Stepping.{after-more, entity-stays, entity
 -- Bytes in front of an entity's last one have no stop bit.
 pub front_open : (front : List ℕ) (b : ℕ) (w f : List ℕ) (last : ℕ) → front ++ b ∷ w ≡ f ++ last ∷ [] → HaveNoStop f → HaveNoStop front
 front_open [] b w f last e h = All-nil (λ x. x < 128)
-front_open (c ∷ front) b w [] last e h = let k : front ++ b ∷ w ≡ [] = cc e in absurd (let n : length (front ++ b ∷ w) ≡ 0 = ap length k in omega (arith, n, length-append front (b ∷ w)))
+front_open (c ∷ front) b w [] last e h = let k : front ++ b ∷ w ≡ [] = cc e in
+    absurd (let n : length (front ++ b ∷ w) ≡ 0 = ap length k in omega (arith, n, length-append front (b ∷ w)))
 front_open (c ∷ front) b w (d ∷ f) last e h =
     let i : c ≡ d = cc e in
     let k : front ++ b ∷ w ≡ f ++ last ∷ [] = cc e in
-    All-cons (λ x. x < 128) c front (subst (λ x. x < 128) (sym i) (All-head (λ x. x < 128) d f h)) (front_open front b w f last k (All-tail (λ x. x < 128) d f h))
+    All-cons (λ x. x < 128) c front (subst (λ x. x < 128) (sym i) (All-head (λ x. x < 128) d f h))
+    (front_open front b w f last k (All-tail (λ x. x < 128) d f h))
 
 -- The bytes behind the front come one after the other, and before each of them there is no stop bit.
 abbrev pub IsOpenBefore : List ℕ → List ℕ → Type 0

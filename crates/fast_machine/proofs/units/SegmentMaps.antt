@@ -21,7 +21,10 @@ use Rattle.fast_stream.proofs.streams.Stepping.{map-entity}
 module _ (set : Set) (l : Limits) (d : Dictionary) (counted : ℕ) (c : CursorData) (width : ℕ) where
   -- what is read behind a map of which so many bits are used
   abbrev from_bit : ℕ → List ℕ → Grammar Dictionary
-  from_bit used w = narrow width w (resume (bounds l) (frames_in set c.frames) (body_in set c.left) (record { context = record { dictionary = d; counted = counted }; bits = drop used (bits w) }))
+  from_bit used w = narrow width w (resume (bounds l) (frames_in set c.frames) (body_in set c.left) (record {
+    context = record { dictionary = d; counted = counted };
+    bits = drop used (bits w);
+  }))
 
   abbrev judged_from : ℕ → List ℕ → Reader Dictionary
   judged_from used w = bind (settles_reader (judged_map l.strict w)) (λ m. reader_of l.strict (from_bit used m))
@@ -35,9 +38,12 @@ module _ (set : Set) (l : Limits) (d : Dictionary) (counted : ℕ) (c : CursorDa
   segment-reader = map-entity l.strict (from_bit 0)
 
   -- It is what the machine reads behind a map of which no bit is used.
-  pub segment_same : (m : Machine) (w : List ℕ) → m.cursor ≡ record c { map = m.cursor.map } → c.used ≡ 0 → m.cursor.map ≡ w → slots_dictionary m.slots ≡ d → m.counted ≡ counted → segment_judged w ≡ segment_reader set l m width
+  pub segment_same : (m : Machine) (w : List ℕ) → m.cursor ≡ record c { map = m.cursor.map } → c.used ≡ 0 → m.cursor.map ≡ w
+      → slots_dictionary m.slots ≡ d → m.counted ≡ counted → segment_judged w ≡ segment_reader set l m width
   segment_same m w same none whole dictionary count =
-      let at : CursorData → Dictionary → ℕ → Reader Dictionary = λ x e k. bind (settles_reader (judged_map l.strict x.map)) (λ v. reader_of l.strict (narrow width v (going_on set (bounds l) e k (record x { map = v })))) in
+      let at : CursorData → Dictionary → ℕ → Reader Dictionary =
+      λ x e k. bind (settles_reader (judged_map l.strict x.map))
+      (λ v. reader_of l.strict (narrow width v (going_on set (bounds l) e k (record x { map = v })))) in
       ap (judged_from 0) (sym whole)
       ∙ ap (λ u. judged_from u m.cursor.map) (sym none)
       ∙ ap (λ x. at x d counted) (sym same)
@@ -45,5 +51,7 @@ module _ (set : Set) (l : Limits) (d : Dictionary) (counted : ℕ) (c : CursorDa
       ∙ ap (λ k. at m.cursor (slots_dictionary m.slots) k) (sym count)
 
   -- It does not look at the map that the cursor has.
-  pub segment_of : (n : CursorData) → n ≡ record c { map = n.map } → after_bytes (reader_of l.strict (segment_behind set (bounds l) d counted n width)) n.map ≡ after_bytes (reader_of l.strict (segment_behind set (bounds l) d counted c width)) n.map
+  pub segment_of : (n : CursorData) → n ≡ record c { map = n.map }
+      → after_bytes (reader_of l.strict (segment_behind set (bounds l) d counted n width)) n.map ≡ after_bytes
+      (reader_of l.strict (segment_behind set (bounds l) d counted c width)) n.map
   segment_of n same = ap (λ (x : CursorData). after_bytes (reader_of l.strict (segment_behind set (bounds l) d counted x width)) n.map) same

@@ -40,16 +40,24 @@ module _ {S : Type 0} (takes stops : S → EventData → S → Type 0) (t : Tree
         some = some;
         within = within;
         quiet = subst (λ (p : Reader Dictionary). Quiet p (take n rest)) (sym same) quiet;
-        hands = hands_as takes stops s o s' to (ap (λ (p : Reader Dictionary). after_bytes p (take n rest)) same ∙ sym (after_run r front (take n rest)) ∙ h.becomes) i;
+        hands = hands_as takes stops s o s' to (ap (λ (p : Reader Dictionary). after_bytes p (take n rest)) same
+            ∙ sym (after_run r front (take n rest)) ∙ h.becomes) i;
       }
 
   -- The last of some bytes decides a fault.
-  pub taken_fault : (n : ℕ) (c : Code) (s : S) (to : Reader Dictionary) → 0 < n → n ≤ length rest → Turns r (front ++ take n rest) (Stop c) → IsTaken takes stops t l (after_bytes r front) rest s n (Err (Why.Stream c)) s to
+  pub taken_fault : (n : ℕ) (c : Code) (s : S) (to : Reader Dictionary) → 0 < n → n ≤ length rest → Turns r (front ++ take n rest) (Stop c)
+      → IsTaken takes stops t l (after_bytes r front) rest s n (Err (Why.Stream c)) s to
   taken_fault n c s to some within h = taken_turns n (Stop c) s (Err (Why.Stream c)) s to some within h (hands_fault takes stops s to refl)
 
   -- All bytes are taken, and the unit is cut.
-  pub taken_stays : (s : S) → 0 < length rest → Stays r (front ++ rest) → IsTaken takes stops t l (after_bytes r front) rest s (length rest) (Ok tt) s (after_bytes r (front ++ rest))
+  pub taken_stays : (s : S) → 0 < length rest → Stays r (front ++ rest)
+      → IsTaken takes stops t l (after_bytes r front) rest s (length rest) (Ok tt) s (after_bytes r (front ++ rest))
   taken_stays s some h =
       let all : take (length rest) rest ≡ rest = take_all (length rest) rest (omega arith) in
-      let turns : Turns r (front ++ take (length rest) rest) (after_bytes r (front ++ rest)) = subst (λ (w : List ℕ). Turns r (front ++ w) (after_bytes r (front ++ rest))) (sym all) (record { quiet = h.quiet; becomes = refl }) in
-      taken_turns (length rest) (after_bytes r (front ++ rest)) s (Ok tt) s (after_bytes r (front ++ rest)) some (omega arith) turns (hands_waits takes stops (after_bytes r (front ++ rest)) s h.waits)
+      let turns : Turns r (front ++ take (length rest) rest) (after_bytes r (front ++ rest)) =
+      subst (λ (w : List ℕ). Turns r (front ++ w) (after_bytes r (front ++ rest))) (sym all) (record {
+        quiet = h.quiet;
+        becomes = refl;
+      }) in
+      taken_turns (length rest) (after_bytes r (front ++ rest)) s (Ok tt) s (after_bytes r (front ++ rest)) some (omega arith) turns
+      (hands_waits takes stops (after_bytes r (front ++ rest)) s h.waits)

@@ -44,17 +44,21 @@ module _ {S : Type 0} (takes stops : S → EventData → S → Type 0) (t : Tree
   pub taken_as : {from from' to to' : Reader Dictionary} (rest : List ℕ) (s : S) (n : ℕ) (r : Result Unit FaultCode) (s' : S) → from ≡ from' → to ≡ to'
       → IsTaken takes stops t l from' rest s n r s' to' → IsTaken takes stops t l from rest s n r s' to
   taken_as {from} {from'} {to} {to'} rest s n r s' e i h =
-      subst (λ (p : Reader Dictionary). IsTaken takes stops t l p rest s n r s' to) (sym e) (subst (λ (q : Reader Dictionary). IsTaken takes stops t l from' rest s n r s' q) (sym i) h)
+      subst (λ (p : Reader Dictionary). IsTaken takes stops t l p rest s n r s' to) (sym e)
+      (subst (λ (q : Reader Dictionary). IsTaken takes stops t l from' rest s n r s' q) (sym i) h)
 
-  module _ (c : Code) (room : ℕ) (k : List ℕ → Reader Dictionary) (from : Reader Dictionary) (front rest : List ℕ) (here : due t l from ≡ after_bytes (entity_then c room k) front) where
+  module _ (c : Code) (room : ℕ) (k : List ℕ → Reader Dictionary) (from : Reader Dictionary) (front rest : List ℕ)
+      (here : due t l from ≡ after_bytes (entity_then c room k) front) where
     -- Some bytes of the rest are taken.
-    pub taken_by : (n : ℕ) (s : S) (r : Result Unit FaultCode) (s' : S) (to : Reader Dictionary) → 0 < n → n ≤ length rest → IsOpenBefore front (take n rest) → length (front ++ take n rest) ≤ room
+    pub taken_by : (n : ℕ) (s : S) (r : Result Unit FaultCode) (s' : S) (to : Reader Dictionary) → 0 < n → n ≤ length rest
+        → IsOpenBefore front (take n rest) → length (front ++ take n rest) ≤ room
         → Hands takes stops (after_bytes (entity_then c room k) (front ++ take n rest)) s r s' to → IsTaken takes stops t l from rest s n r s' to
     taken_by n s r s' to some within before short h = record {
       some = some;
       within = within;
       quiet = subst (λ (p : Reader Dictionary). Quiet p (take n rest)) (sym here) (takes_quietly c room k front (take n rest) before short);
-      hands = hands_as takes stops s r s' to (ap (λ (p : Reader Dictionary). after_bytes p (take n rest)) here ∙ sym (after-append (entity_then c room k) front (take n rest))) h;
+      hands = hands_as takes stops s r s' to (ap (λ (p : Reader Dictionary). after_bytes p (take n rest)) here
+          ∙ sym (after-append (entity_then c room k) front (take n rest))) h;
     }
 
     -- All of the rest is taken, and the entity is cut.
@@ -65,36 +69,43 @@ module _ {S : Type 0} (takes stops : S → EventData → S → Type 0) (t : Tree
         taken_by (length rest) s (Ok tt) s (after_bytes (entity_then c room k) (front ++ rest)) some (omega arith)
         (open_in_open front (take (length rest) rest) (subst (λ (w : List ℕ). HaveNoStop (front ++ w)) (sym all) no_stop))
         (rw all (omega arith))
-        (hands_as takes stops s (Ok tt) s (after_bytes (entity_then c room k) (front ++ rest)) (ap (λ (w : List ℕ). after_bytes (entity_then c room k) (front ++ w)) all)
+        (hands_as takes stops s (Ok tt) s (after_bytes (entity_then c room k) (front ++ rest))
+        (ap (λ (w : List ℕ). after_bytes (entity_then c room k) (front ++ w)) all)
         (hands_waits takes stops (after_bytes (entity_then c room k) (front ++ rest)) s (open_waits c room k (front ++ rest) no_stop short)))
 
     -- There is no stop bit among as many bytes as there may be.
-    pub taken_full : (n : ℕ) (s : S) (to : Reader Dictionary) → 0 < n → n ≤ length rest → HaveNoStop (front ++ take n rest) → length (front ++ take n rest) ≡ room
+    pub taken_full : (n : ℕ) (s : S) (to : Reader Dictionary) → 0 < n → n ≤ length rest → HaveNoStop (front ++ take n rest)
+        → length (front ++ take n rest) ≡ room
         → IsTaken takes stops t l from rest s n (Err (Why.Stream c)) s to
     taken_full n s to some within no_stop full =
         let len : length (take n rest) ≡ n = length-take-le n rest within in
         let sum : length (front ++ take n rest) ≡ length front + length (take n rest) = length-append front (take n rest) in
         let (before, b, e) = last_of (front ++ take n rest) (omega arith) in
         taken_by n s (Err (Why.Stream c)) s to some within (open_in_open front (take n rest) no_stop) (omega arith)
-        (hands_fault takes stops s to (ap (after_bytes (entity_then c room k)) e ∙ full_stops c room k before b (subst HaveNoStop e no_stop) (ap length (sym e) ∙ full)))
+        (hands_fault takes stops s to (ap (after_bytes (entity_then c room k)) e
+        ∙ full_stops c room k before b (subst HaveNoStop e no_stop) (ap length (sym e) ∙ full)))
 
 -- the map of a message, of which these bytes have come
-pub map-reader : (set : Set) (l : Limits) (d : Dictionary) → reader_of l.strict (message_then (tree_in set) (bounds l) d) ≡ entity_then L3 map_limit (mapped_reader set l d)
+pub map-reader : (set : Set) (l : Limits) (d : Dictionary)
+    → reader_of l.strict (message_then (tree_in set) (bounds l) d) ≡ entity_then L3 map_limit (mapped_reader set l d)
 unfolding message_then
 map-reader set l d = map-entity l.strict (behind_map set (bounds l) d)
 
-pub map_reader-some : (set : Set) (l : Limits) (d : Dictionary) (w : List ℕ) → 0 < length w → map_reader set l d w ≡ after_bytes (entity_then L3 map_limit (mapped_reader set l d)) w
+pub map_reader-some : (set : Set) (l : Limits) (d : Dictionary) (w : List ℕ) → 0 < length w
+    → map_reader set l d w ≡ after_bytes (entity_then L3 map_limit (mapped_reader set l d)) w
 map_reader-some set l d [] h = absurd (omega (arith, h))
 map_reader-some set l d (b ∷ w) h = ap (λ r. after_bytes r (b ∷ w)) (map-reader set l d)
 
-pub due-map : (set : Set) (l : Limits) (d : Dictionary) (w : List ℕ) → HaveNoStop w → length w < map_limit → due (tree_in set) l (map_reader set l d w) ≡ after_bytes (entity_then L3 map_limit (mapped_reader set l d)) w
+pub due-map : (set : Set) (l : Limits) (d : Dictionary) (w : List ℕ) → HaveNoStop w → length w < map_limit
+    → due (tree_in set) l (map_reader set l d w) ≡ after_bytes (entity_then L3 map_limit (mapped_reader set l d)) w
 due-map set l d [] h short = map-reader set l d
 due-map set l d (b ∷ w) h short =
     let e = map_reader-some set l d (b ∷ w) (omega arith) in
     due-waits (tree_in set) l (map_reader set l d (b ∷ w)) (subst Waits (sym e) (open_waits L3 map_limit (mapped_reader set l d) (b ∷ w) h short)) ∙ e
 
 -- a machine that waits in an entity is due as it is
-pub due-entity : (t : Tree) (l : Limits) (c : Code) (n : ℕ) (k : List ℕ → Reader Dictionary) (r : Reader Dictionary) (front : List ℕ) → r ≡ entity_then c n k → HaveNoStop front → length front < n
+pub due-entity : (t : Tree) (l : Limits) (c : Code) (n : ℕ) (k : List ℕ → Reader Dictionary) (r : Reader Dictionary) (front : List ℕ)
+    → r ≡ entity_then c n k → HaveNoStop front → length front < n
     → due t l (after_bytes r front) ≡ after_bytes (entity_then c n k) front
 due-entity t l c n k r front e h short =
     let i : after_bytes r front ≡ after_bytes (entity_then c n k) front = ap (λ p. after_bytes p front) e in

@@ -18,7 +18,8 @@ use Rattle.fast_stream.specs.device.Running.{Position, at_start, amid, at_fault,
 
 -- The sink accepts, one after the other, the events that the reader emits before it waits or ends, and this is the rest of the reader; or
 -- the reader stops at its fault; or the sink stops at one of the events.
-abbrev pub Hands : {S : Type 0} → (S → EventData → S → Type 0) → (S → EventData → S → Type 0) → Reader Dictionary → S → Result Unit FaultCode → S → Reader Dictionary → Type 0
+abbrev pub Hands : {S : Type 0} → (S → EventData → S → Type 0) → (S → EventData → S → Type 0) → Reader Dictionary → S
+    → Result Unit FaultCode → S → Reader Dictionary → Type 0
 Hands takes stops (Done d) s r s' q = IsOk r × (s' ≡ s) × (q ≡ Done d)
 Hands takes stops (Byte f) s r s' q = IsOk r × (s' ≡ s) × (q ≡ Byte f)
 Hands takes stops (Stop c) s r s' q = (r ≡ Err (Why.Stream c)) × (s' ≡ s)
@@ -32,7 +33,8 @@ due t l (Stop c) = Stop c
 due t l (Byte f) = Byte f
 
 -- A machine with this reader consumes some of the bytes, of which only the last emits events.
-pub record IsTaken {S : Type 0} (takes stops : S → EventData → S → Type 0) (t : Tree) (l : Limits) (from : Reader Dictionary) (rest : List ℕ) (s : S) (n : ℕ) (r : Result Unit FaultCode) (s' : S) (to : Reader Dictionary) : Type 0 where
+pub record IsTaken {S : Type 0} (takes stops : S → EventData → S → Type 0) (t : Tree) (l : Limits) (from : Reader Dictionary)
+    (rest : List ℕ) (s : S) (n : ℕ) (r : Result Unit FaultCode) (s' : S) (to : Reader Dictionary) : Type 0 where
   pub some : 0 < n
   pub within : n ≤ length rest
   pub quiet : Quiet (due t l from) (take n rest)
@@ -50,19 +52,22 @@ abbrev pub Leads : Tree → Limits → Position Dictionary → List ℕ → List
 Leads t l from w es to = (n : ℕ) → run (message_begun t l) n from w ≡ (es, to)
 
 -- The sink accepted the events of the bytes.
-pub record TookEvents {S : Type 0} (takes : S → EventData → S → Type 0) (t : Tree) (l : Limits) (from : Position Dictionary) (w : List ℕ) (s s' : S) (to : Position Dictionary) : Type 0 where
+pub record TookEvents {S : Type 0} (takes : S → EventData → S → Type 0) (t : Tree) (l : Limits) (from : Position Dictionary) (w : List ℕ)
+    (s s' : S) (to : Position Dictionary) : Type 0 where
   pub events : List EventData
   pub leads : Leads t l from w events to
   pub taken : Takes takes s events s'
 
 -- The sink accepted the events of the bytes up to the fault, which the last of them decides.
-pub record Failed {S : Type 0} (takes : S → EventData → S → Type 0) (t : Tree) (l : Limits) (from : Position Dictionary) (w : List ℕ) (s s' : S) (c : Code) : Type 0 where
+pub record Failed {S : Type 0} (takes : S → EventData → S → Type 0) (t : Tree) (l : Limits) (from : Position Dictionary) (w : List ℕ)
+    (s s' : S) (c : Code) : Type 0 where
   pub events : List EventData
   pub leads : (n : ℕ) → run (message_begun t l) n from w ≡ (events, at_fault c (n + length w))
   pub taken : Takes takes s events s'
 
 -- The sink accepted the events of all bytes but the last, and stopped at one that the last byte gives.
-pub record Stopped {S : Type 0} (takes stops : S → EventData → S → Type 0) (t : Tree) (l : Limits) (from : Position Dictionary) (w : List ℕ) (s s' : S) : Type 0 where
+pub record Stopped {S : Type 0} (takes stops : S → EventData → S → Type 0) (t : Tree) (l : Limits) (from : Position Dictionary)
+    (w : List ℕ) (s s' : S) : Type 0 where
   pub before : List ℕ
   pub byte : ℕ
   pub bytes : w ≡ before ++ byte ∷ []
@@ -74,7 +79,8 @@ pub record Stopped {S : Type 0} (takes stops : S → EventData → S → Type 0)
   pub stopped : TakesUpTo takes stops mid given s'
 
 -- the effect of these bytes, by the result
-abbrev pub Fed : {S : Type 0} → (S → EventData → S → Type 0) → (S → EventData → S → Type 0) → Tree → Limits → Position Dictionary → List ℕ → S → Result Unit FaultCode → S → Position Dictionary → Type 0
+abbrev pub Fed : {S : Type 0} → (S → EventData → S → Type 0) → (S → EventData → S → Type 0) → Tree → Limits → Position Dictionary → List ℕ
+    → S → Result Unit FaultCode → S → Position Dictionary → Type 0
 Fed takes stops t l from w s (Ok u) s' to = TookEvents takes t l from w s s' to
 Fed takes stops t l from w s (Err (Why.Stream c)) s' to = Failed takes t l from w s s' c
 Fed takes stops t l from w s (Err Why.SinkStopped) s' to = Stopped takes stops t l from w s s'

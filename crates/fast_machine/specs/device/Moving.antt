@@ -23,7 +23,8 @@ events_due (Byte f) = 0
 
 -- A turn of a machine that had the reader: it goes on after it emitted events or none, and then has the second reader; or it waits, and has
 -- the third one; or it is at an end.
-abbrev pub Moves : {S : Type 0} → (S → EventData → S → Type 0) → (S → EventData → S → Type 0) → Reader Dictionary → S → Result Turn FaultCode → S → Reader Dictionary → Reader Dictionary → Type 0
+abbrev pub Moves : {S : Type 0} → (S → EventData → S → Type 0) → (S → EventData → S → Type 0) → Reader Dictionary → S
+    → Result Turn FaultCode → S → Reader Dictionary → Reader Dictionary → Type 0
 Moves takes stops r s (Ok Silent) s' on waits = (r ≡ on) × (s' ≡ s)
 Moves takes stops r s (Ok Handed) s' on waits = (e : EventData) × (es : List EventData) × (r ≡ emits (e ∷ es) on) × Takes takes s (e ∷ es) s'
 Moves takes stops r s (Ok Waits) s' on waits = Hands takes stops r s (Ok tt) s' waits

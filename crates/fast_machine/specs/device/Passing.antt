@@ -20,25 +20,34 @@ pub record IsPast (old new : CursorData) : Type 0 where
 
 -- the state after a field that a cursor is at
 abbrev pub state_past : FieldData → Dictionary → ℕ → CursorData → State
-state_past f d counted c = record { context = record { dictionary = d; counted = counted }; bits = if uses_bit f then later_bits (bits_left c) else bits_left c }
+state_past f d counted c = record {
+  context = record { dictionary = d; counted = counted };
+  bits = if uses_bit f then later_bits (bits_left c) else bits_left c;
+}
 
 -- The rest of the message after the exponent of the next instruction, a decimal by parts.
 abbrev pub exponent_then : Set → Bounds → ℕ → Option ScalarData → FieldData → FieldData → Dictionary → ℕ → CursorData → Grammar Dictionary
-exponent_then set l n v e m d counted c = mantissa_after_then l n m (resume l (frames_in set c.frames) (body_in set (drop 1 c.left))) (v, state_past e d counted c)
+exponent_then set l n v e m d counted c = mantissa_after_then l n m (resume l (frames_in set c.frames) (body_in set (drop 1 c.left)))
+    (v, state_past e d counted c)
 
 -- The rest of the message after its mantissa.
 abbrev pub decimal_then : Set → Bounds → ℕ → ℤ → Option ScalarData → FieldData → Dictionary → ℕ → CursorData → Grammar Dictionary
-decimal_then set l n x v m d counted c = handed_then n (resume l (frames_in set c.frames) (body_in set (drop 1 c.left))) (decimal_with x v) (state_past m d counted c)
+decimal_then set l n x v m d counted c = handed_then n (resume l (frames_in set c.frames) (body_in set (drop 1 c.left))) (decimal_with x v)
+    (state_past m d counted c)
 
 -- The rest of the message after the length of the next instruction, a sequence.
 abbrev pub length_then : Set → Bounds → ℕ → Option ScalarData → FieldData → List ℕ → Dictionary → ℕ → CursorData → Grammar Dictionary
 length_then set l n v f body d counted c =
-    sequence_from_then l n (segment_then (body_in set body) (body_then l (body_in set body))) (resume l (frames_in set c.frames) (body_in set (drop 1 c.left))) (v, state_past f d counted c)
+    sequence_from_then l n (segment_then (body_in set body) (body_then l (body_in set body)))
+    (resume l (frames_in set c.frames) (body_in set (drop 1 c.left))) (v, state_past f d counted c)
 
 -- The rest of the message from the next instruction on, a group that is present, after its bit is used, if it has one.
 abbrev pub group_from : Set → Bounds → ℕ → List ℕ → Dictionary → ℕ → CursorData → Grammar Dictionary
 group_from set l n body d counted c =
-    hand (GroupStart n) (opened l (open_group (body_in set (drop 1 c.left)) (bits_left c) ∷ frames_in set c.frames) (body_in set body) (record { dictionary = d; counted = counted }))
+    hand (GroupStart n) (opened l (open_group (body_in set (drop 1 c.left)) (bits_left c) ∷ frames_in set c.frames) (body_in set body) (record {
+      dictionary = d;
+      counted = counted;
+    }))
 
 -- The rest of the message from the elements of a sequence on: n elements, after which this segment goes on.
 abbrev pub elements_from : Set → Bounds → ℕ → List ℕ → Dictionary → ℕ → CursorData → Grammar Dictionary

@@ -1,5 +1,6 @@
 -- The position of a machine in a stream, by its state.
-use Rattle.std.specs.Prelude.{◌≡◌, ◌⊎◌, ℕ, suc, ◌+◌, ◌<◌, ◌≤◌, Bool, true, false, nat_eq, if◌then◌else◌, List, [], ◌∷◌, length, drop, map, slice_get, ℤ, Option, Some, None, IfSome, Result, Ok, Err}
+use Rattle.std.specs.Prelude.{◌≡◌, ◌⊎◌, ℕ, suc, ◌+◌, ◌<◌, ◌≤◌, Bool, true, false, nat_eq, if◌then◌else◌, List, [], ◌∷◌, length, drop, map}
+use Rattle.std.specs.Prelude.{slice_get, ℤ, Option, Some, None, IfSome, Result, Ok, Err}
 use Rattle.fast_wire.specs.meaning.Entities.{HaveNoStop, IsEntity}
 use Rattle.fast_wire.specs.meaning.Maps.{map_limit, bits, first_bit}
 use Rattle.fast_value.specs.declared.settings.Limits.{Limits}
@@ -112,7 +113,10 @@ behind_map set l d m = field_in l identifier (begin d (bits m)) >>= message_behi
 -- the rest of the message from the map of a segment on
 abbrev pub segment_behind : Set → Bounds → Dictionary → ℕ → CursorData → ℕ → Grammar Dictionary
 segment_behind set l d counted c width =
-    presence_map (λ m. narrow width m (resume l (frames_in set c.frames) (body_in set c.left) (record { context = record { dictionary = d; counted = counted }; bits = bits m })))
+    presence_map (λ m. narrow width m (resume l (frames_in set c.frames) (body_in set c.left) (record {
+      context = record { dictionary = d; counted = counted };
+      bits = bits m;
+    })))
 
 -- the rest of the message, from the partial unit on
 abbrev pub term_at : Waiting → Set → Bounds → Machine → Grammar Dictionary
@@ -121,9 +125,12 @@ term_at Identifier set l m = behind_map set l (slots_dictionary m.slots) m.curso
 term_at (SegmentMap width) set l m = segment_behind set l (slots_dictionary m.slots) m.counted m.cursor width
 term_at Field set l m = going_on set l (slots_dictionary m.slots) m.counted m.cursor
 term_at Text set l m = going_on set l (slots_dictionary m.slots) m.counted m.cursor
-term_at (Number stage) set l m = unit_then l (frames_in set m.cursor.frames) (body_in set m.cursor.left) (state_in (slots_dictionary m.slots) m.counted m.cursor) stage
-term_at (Bytes stage) set l m = unit_then l (frames_in set m.cursor.frames) (body_in set m.cursor.left) (state_in (slots_dictionary m.slots) m.counted m.cursor) stage
-term_at (Mantissa x) set l m = mantissa_then l (frames_in set m.cursor.frames) (body_in set m.cursor.left) (state_in (slots_dictionary m.slots) m.counted m.cursor) x
+term_at (Number stage) set l m = unit_then l (frames_in set m.cursor.frames) (body_in set m.cursor.left)
+    (state_in (slots_dictionary m.slots) m.counted m.cursor) stage
+term_at (Bytes stage) set l m = unit_then l (frames_in set m.cursor.frames) (body_in set m.cursor.left)
+    (state_in (slots_dictionary m.slots) m.counted m.cursor) stage
+term_at (Mantissa x) set l m = mantissa_then l (frames_in set m.cursor.frames) (body_in set m.cursor.left)
+    (state_in (slots_dictionary m.slots) m.counted m.cursor) x
 
 -- the bytes of the partial unit that have been read
 abbrev pub front_at : Waiting → Machine → List ℕ
@@ -171,7 +178,8 @@ IsMapWhole map = (map ≡ []) ⊎ IsEntity map
 -- The elements of a sequence that follow: the nodes are of the set, nest no deeper than there are frames, and use these bits.
 abbrev pub AreElementsFit : Set → ℕ → ℕ → Option ElementsData → Type 0
 AreElementsFit set depth level None = Unit {0}
-AreElementsFit set depth level (Some e) = AreBelow (length set.nodes) e.body × (suc level + body_depth (body_in set e.body) ≤ depth) × (e.width ≡ bits_of (body_in set e.body))
+AreElementsFit set depth level (Some e) = AreBelow (length set.nodes) e.body × (suc level + body_depth (body_in set e.body) ≤ depth)
+    × (e.width ≡ bits_of (body_in set e.body))
 
 -- An open segment, with this number of segments around it: its nodes are of the set, and nest no deeper than there are frames.
 pub record IsFrameFit (set : Set) (depth level : ℕ) (f : FrameData) : Type 0 where
@@ -229,24 +237,33 @@ GoesOnWithMantissa body s = ⊥
 
 -- The next instruction is a field that goes on with this stage.
 abbrev pub GoesOnWithNumber : Limits → Body → State → Stage → Type 0
-GoesOnWithNumber l (step (field at f) is) s stage = IsSent f (bit_of f s) × IsStageOf (bounds l) f (previous_at f.entry s.context.dictionary) stage × IsNumberStage f stage
+GoesOnWithNumber l (step (field at f) is) s stage = IsSent f (bit_of f s)
+    × IsStageOf (bounds l) f (previous_at f.entry s.context.dictionary) stage × IsNumberStage f stage
 GoesOnWithNumber l body s stage = ⊥
 
 abbrev pub GoesOnWithBytes : Limits → Body → State → Stage → List ℕ → Type 0
 GoesOnWithBytes l (step (field at f) is) s stage front =
-    IsSent f (bit_of f s) × IsStageOf (bounds l) f (previous_at f.entry s.context.dictionary) stage × IsBytesStage (bounds l) f (previous_at f.entry s.context.dictionary) stage front
+    IsSent f (bit_of f s) × IsStageOf (bounds l) f (previous_at f.entry s.context.dictionary) stage
+    × IsBytesStage (bounds l) f (previous_at f.entry s.context.dictionary) stage front
 GoesOnWithBytes l body s stage front = ⊥
 
 -- The machine can read the unit that it waits for.
 abbrev pub CanTake : Waiting → Set → Limits → Machine → Type 0
-CanTake Map set l m = HaveNoStop m.cursor.map × (length m.cursor.map < map_limit) × (m.entity.bytes ≡ []) × (m.cursor ≡ record (resting m.cursor) { map = m.cursor.map })
+CanTake Map set l m = HaveNoStop m.cursor.map × (length m.cursor.map < map_limit) × (m.entity.bytes ≡ [])
+    × (m.cursor ≡ record (resting m.cursor) { map = m.cursor.map })
 CanTake Identifier set l m = IsEntity m.cursor.map × (first_bit (bits m.cursor.map) ≡ true) × (m.cursor ≡ record (resting m.cursor) { map = m.cursor.map })
-CanTake (SegmentMap width) set l m = HaveNoStop m.cursor.map × (length m.cursor.map < map_limit) × (m.entity.bytes ≡ []) × (m.cursor.used ≡ 0) × IsPlaced set m.cursor × (width ≡ bits_of (body_in set m.cursor.left))
-CanTake Field set l m = IsPlaced set m.cursor × IsMapWhole m.cursor.map × BeginsWithInteger (body_in set m.cursor.left) (state_in (slots_dictionary m.slots) m.counted m.cursor)
-CanTake Text set l m = IsPlaced set m.cursor × IsMapWhole m.cursor.map × (m.entity.bytes ≡ []) × BeginsWithText l (body_in set m.cursor.left) (state_in (slots_dictionary m.slots) m.counted m.cursor) m.text.text
-CanTake (Number stage) set l m = IsPlaced set m.cursor × IsMapWhole m.cursor.map × GoesOnWithNumber l (body_in set m.cursor.left) (state_in (slots_dictionary m.slots) m.counted m.cursor) stage
-CanTake (Bytes stage) set l m = IsPlaced set m.cursor × IsMapWhole m.cursor.map × (m.entity.bytes ≡ []) × GoesOnWithBytes l (body_in set m.cursor.left) (state_in (slots_dictionary m.slots) m.counted m.cursor) stage m.text.text
-CanTake (Mantissa x) set l m = IsPlaced set m.cursor × IsMapWhole m.cursor.map × GoesOnWithMantissa (body_in set m.cursor.left) (state_in (slots_dictionary m.slots) m.counted m.cursor)
+CanTake (SegmentMap width) set l m = HaveNoStop m.cursor.map × (length m.cursor.map < map_limit) × (m.entity.bytes ≡ [])
+    × (m.cursor.used ≡ 0) × IsPlaced set m.cursor × (width ≡ bits_of (body_in set m.cursor.left))
+CanTake Field set l m = IsPlaced set m.cursor × IsMapWhole m.cursor.map
+    × BeginsWithInteger (body_in set m.cursor.left) (state_in (slots_dictionary m.slots) m.counted m.cursor)
+CanTake Text set l m = IsPlaced set m.cursor × IsMapWhole m.cursor.map × (m.entity.bytes ≡ [])
+    × BeginsWithText l (body_in set m.cursor.left) (state_in (slots_dictionary m.slots) m.counted m.cursor) m.text.text
+CanTake (Number stage) set l m = IsPlaced set m.cursor × IsMapWhole m.cursor.map
+    × GoesOnWithNumber l (body_in set m.cursor.left) (state_in (slots_dictionary m.slots) m.counted m.cursor) stage
+CanTake (Bytes stage) set l m = IsPlaced set m.cursor × IsMapWhole m.cursor.map × (m.entity.bytes ≡ [])
+    × GoesOnWithBytes l (body_in set m.cursor.left) (state_in (slots_dictionary m.slots) m.counted m.cursor) stage m.text.text
+CanTake (Mantissa x) set l m = IsPlaced set m.cursor × IsMapWhole m.cursor.map
+    × GoesOnWithMantissa (body_in set m.cursor.left) (state_in (slots_dictionary m.slots) m.counted m.cursor)
 
 -- The machine can go on.
 pub record IsReady (set : Set) (l : Limits) (m : Machine) : Type 0 where
@@ -261,10 +278,12 @@ abbrev pub IsAtParts : Set → CursorData → ℕ → FieldData → FieldData �
 IsAtParts set c n e m = (at : Label) × (at.node ≡ n) × (0 < length c.left) × (body_in set c.left ≡ step (parts at e m) (body_in set (drop 1 c.left)))
 
 abbrev pub IsAtGroup : Set → CursorData → ℕ → Bool → List ℕ → Type 0
-IsAtGroup set c n optional body = (at : Label) × (at.node ≡ n) × (0 < length c.left) × (body_in set c.left ≡ step (group at optional (body_in set body)) (body_in set (drop 1 c.left)))
+IsAtGroup set c n optional body = (at : Label) × (at.node ≡ n) × (0 < length c.left)
+    × (body_in set c.left ≡ step (group at optional (body_in set body)) (body_in set (drop 1 c.left)))
 
 abbrev pub IsAtSequence : Set → CursorData → ℕ → FieldData → List ℕ → Type 0
-IsAtSequence set c n f body = (at : Label) × (at.node ≡ n) × (0 < length c.left) × (body_in set c.left ≡ step (sequence at f (body_in set body)) (body_in set (drop 1 c.left)))
+IsAtSequence set c n f body = (at : Label) × (at.node ≡ n) × (0 < length c.left)
+    × (body_in set c.left ≡ step (sequence at f (body_in set body)) (body_in set (drop 1 c.left)))
 
 -- The machine is between two units: no byte is buffered, and the next step may need none.
 pub record CanTurn (set : Set) (l : Limits) (m : Machine) : Type 0 where
@@ -285,7 +304,8 @@ GoesOn set l m (Ok Waits) = IsReady set l m
 GoesOn set l m (Err c) = Unit {0}
 
 -- A complete turn: from the reader before it to the reader after it.
-pub record IsTurn {S : Type 0} (takes stops : S → EventData → S → Type 0) (set : Set) (l : Limits) (r : Reader Dictionary) (s : S) (result : Result Turn FaultCode) (s' : S) (m : Machine) : Type 0 where
+pub record IsTurn {S : Type 0} (takes stops : S → EventData → S → Type 0) (set : Set) (l : Limits) (r : Reader Dictionary) (s : S)
+    (result : Result Turn FaultCode) (s' : S) (m : Machine) : Type 0 where
   pub moves : Moves takes stops r s result s' (turning set l m) (meaning set l m)
   pub supplied : IsSupplied set l m
   pub goes_on : GoesOn set l m result
@@ -299,7 +319,8 @@ pub record IsBehindMap (set : Set) (l : Limits) (m : Machine) : Type 0 where
 
 -- the reader of a segment at its complete map
 abbrev pub segment_reader : Set → Limits → Machine → ℕ → Reader Dictionary
-segment_reader set l m width = bind (settles_reader (judged_map l.strict m.cursor.map)) (λ w. reader_of l.strict (narrow width w (going_on set (bounds l) (slots_dictionary m.slots) m.counted (record m.cursor { map = w }))))
+segment_reader set l m width = bind (settles_reader (judged_map l.strict m.cursor.map))
+    (λ w. reader_of l.strict (narrow width w (going_on set (bounds l) (slots_dictionary m.slots) m.counted (record m.cursor { map = w }))))
 
 -- No message has begun.
 abbrev pub is_idle_at : Waiting → List ℕ → Bool

@@ -52,7 +52,8 @@ scalar_term waiting l f p = field_term l f p true
 
 -- Bytes of the partial unit were read, from the one machine to the other: all of them are buffered if it is split.
 pub record IsScalarUnit (l : Limits) (before after : Machine) (f : FieldData) (rest : List ℕ) (progress : Progress FieldStep) : Type 0 where
-  pub unit : IsFieldUnit l (reader_of l.strict (scalar_term before.waiting (bounds l) f (previous_at f.entry (slots_dictionary before.slots)))) f (front_at before.waiting before) rest
+  pub unit : IsFieldUnit l (reader_of l.strict (scalar_term before.waiting (bounds l) f
+      (previous_at f.entry (slots_dictionary before.slots)))) f (front_at before.waiting before) rest
       (slots_dictionary before.slots) (slots_dictionary after.slots) after.text.text progress
   pub cut : progress ≡ Cut → front_at after.waiting after ≡ front_at before.waiting before ++ rest
   pub same : after ≡ record before { slots = after.slots; entity = after.entity; text = after.text; joined = after.joined }
@@ -60,7 +61,8 @@ pub record IsScalarUnit (l : Limits) (before after : Machine) (f : FieldData) (r
 -- The machine can go on after the bytes of a unit.
 abbrev pub CanStep : Set → Limits → Machine → FieldData → FieldStep → Type 0
 CanStep set l m f (Settled source) = CanTurn set l m
-CanStep set l m f (Next stage) = CanTurn set l m × IsSent f (bit_of f (state_in (slots_dictionary m.slots) m.counted m.cursor)) × IsStageOf (bounds l) f (previous_at f.entry (slots_dictionary m.slots)) stage
+CanStep set l m f (Next stage) = CanTurn set l m × IsSent f (bit_of f (state_in (slots_dictionary m.slots) m.counted m.cursor))
+    × IsStageOf (bounds l) f (previous_at f.entry (slots_dictionary m.slots)) stage
     × IsNextStage (bounds l) f (previous_at f.entry (slots_dictionary m.slots)) stage
 
 abbrev pub CanProgress : Set → Limits → Machine → FieldData → Progress FieldStep → Type 0
@@ -70,5 +72,7 @@ CanProgress set l m f Cut = IsReady set l m
 
 -- The rest of the message after a complete unit of the next instruction, a field.
 abbrev pub step_then : Set → Limits → ℕ → FieldData → Machine → List ℕ → FieldStep → Grammar Dictionary
-step_then set l n f m piece (Settled source) = value_then set (bounds l) n (value_at source f (slots_dictionary m.slots) m.text.text piece) f (slots_dictionary m.slots) m.counted m.cursor
-step_then set l n f m piece (Next stage) = unit_then (bounds l) (frames_in set m.cursor.frames) (body_in set m.cursor.left) (state_in (slots_dictionary m.slots) m.counted m.cursor) stage
+step_then set l n f m piece (Settled source) = value_then set (bounds l) n
+    (value_at source f (slots_dictionary m.slots) m.text.text piece) f (slots_dictionary m.slots) m.counted m.cursor
+step_then set l n f m piece (Next stage) = unit_then (bounds l) (frames_in set m.cursor.frames) (body_in set m.cursor.left)
+    (state_in (slots_dictionary m.slots) m.counted m.cursor) stage

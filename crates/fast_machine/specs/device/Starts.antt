@@ -28,7 +28,10 @@ pub record IsStartWith (set : Set) (id : ℕ) (s : Start) : Type 0 where
 -- the rest of a message of a template after its map and its identifier
 abbrev pub message_from : Set → Bounds → ℕ → Template → Dictionary → List ℕ → Grammar Dictionary
 message_from set l number t d map =
-    message_of_then l number (template_data (instructions_from 0 set.nodes) t) (record { context = record { dictionary = d; counted = 0 }; bits = later_bits (bits map) })
+    message_of_then l number (template_data (instructions_from 0 set.nodes) t) (record {
+      context = record { dictionary = d; counted = 0 };
+      bits = later_bits (bits map);
+    })
 
 -- The bytes begin with a message's map of one byte, and with its identifier, if one is sent, which leaves the second dictionary: n bytes of
 -- a message of the template.
@@ -38,7 +41,8 @@ pub record IsMessageAhead (set : Set) (l : Limits) (old new : Dictionary) (rest 
   pub some : 0 < n
   pub within : n ≤ length rest
   pub map : IsEntity (take 1 rest)
-  pub turns : Turns (reader_of l.strict (message_then (tree_in set) (bounds l) old)) (take n rest) (reader_of l.strict (message_from set (bounds l) number template new (take 1 rest)))
+  pub turns : Turns (reader_of l.strict (message_then (tree_in set) (bounds l) old)) (take n rest)
+      (reader_of l.strict (message_from set (bounds l) number template new (take 1 rest)))
 
 -- the machine, as it would be after that map
 abbrev pub mapped_by : Machine → List ℕ → Machine

@@ -23,7 +23,8 @@ use Rattle.fast_units.specs.declared.fields.Number.{Number}
 use Rattle.fast_units.specs.declared.progress.Progress.TheVariants.{Whole}
 
 -- A machine with this reader consumes some of the bytes, of which only the last emits events, and a turn after them ends with this result.
-pub record IsTakenTo {S : Type 0} (takes stops : S → EventData → S → Type 0) (set : Set) (l : Limits) (from : Reader Dictionary) (rest : List ℕ) (s : S) (n : ℕ) (result : Result Turn FaultCode) (s' : S) (m : Machine) : Type 0 where
+pub record IsTakenTo {S : Type 0} (takes stops : S → EventData → S → Type 0) (set : Set) (l : Limits) (from : Reader Dictionary)
+    (rest : List ℕ) (s : S) (n : ℕ) (result : Result Turn FaultCode) (s' : S) (m : Machine) : Type 0 where
   pub some : 0 < n
   pub within : n ≤ length rest
   pub quiet : Quiet (due (tree_in set) l from) (take n rest)
@@ -38,4 +39,6 @@ pub record IsSentItem (set : Set) (l : Limits) (m m' : Machine) (node : ℕ) (f 
   pub waits : m.waiting ≡ Field
   pub ready : IsReady set l m
   pub next : IsAtField set m.cursor node f
-  pub unit : (scratch : List ℕ) → IsLastUnit (reader_of l.strict (field_term (bounds l) f (previous_at f.entry (slots_dictionary m.slots)) true)) f m.entity.bytes rest (slots_dictionary m.slots) (slots_dictionary m'.slots) scratch (Whole (source_of item) n)
+  pub unit : (scratch : List ℕ) → IsLastUnit (reader_of l.strict
+      (field_term (bounds l) f (previous_at f.entry (slots_dictionary m.slots)) true)) f m.entity.bytes rest (slots_dictionary m.slots)
+      (slots_dictionary m'.slots) scratch (Whole (source_of item) n)

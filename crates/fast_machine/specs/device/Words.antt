@@ -14,7 +14,8 @@ use Rattle.fast_machine.specs.device.UnitTaken.{IsTakenTo}
 use Rattle.fast_machine.specs.device.TurnsLeft.{Way, most_by, HasTurns, HasTurnsBehind}
 
 -- From the one machine to the other some of the bytes are read, of which only the last emits events, and a turn after them.
-abbrev pub TakesUnit : {S : Type 0} → (S → EventData → S → Type 0) → (S → EventData → S → Type 0) → Set → Limits → Machine → List ℕ → S → UnitTaken → S → Machine → Type 0
+abbrev pub TakesUnit : {S : Type 0} → (S → EventData → S → Type 0) → (S → EventData → S → Type 0) → Set → Limits → Machine → List ℕ → S
+    → UnitTaken → S → Machine → Type 0
 TakesUnit takes stops set l m rest s q s' m' = IsTakenTo takes stops set l (meaning set l m) rest s q.bytes q.turn s' m'
 
 -- The machine's dictionary serves the field.

@@ -3,7 +3,8 @@ use Rattle.std.proofs.Common.{◌≡◌, ℕ, zero, suc, ◌<◌, ◌≤◌, Lis
 use Rattle.std.specs.Prelude.{All, Contains, slice_get, Some, nat_eq, if◌then◌else◌}
 use Rattle.std.proofs.lemmas.List.Elements.{All-nil, All-cons, All-head, All-tail, All-append, All-weaker, All-contains, All-contains_itself}
 use Rattle.toml.specs.Data.{Data, Items, Members}
-use Rattle.fast_tree.specs.meaning.AsWritten.{Declared, scalar, by_parts, group as group_declared, sequence as sequence_declared, reference, DeclaredList, no_more, more, DeclaredTemplate, IsName}
+use Rattle.fast_tree.specs.meaning.AsWritten.{Declared, scalar, by_parts, group as group_declared, sequence as sequence_declared, reference}
+use Rattle.fast_tree.specs.meaning.AsWritten.{DeclaredList, no_more, more, DeclaredTemplate, IsName}
 use Rattle.fast_tree.specs.meaning.Entries.{Entry, Scope}
 use Rattle.fast_tree.specs.meaning.Tree.{Label, Body, end, step, TemplateData, Tree}
 use Rattle.fast_notation.specs.meaning.Checked.{IsTree}
@@ -70,30 +71,39 @@ labels_then : (b c : Body) → body_labels (b then c) ≡ body_labels b ++ body_
 labels_then end c = refl
 labels_then (step i is) c = ap (λ (ls : List Label). labels i ++ ls) (labels_then is c) ∙ sym (append_assoc (labels i) (body_labels is) (body_labels c))
 
-from_to : {ts : List DeclaredTemplate} {entries : List Entry} {chain : ℕ} {s : Scope} {ds : DeclaredList} {n m : ℕ} {body : Body} → InPlace ts entries chain s ds n body m → n ≤ m
+from_to : {ts : List DeclaredTemplate} {entries : List Entry} {chain : ℕ} {s : Scope} {ds : DeclaredList} {n m : ℕ} {body : Body}
+    → InPlace ts entries chain s ds n body m → n ≤ m
 from_to {n = n} {m = m} {body = body} h = after_all body n m (in_place-numbered h)
 
-body_labelled : {ts : List DeclaredTemplate} {entries : List Entry} {chain : ℕ} {s : Scope} {ds : DeclaredList} {n m : ℕ} {body : Body} → AreWell ts → HaveNames ds → InPlace ts entries chain s ds n body m
+body_labelled : {ts : List DeclaredTemplate} {entries : List Entry} {chain : ℕ} {s : Scope} {ds : DeclaredList} {n m : ℕ} {body : Body}
+    → AreWell ts → HaveNames ds → InPlace ts entries chain s ds n body m
     → All (IsLabel m) (body_labels body)
 body_labelled {m = m} well named nothing = All-nil (IsLabel m)
-body_labelled well named (a_field {n = n} {m = m} {name = name} {is = is} f rest) = own n m name (body_labels is) (from_to rest) named.0 (body_labelled well named.1 rest)
-body_labelled well named (some_parts {n = n} {m = m} {name = name} {is = is} e f rest) = own n m name (body_labels is) (from_to rest) named.0 (body_labelled well named.1 rest)
+body_labelled well named (a_field {n = n} {m = m} {name = name} {is = is} f rest) =
+    own n m name (body_labels is) (from_to rest) named.0 (body_labelled well named.1 rest)
+body_labelled well named (some_parts {n = n} {m = m} {name = name} {is = is} e f rest) =
+    own n m name (body_labels is) (from_to rest) named.0 (body_labelled well named.1 rest)
 body_labelled well named (a_group {n = n} {k = k} {m = m} {name = name} {body = body} {is = is} inner rest) =
     let within : suc n ≤ k = from_to inner in
     let outer : k ≤ m = from_to rest in
     own n m name (body_labels body ++ body_labels is) (omega (arith, within, outer)) named.0.0
-    (All-append (IsLabel m) (body_labels body) (body_labels is) (wider k m (body_labels body) outer (body_labelled well named.0.1 inner)) (body_labelled well named.1 rest))
+    (All-append (IsLabel m) (body_labels body) (body_labels is) (wider k m (body_labels body) outer (body_labelled well named.0.1 inner))
+    (body_labelled well named.1 rest))
 body_labelled well named (a_sequence {n = n} {k = k} {m = m} {name = name} {body = body} {is = is} f inner rest) =
     let within : suc n ≤ k = from_to inner in
     let outer : k ≤ m = from_to rest in
     own n m name (body_labels body ++ body_labels is) (omega (arith, within, outer)) named.0.0
-    (All-append (IsLabel m) (body_labels body) (body_labels is) (wider k m (body_labels body) outer (body_labelled well named.0.1 inner)) (body_labelled well named.1 rest))
+    (All-append (IsLabel m) (body_labels body) (body_labels is) (wider k m (body_labels body) outer (body_labelled well named.0.1 inner))
+    (body_labelled well named.1 rest))
 body_labelled well named (a_reference {k = k} {m = m} {body = body} {is = is} number t found same inner rest) =
     subst (All (IsLabel m)) (sym (labels_then body is))
-    (All-append (IsLabel m) (body_labels body) (body_labels is) (wider k m (body_labels body) (from_to rest) (body_labelled well (well number t found).fields inner)) (body_labelled well named.1 rest))
+    (All-append (IsLabel m) (body_labels body) (body_labels is)
+    (wider k m (body_labels body) (from_to rest) (body_labelled well (well number t found).fields inner))
+    (body_labelled well named.1 rest))
 
 -- the templates from a number on
-set_from_to : (all : List DeclaredTemplate) (entries : List Entry) (k : ℕ) (ts : List DeclaredTemplate) (n : ℕ) (us : List TemplateData) (m : ℕ) → AreInPlace all entries k ts n us m → n ≤ m
+set_from_to : (all : List DeclaredTemplate) (entries : List Entry) (k : ℕ) (ts : List DeclaredTemplate) (n : ℕ) (us : List TemplateData)
+    (m : ℕ) → AreInPlace all entries k ts n us m → n ≤ m
 set_from_to all entries k [] n [] m h = omega (arith, h)
 set_from_to all entries k [] n (u ∷ us) m h = absurd h
 set_from_to all entries k (t ∷ ts) n [] m h = absurd h
@@ -102,7 +112,8 @@ set_from_to all entries k (t ∷ ts) n (u ∷ us) m (mid, name, id, reset, body,
     let later : mid ≤ m = set_from_to all entries (suc k) ts mid us m rest in
     omega (arith, first, later)
 
-set_labelled : (all : List DeclaredTemplate) (entries : List Entry) (k : ℕ) (ts : List DeclaredTemplate) (n : ℕ) (us : List TemplateData) (m : ℕ) → AreWell all → AreWell ts → AreInPlace all entries k ts n us m
+set_labelled : (all : List DeclaredTemplate) (entries : List Entry) (k : ℕ) (ts : List DeclaredTemplate) (n : ℕ) (us : List TemplateData)
+    (m : ℕ) → AreWell all → AreWell ts → AreInPlace all entries k ts n us m
     → All (IsLabel m) (template_labels us)
 set_labelled all entries k [] n [] m well named h = All-nil (IsLabel m)
 set_labelled all entries k [] n (u ∷ us) m well named h = absurd h
@@ -120,7 +131,8 @@ either false x y h k = k
 found_name : (m : ℕ) (ls : List Label) (l : Label) → All (IsLabel m) ls → Contains ls l → IsName (name_among l.node ls)
 found_name m [] l labelled (k, inside, at) = absurd (omega (arith, inside))
 found_name m (x ∷ ls) l labelled (zero, inside, at) =
-    subst IsName (sym (ap (λ (b : Bool). if b then x.name else name_among l.node ls) (eq-eqb x.node l.node (ap (λ (z : Label). z.node) at)))) (All-head (IsLabel m) x ls labelled).name
+    subst IsName (sym (ap (λ (b : Bool). if b then x.name else name_among l.node ls)
+    (eq-eqb x.node l.node (ap (λ (z : Label). z.node) at)))) (All-head (IsLabel m) x ls labelled).name
 found_name m (x ∷ ls) l labelled (suc k, inside, at) =
     either (nat_eq x.node l.node) x.name (name_among l.node ls) (All-head (IsLabel m) x ls labelled).name
     (found_name m ls l (All-tail (IsLabel m) x ls labelled) (k, omega (arith, inside), at))
@@ -132,7 +144,8 @@ all_named document t is =
     let labelled : All (IsLabel is.nodes) ls = set_labelled is.written is.entries 0 is.written 0 t.templates is.nodes well well is.in_place in
     let few = is.few_nodes in
     record {
-      nodes = All-weaker (Contains ls) (λ l. IsNamed t l.node) (λ l inside. let one : IsLabel is.nodes l = All-contains (IsLabel is.nodes) ls l labelled inside in
+      nodes = All-weaker (Contains ls) (λ l. IsNamed t l.node)
+          (λ l inside. let one : IsLabel is.nodes l = All-contains (IsLabel is.nodes) ls l labelled inside in
           let below : l.node < is.nodes = one.below in
           (omega (arith, few, below), found_name is.nodes ls l labelled inside)) ls (All-contains_itself ls);
       templates = λ n u found.

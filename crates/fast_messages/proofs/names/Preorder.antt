@@ -57,7 +57,8 @@ mutual
 
 distinct_templates : (n k : ℕ) (us : List TemplateData) (u : TemplateData) → Rise n (template_labels us) → slice_get us k ≡ Some u → AreDistinct u.body
 distinct_templates n k [] u h found = absurd (cc found)
-distinct_templates n zero (v ∷ vs) u h found = let e : v ≡ u = cc found in rw (sym e) (distinct_body n v.body (left n (body_labels v.body) (template_labels vs) h))
+distinct_templates n zero (v ∷ vs) u h found = let e : v ≡ u = cc found in
+    rw (sym e) (distinct_body n v.body (left n (body_labels v.body) (template_labels vs) h))
 distinct_templates n (suc k) (v ∷ vs) u h found = distinct_templates n k vs u (right n (body_labels v.body) (template_labels vs) h) found
 
 pub distinct_bodies : (t : Tree) (nodes : List Node) → template_labels t.templates ≡ labels_from 0 nodes → HasDistinctBodies t

@@ -30,13 +30,15 @@ use Rattle.fast_messages.proofs.names.SetNames.{distinct_names}
 use Rattle.fast_messages.proofs.values.ShownMessages.{messages_are_shown}
 
 -- messages that bytes spell, one after the other, suit their templates
-chain_suits : (t : Tree) (l : Limits) (ms : List MessageData) (d d' : Dictionary) (w : List ℕ) → IsGrantedTree l t → IsSound l d → SpellsAll t l d ms w d' → All (SuitsTemplate t) ms
+chain_suits : (t : Tree) (l : Limits) (ms : List MessageData) (d d' : Dictionary) (w : List ℕ) → IsGrantedTree l t → IsSound l d
+    → SpellsAll t l d ms w d' → All (SuitsTemplate t) ms
 chain_suits t l [] d d' w granted sound h = All-nil (SuitsTemplate t)
 chain_suits t l (m ∷ ms) d d' w granted sound (u, v, mid, first, rest, e) =
     let one = spelled_suits t l d m u mid granted sound first in
     All-cons (SuitsTemplate t) m ms one.1 (chain_suits t l ms mid d' v granted one.3 rest)
 
-pub shown_lines_are_read : (document : Members) (t : Templates) (l : Limits) (w : List ℕ) (es : List EventData) (text : List ℕ) (r : Result (Vec Message Global) TextFault)
+pub shown_lines_are_read : (document : Members) (t : Templates) (l : Limits) (w : List ℕ) (es : List EventData) (text : List ℕ)
+    (r : Result (Vec Message Global) TextFault)
     → IsTree document (tree_of t) → IsGrantedTree l (tree_of t) → Stream (tree_of t) l w es between → All HoldsBytes es
     → closed text ≡ lines (tree_of t) es → IsRead (tree_of t) text r → IsReadAgain (tree_of t) l w es r
 unfolding Stream

@@ -18,7 +18,8 @@ use Rattle.fast_messages.proofs.texts.Feeds.{feeds_line}
 use Rattle.fast_messages.proofs.unique.OneEvent.{line_is}
 
 -- a line is ahead
-opened : (line : Option Line) (rest : List ℕ) → IsSome line → (d : LineData) × (option_map line_data line ≡ Some d) × (text_from line rest ≡ text_of_line d ++ 0x0A ∷ closed rest)
+opened : (line : Option Line) (rest : List ℕ) → IsSome line
+    → (d : LineData) × (option_map line_data line ≡ Some d) × (text_from line rest ≡ text_of_line d ++ 0x0A ∷ closed rest)
 opened None rest h = absurd (cc (h))
 opened (Some l) rest h = (line_data l, refl, refl)
 
@@ -44,7 +45,8 @@ one_on c next some text (low, high) =
       to = omega (arith, same, more, high);
     }
 
-pub all_on : (c : Cursor) (r : Result Cursor TextFault) → IsSome c.line → IfOk r (λ next. ahead next ≡ closed c.rest.now) → IfOk r (λ next. IsNextNumber c.number next.number) → IfOk r (Advances c)
+pub all_on : (c : Cursor) (r : Result Cursor TextFault) → IsSome c.line → IfOk r (λ next. ahead next ≡ closed c.rest.now)
+    → IfOk r (λ next. IsNextNumber c.number next.number) → IfOk r (Advances c)
 all_on c (Ok next) some text number = one_on c next some text number
 all_on c (Err e) some text number = tt
 
@@ -70,7 +72,9 @@ said_none t c = record { text = refl; from = omega arith; to = omega arith }
 -- the line of an event
 pub said_one : (t : Tree) (e : EventData) (c next : Cursor) → (a : Advances c next) → a.line ≡ line_of_event t e → IsSaid t (e ∷ []) c next
 said_one t e c next a is = record {
-  text = a.text ∙ ap (λ (z : LineData). text_of_line z ++ 0x0A ∷ ahead next) is ∙ ap (λ (z : List ℕ). z ++ 0x0A ∷ ahead next) (sym (line_is t e)) ∙ sym (append_assoc (line_of t e) (0x0A ∷ []) (ahead next)) ∙ ap (λ (z : List ℕ). z ++ ahead next) (sym (append-nil (line_of t e ++ 0x0A ∷ [])));
+  text = a.text ∙ ap (λ (z : LineData). text_of_line z ++ 0x0A ∷ ahead next) is
+      ∙ ap (λ (z : List ℕ). z ++ 0x0A ∷ ahead next) (sym (line_is t e)) ∙ sym (append_assoc (line_of t e) (0x0A ∷ []) (ahead next))
+      ∙ ap (λ (z : List ℕ). z ++ ahead next) (sym (append-nil (line_of t e ++ 0x0A ∷ [])));
   from = a.from;
   to = a.to;
 }
@@ -83,7 +87,8 @@ said_both t es fs a b c h k =
     let ba = h.to in
     let cb = k.to in
     record {
-      text = h.text ∙ ap (λ (z : List ℕ). lines t es ++ z) k.text ∙ sym (append_assoc (lines t es) (lines t fs) (ahead c)) ∙ ap (λ (z : List ℕ). z ++ ahead c) (sym (flat_map-append (λ (e : EventData). line_of t e ++ 0x0A ∷ []) es fs));
+      text = h.text ∙ ap (λ (z : List ℕ). lines t es ++ z) k.text ∙ sym (append_assoc (lines t es) (lines t fs) (ahead c))
+          ∙ ap (λ (z : List ℕ). z ++ ahead c) (sym (flat_map-append (λ (e : EventData). line_of t e ++ 0x0A ∷ []) es fs));
       from = omega (arith, ab, bc);
       to = omega (arith, ba, cb);
     }

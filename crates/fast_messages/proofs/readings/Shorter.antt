@@ -11,7 +11,8 @@ use Rattle.fast_messages.specs.device.Cursors.{ahead, Advances, IsSaid}
 -- behind a line
 pub advance_shorter : (c next : Cursor) → Advances c next → length (ahead next) < length (ahead c)
 advance_shorter c next h =
-    let all : length (ahead c) ≡ length (text_of_line h.line) + suc (length (ahead next)) = ap length h.text ∙ length-append (text_of_line h.line) (0x0A ∷ ahead next) in
+    let all : length (ahead c) ≡ length (text_of_line h.line) + suc (length (ahead next)) = ap length h.text
+    ∙ length-append (text_of_line h.line) (0x0A ∷ ahead next) in
     omega (arith, all)
 
 -- behind the lines of some events

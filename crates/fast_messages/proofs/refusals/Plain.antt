@@ -18,5 +18,10 @@ plain_rest t i is p = record { templates = p.templates; distinct = p.distinct.2;
 pub plain_sequence : (t : Tree) (l : Label) (f : FieldData) (body : Body) → IsPlainItem t (sequence l f body) → IsPlainBody t body
 plain_sequence t l f body p = record { templates = p.templates; distinct = p.distinct; named = All-tail (λ l. IsNamed t l.node) l (body_labels body) p.named }
 
-pub plain_template : (t : Tree) (n : ℕ) (u : TemplateData) → HasDistinctNames t → HasDistinctBodies t → HasNames t → slice_get t.templates n ≡ Some u → IsPlainBody t u.body
-plain_template t n u names bodies named found = record { templates = names; distinct = bodies n u found; named = template_named t n t.templates u named.nodes found }
+pub plain_template : (t : Tree) (n : ℕ) (u : TemplateData) → HasDistinctNames t → HasDistinctBodies t → HasNames t
+    → slice_get t.templates n ≡ Some u → IsPlainBody t u.body
+plain_template t n u names bodies named found = record {
+  templates = names;
+  distinct = bodies n u found;
+  named = template_named t n t.templates u named.nodes found;
+}

@@ -8,7 +8,8 @@ use Rattle.std.proofs.lemmas.Str.{IsUtf8-append, IsUtf8-from_ascii}
 use Rattle.std.proofs.lemmas.Str.Ascii.{IsAscii-from_all}
 use Rattle.fast_tree.specs.meaning.AsWritten.{IsNameByte, IsName}
 use Rattle.fast_tree.specs.meaning.Tree.{Tree}
-use Rattle.fast_stream.specs.meaning.Events.{EventData, MessageStart, FieldValue, GroupStart, GroupEnd, SequenceStart, ElementStart, ElementEnd, SequenceEnd, MessageEnd}
+use Rattle.fast_stream.specs.meaning.Events.{EventData, MessageStart, FieldValue, GroupStart, GroupEnd, SequenceStart, ElementStart}
+use Rattle.fast_stream.specs.meaning.Events.{ElementEnd, SequenceEnd, MessageEnd}
 use Rattle.fast_lines.specs.meaning.Forms.{text_of_line, line_of_event}
 use Rattle.fast_lines.specs.meaning.Lines.{node_name, written}
 use Rattle.fast_messages.specs.meaning.Lined.{IsNamed, IsLined, IsShown}
@@ -39,16 +40,20 @@ number : (n : ℕ) → n < 2 ^ 32 → IsUtf8 (decimal n)
 number n h = let small : n < 2 ^ 64 = omega (arith, h) in IsUtf8-from_ascii (decimal n) (IsAscii-decimal n small)
 
 node : (t : Tree) (n : ℕ) → IsNamed t n → IsUtf8 (decimal n ++ codes " " ++ node_name t n)
-node t n h = IsUtf8-append (decimal n ++ codes " ") (node_name t n) (IsUtf8-append (decimal n) (codes " ") (number n h.0) (word (codes " ") refl)) (named (node_name t n) h.1)
+node t n h = IsUtf8-append (decimal n ++ codes " ") (node_name t n)
+    (IsUtf8-append (decimal n) (codes " ") (number n h.0) (word (codes " ") refl)) (named (node_name t n) h.1)
 
 -- a keyword and a node, a space, and what follows it
-behind_node : (t : Tree) (keyword : List ℕ) (n : ℕ) (rest : List ℕ) → IsUtf8 keyword → IsNamed t n → IsUtf8 rest → IsUtf8 (keyword ++ (decimal n ++ codes " " ++ node_name t n) ++ codes " " ++ rest)
+behind_node : (t : Tree) (keyword : List ℕ) (n : ℕ) (rest : List ℕ) → IsUtf8 keyword → IsNamed t n → IsUtf8 rest
+    → IsUtf8 (keyword ++ (decimal n ++ codes " " ++ node_name t n) ++ codes " " ++ rest)
 behind_node t keyword n rest h k r =
     let at : List ℕ = decimal n ++ codes " " ++ node_name t n in
-    IsUtf8-append (keyword ++ at ++ codes " ") rest (IsUtf8-append (keyword ++ at) (codes " ") (IsUtf8-append keyword at h (node t n k)) (word (codes " ") refl)) r
+    IsUtf8-append (keyword ++ at ++ codes " ") rest (IsUtf8-append (keyword ++ at) (codes " ") (IsUtf8-append keyword at h (node t n k))
+    (word (codes " ") refl)) r
 
 pub line_utf8 : (t : Tree) (e : EventData) → IsLined t e → IsShown e → IsUtf8 (text_of_line (line_of_event t e))
-line_utf8 t (MessageStart n) (u, found, h) k = rw (name_is t n u found) (IsUtf8-append (codes "message ") u.name (word (codes "message ") refl) (named u.name h))
+line_utf8 t (MessageStart n) (u, found, h) k = rw (name_is t n u found)
+    (IsUtf8-append (codes "message ") u.name (word (codes "message ") refl) (named u.name h))
 line_utf8 t (FieldValue n v) h k = behind_node t (codes "field ") n (written v) (word (codes "field ") refl) h.0 k.1
 line_utf8 t (GroupStart n) h k = IsUtf8-append (codes "group ") (decimal n ++ codes " " ++ node_name t n) (word (codes "group ") refl) (node t n h)
 line_utf8 t GroupEnd h k = word (codes "end group") refl

@@ -7,7 +7,8 @@ use Rattle.std.proofs.lemmas.List.Elements.{All-nil, All-cons, All-append, All-w
 use Rattle.fast_value.specs.meaning.Kinds.{ScalarData, U, I, Dec, AsciiText, UnicodeText, ByteVector, IsWithin, signed_range}
 use Rattle.fast_tree.specs.meaning.AsWritten.{IsNameByte, IsName}
 use Rattle.fast_tree.specs.meaning.Tree.{TemplateData, Tree}
-use Rattle.fast_stream.specs.meaning.Events.{EventData, MessageStart, FieldValue, GroupStart, GroupEnd, SequenceStart, ElementStart, ElementEnd, SequenceEnd, MessageEnd}
+use Rattle.fast_stream.specs.meaning.Events.{EventData, MessageStart, FieldValue, GroupStart, GroupEnd, SequenceStart, ElementStart}
+use Rattle.fast_stream.specs.meaning.Events.{ElementEnd, SequenceEnd, MessageEnd}
 use Rattle.fast_lines.specs.meaning.Lines.{hex_digit, hex_byte, escaped, quoted, written, node, node_name, template_name, line_of}
 use Rattle.fast_lines.specs.meaning.Values.{Lacks}
 use Rattle.fast_lines.specs.meaning.Forms.{IsWord}
@@ -52,7 +53,8 @@ digit_is_other : (n : ℕ) → hex_digit n ≢ 0x0A
 digit_is_other n e = grind (arith, nat_tests)
 
 byte_lacks : (c : ℕ) → Lacks 0x0A (hex_byte c)
-byte_lacks c = All-cons IsOther (hex_digit (c / 16)) (hex_digit (c % 16) ∷ []) (digit_is_other (c / 16)) (All-cons IsOther (hex_digit (c % 16)) [] (digit_is_other (c % 16)) (All-nil IsOther))
+byte_lacks c = All-cons IsOther (hex_digit (c / 16)) (hex_digit (c % 16) ∷ []) (digit_is_other (c / 16))
+    (All-cons IsOther (hex_digit (c % 16)) [] (digit_is_other (c % 16)) (All-nil IsOther))
 
 bytes_lack : (v : List ℕ) → Lacks 0x0A (flat_map hex_byte v)
 bytes_lack [] = All-nil IsOther
@@ -72,7 +74,8 @@ escaped_lack [] = All-nil IsOther
 escaped_lack (c ∷ v) = join (escaped c) (flat_map escaped v) (escape_lacks c (escaped c) (byte_escape c)) (escaped_lack v)
 
 quoted_lacks : (v : List ℕ) → Lacks 0x0A (quoted v)
-quoted_lacks v = join (codes "\"") (flat_map escaped v ++ codes "\"") (tested (codes "\"") refl) (join (flat_map escaped v) (codes "\"") (escaped_lack v) (tested (codes "\"") refl))
+quoted_lacks v = join (codes "\"") (flat_map escaped v ++ codes "\"")
+    (tested (codes "\"") refl) (join (flat_map escaped v) (codes "\"") (escaped_lack v) (tested (codes "\"") refl))
 
 signed_is_other : (x : ℤ) → IsWithin (signed_range 63) x → Lacks 0x0A (signed_decimal x)
 signed_is_other x h = signed_lacks 0x0A x (small_from_range x h) (inl (omega arith))
@@ -82,7 +85,8 @@ written_lacks (U n) h = join (codes "u ") (decimal n) (tested (codes "u ") refl)
 written_lacks (I x) h = join (codes "i ") (signed_decimal x) (tested (codes "i ") refl) (signed_is_other x h)
 written_lacks (Dec e m) h =
     join (codes "d " ++ signed_decimal m ++ codes "e") (signed_decimal e)
-    (join (codes "d " ++ signed_decimal m) (codes "e") (join (codes "d ") (signed_decimal m) (tested (codes "d ") refl) (signed_is_other m h.1)) (tested (codes "e") refl))
+    (join (codes "d " ++ signed_decimal m) (codes "e") (join (codes "d ") (signed_decimal m) (tested (codes "d ") refl)
+    (signed_is_other m h.1)) (tested (codes "e") refl))
     (signed_lacks 0x0A e (small_from_narrow e h.0) (inl (omega arith)))
 written_lacks (AsciiText v) h = join (codes "a ") (quoted v) (tested (codes "a ") refl) (quoted_lacks v)
 written_lacks (UnicodeText v) h = join (codes "s ") (quoted v) (tested (codes "s ") refl) (quoted_lacks v)
@@ -92,18 +96,21 @@ number_lacks : (n : ℕ) → n < 2 ^ 32 → Lacks 0x0A (decimal n)
 number_lacks n small = decimal_lacks 0x0A n (omega (arith, small)) (inl (omega arith))
 
 node_lacks : (t : Tree) (n : ℕ) → IsNamed t n → Lacks 0x0A (node t n)
-node_lacks t n h = join (decimal n ++ codes " ") (node_name t n) (join (decimal n) (codes " ") (number_lacks n h.0) (tested (codes " ") refl)) (name_lacks 0x0A (inr refl) (node_name t n) h.1)
+node_lacks t n h = join (decimal n ++ codes " ") (node_name t n)
+    (join (decimal n) (codes " ") (number_lacks n h.0) (tested (codes " ") refl)) (name_lacks 0x0A (inr refl) (node_name t n) h.1)
 
 -- a keyword, a node, and what stands behind them
 behind_node : (t : Tree) (n : ℕ) (key text : List ℕ) → Lacks 0x0A key → IsNamed t n → Lacks 0x0A text → Lacks 0x0A (key ++ node t n ++ codes " " ++ text)
-behind_node t n key text lacks h none = join (key ++ node t n ++ codes " ") text (join (key ++ node t n) (codes " ") (join key (node t n) lacks (node_lacks t n h)) (tested (codes " ") refl)) none
+behind_node t n key text lacks h none = join (key ++ node t n ++ codes " ") text
+    (join (key ++ node t n) (codes " ") (join key (node t n) lacks (node_lacks t n h)) (tested (codes " ") refl)) none
 
 -- the name of a template that is there
 pub name_is : (t : Tree) (n : ℕ) (u : TemplateData) → slice_get t.templates n ≡ Some u → template_name t n ≡ u.name
 name_is t n u found = rw (found) refl
 
 pub line_lacks : (t : Tree) (e : EventData) → IsLined t e → Lacks 0x0A (line_of t e)
-line_lacks t (MessageStart n) (u, found, h) = join (codes "message ") (template_name t n) (tested (codes "message ") refl) (rw (name_is t n u found) (name_lacks 0x0A (inr refl) u.name h))
+line_lacks t (MessageStart n) (u, found, h) = join (codes "message ") (template_name t n) (tested (codes "message ") refl)
+    (rw (name_is t n u found) (name_lacks 0x0A (inr refl) u.name h))
 line_lacks t (FieldValue n v) h = behind_node t n (codes "field ") (written v) (tested (codes "field ") refl) h.0 (written_lacks v h.1)
 line_lacks t (GroupStart n) h = join (codes "group ") (node t n) (tested (codes "group ") refl) (node_lacks t n h)
 line_lacks t GroupEnd h = tested (codes "end group") refl

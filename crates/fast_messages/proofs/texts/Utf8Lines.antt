@@ -20,7 +20,8 @@ module _ (line rest : List ℕ) (whole : IsUtf8 (line ++ 0x0A ∷ rest)) where
 
   parts : IsUtf8 line × IsUtf8 rest
   parts = (
-    subst IsUtf8 (take_at line (0x0A ∷ rest) (length line) refl) (IsUtf8-take all (length line) whole (IsCharBoundary-before_ascii all (length line) within feed)),
+    subst IsUtf8 (take_at line (0x0A ∷ rest) (length line) refl)
+        (IsUtf8-take all (length line) whole (IsCharBoundary-before_ascii all (length line) within feed)),
     subst IsUtf8 rest_is (IsUtf8-drop all (length line + 1) whole (IsCharBoundary-after_ascii all (length line) whole within feed)),
   )
 

@@ -1,7 +1,8 @@
 -- A line is that of one event.
 use Rattle.std.proofs.Common.{◌≡◌, ℕ, refl, ap, sym, ◌∙◌}
 use Rattle.fast_tree.specs.meaning.Tree.{Tree}
-use Rattle.fast_stream.specs.meaning.Events.{EventData, MessageStart, FieldValue, GroupStart, GroupEnd, SequenceStart, ElementStart, ElementEnd, SequenceEnd, MessageEnd}
+use Rattle.fast_stream.specs.meaning.Events.{EventData, MessageStart, FieldValue, GroupStart, GroupEnd, SequenceStart, ElementStart}
+use Rattle.fast_stream.specs.meaning.Events.{ElementEnd, SequenceEnd, MessageEnd}
 use Rattle.fast_lines.specs.meaning.Lines.{line_of, template_name}
 use Rattle.fast_lines.specs.meaning.Forms.{IsForm, text_of_line, line_of_event}
 use Rattle.fast_lines.proofs.OneLine.{same_line}
@@ -9,7 +10,8 @@ use Rattle.fast_messages.proofs.values.ToldValues.{told_value}
 use Rattle.fast_messages.specs.meaning.Lined.{IsLined, HasDistinctNames}
 use Rattle.fast_messages.proofs.texts.NoFeeds.{name_is, name_is_word}
 
-same_template : (t : Tree) (n m : ℕ) → HasDistinctNames t → IsLined t (MessageStart n) → IsLined t (MessageStart m) → template_name t n ≡ template_name t m → MessageStart n ≡ MessageStart m
+same_template : (t : Tree) (n m : ℕ) → HasDistinctNames t → IsLined t (MessageStart n) → IsLined t (MessageStart m)
+    → template_name t n ≡ template_name t m → MessageStart n ≡ MessageStart m
 same_template t n m d (u, found, _) (w, other, _) e = ap MessageStart (d n m u w found other (sym (name_is t n u found) ∙ e ∙ name_is t m w other))
 
 same_said : (t : Tree) (e f : EventData) → HasDistinctNames t → IsLined t e → IsLined t f → line_of_event t e ≡ line_of_event t f → e ≡ f
@@ -120,4 +122,5 @@ formed t SequenceEnd h = tt
 formed t MessageEnd h = tt
 
 pub same_event : (t : Tree) (e f : EventData) → HasDistinctNames t → IsLined t e → IsLined t f → line_of t e ≡ line_of t f → e ≡ f
-same_event t e f d a b h = same_said t e f d a b (same_line (line_of_event t e) (line_of_event t f) (formed t e a) (formed t f b) (sym (line_is t e) ∙ h ∙ line_is t f))
+same_event t e f d a b h = same_said t e f d a b (same_line (line_of_event t e) (line_of_event t f) (formed t e a) (formed t f b)
+    (sym (line_is t e) ∙ h ∙ line_is t f))

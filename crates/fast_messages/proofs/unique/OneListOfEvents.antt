@@ -25,5 +25,6 @@ same_events t (e ∷ es) [] d a b h = absurd (no_line (line_of t e) (lines t es)
 same_events t (e ∷ es) (f ∷ fs) d a b h =
     let first = All-head (IsLined t) e es a in
     let other = All-head (IsLined t) f fs b in
-    let split = first_split 0x0A (line_of t e) (line_of t f) (lines t es) (lines t fs) (line_lacks t e first) (line_lacks t f other) (sym (lines_are t e es) ∙ h ∙ lines_are t f fs) in
+    let split = first_split 0x0A (line_of t e) (line_of t f) (lines t es) (lines t fs) (line_lacks t e first) (line_lacks t f other)
+    (sym (lines_are t e es) ∙ h ∙ lines_are t f fs) in
     cc (same_event t e f d first other split.0, same_events t es fs d (All-tail (IsLined t) e es a) (All-tail (IsLined t) f fs b) split.1)

@@ -1,5 +1,6 @@
 -- The values of a kind can be read back from their lines.
-use Rattle.std.proofs.Common.{◌≡◌, ℕ, zero, suc, ◌/◌, ◌%◌, ◌<◌, ◌≤◌, ◌^◌, Bool, true, ◌&&◌, List, [], ◌∷◌, ◌++◌, length, get_or, codes, IsUtf8, ℤ, inl, inr, refl, sym, ap₂, subst, arith, append-nil}
+use Rattle.std.proofs.Common.{◌≡◌, ℕ, zero, suc, ◌/◌, ◌%◌, ◌<◌, ◌≤◌, ◌^◌, Bool, true, ◌&&◌, List, [], ◌∷◌, ◌++◌, length, get_or, codes}
+use Rattle.std.proofs.Common.{IsUtf8, ℤ, inl, inr, refl, sym, ap₂, subst, arith, append-nil}
 use Rattle.std.specs.Prelude.{All, decimal, flat_map}
 use Rattle.std.specs.Fmt.{signed_decimal}
 use Rattle.std.proofs.lemmas.Bool.{and_parts, cases_lt, cases_eq}
@@ -39,15 +40,22 @@ high_kept : (bs : List ℕ) → ((k : ℕ) → k < length bs → 128 ≤ get_or 
 high_kept [] h = refl
 high_kept (c ∷ bs) h =
     let high : 128 ≤ c = h 0 (omega arith) in
-    let plain : escaped c ≡ c ∷ [] = plain_stands c (omega (arith, high), λ (e : c ≡ 0x7F). omega (arith, high, e), λ (e : c ≡ 0x22). omega (arith, high, e), λ (e : c ≡ 0x5C). omega (arith, high, e)) in
+    let plain : escaped c ≡ c ∷ [] = plain_stands c (
+      omega (arith, high),
+      λ (e : c ≡ 0x7F). omega (arith, high, e),
+      λ (e : c ≡ 0x22). omega (arith, high, e),
+      λ (e : c ≡ 0x5C). omega (arith, high, e),
+    ) in
     ap₂ (λ (a b : List ℕ). a ++ b) plain (high_kept bs (λ k below. h (suc k) (omega (arith, below))))
 
 one_char : (c : ℕ) → scalar c ≡ true → IsUtf8 (flat_map escaped (encode c))
 one_char c ok = elim (cases_lt c 128) [
-  | inl small ↦ subst (λ (bs : List ℕ). IsUtf8 (flat_map escaped bs)) (sym (encode_ascii c small)) (subst IsUtf8 (sym (append-nil (escaped c))) (word (escaped c) (low_below 128 all_low c small)))
+  | inl small ↦ subst (λ (bs : List ℕ). IsUtf8 (flat_map escaped bs)) (sym (encode_ascii c small))
+      (subst IsUtf8 (sym (append-nil (escaped c))) (word (escaped c) (low_below 128 all_low c small)))
   | inr big ↦
       let high : (k : ℕ) → k < length (encode c) → 128 ≤ get_or (encode c) k 0 = λ k below. elim (cases_lt (get_or (encode c) k 0) 128) [
-        | inl low ↦ absurd (let same : c ≡ get_or (encode c) k 0 = inside_one c [] (encode c) k (sym (append-nil (encode c))) below low in omega (arith, same, low, big))
+        | inl low ↦ absurd (let same : c ≡ get_or (encode c) k 0 = inside_one c [] (encode c) k (sym (append-nil (encode c))) below low in
+            omega (arith, same, low, big))
         | inr h ↦ h
       ] in
       subst IsUtf8 (sym (high_kept (encode c) high)) (IsUtf8-encode c ok)
@@ -57,13 +65,15 @@ all_chars : (cs : List ℕ) → scalars cs ≡ true → IsUtf8 (flat_map escaped
 all_chars [] e = IsUtf8-nil
 all_chars (c ∷ cs) e =
     let p = and_parts (scalar c) (scalars cs) e in
-    subst IsUtf8 (sym (flat_map-append escaped (encode c) (encodes cs))) (IsUtf8-append (flat_map escaped (encode c)) (flat_map escaped (encodes cs)) (one_char c p.0) (all_chars cs p.1))
+    subst IsUtf8 (sym (flat_map-append escaped (encode c) (encodes cs)))
+    (IsUtf8-append (flat_map escaped (encode c)) (flat_map escaped (encodes cs)) (one_char c p.0) (all_chars cs p.1))
 
 -- a text between quotes
 pub quoted_utf8 : (v : List ℕ) → IsUtf8 v → IsUtf8 (quoted v)
 quoted_utf8 v (cs, both) =
     IsUtf8-append (0x22 ∷ []) (flat_map escaped v ++ 0x22 ∷ []) (word (0x22 ∷ []) refl)
-    (IsUtf8-append (flat_map escaped v) (0x22 ∷ []) (subst (λ (bs : List ℕ). IsUtf8 (flat_map escaped bs)) both.1 (all_chars cs both.0)) (word (0x22 ∷ []) refl))
+    (IsUtf8-append (flat_map escaped v) (0x22 ∷ []) (subst (λ (bs : List ℕ). IsUtf8 (flat_map escaped bs)) both.1 (all_chars cs both.0))
+    (word (0x22 ∷ []) refl))
 
 -- bytes as digits
 digit_low : (n : ℕ) → n < 16 → hex_digit n < 128
@@ -101,5 +111,9 @@ values_are_shown l Int64 (I x) h b = (h, signed_shown x h)
 values_are_shown l Decimal (Dec e m) h b = ((exponent e h.0, h.1), decimal_shown e m (exponent e h.0) h.1)
 values_are_shown l Ascii (AsciiText v) h b = (tt, behind (codes "a ") (quoted v) refl (quoted_utf8 v (IsUtf8-from_ascii v (IsAscii-from_all v h.1))))
 values_are_shown l Unicode (UnicodeText v) h b = (tt, behind (codes "s ") (quoted v) refl (quoted_utf8 v h.1))
-values_are_shown l Bytes (ByteVector v) h b = (b, behind (codes "b ") (flat_map hex_byte v) refl (IsUtf8-from_ascii (flat_map hex_byte v) (IsAscii-from_all (flat_map hex_byte v) (hex_low v b))))
+values_are_shown l Bytes (ByteVector v) h b = (
+  b,
+  behind (codes "b ") (flat_map hex_byte v) refl
+      (IsUtf8-from_ascii (flat_map hex_byte v) (IsAscii-from_all (flat_map hex_byte v) (hex_low v b))),
+)
 values_are_shown l kind v h b = absurd h

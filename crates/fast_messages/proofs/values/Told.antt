@@ -13,7 +13,8 @@ value_text : (m n : ℕ) (a b name text : List ℕ) → Some (field m a b) ≡ S
 value_text m n a b name text e = cc (e)
 
 pub told : (l : Line) (value : Option Value) → IsValueOf l value → TellsValue (Some l) value
-told (Lent.Field m a b) (Some w) h n name text v e is = sym (value_text m n a.now b.now name text e) ∙ h ∙ (let same : w ≡ v = cc (is) in ap (λ (z : Value). written (value_data z)) same)
+told (Lent.Field m a b) (Some w) h n name text v e is = sym (value_text m n a.now b.now name text e) ∙ h
+    ∙ (let same : w ≡ v = cc (is) in ap (λ (z : Value). written (value_data z)) same)
 told (Lent.Field m a b) None h n name text v e is = absurd (cc (is))
 told (Lent.Message a) value h n name text v e is = absurd (cc (e))
 told (Lent.Group m a) value h n name text v e is = absurd (cc (e))

@@ -23,11 +23,13 @@ IsValueOf line value = Unit {0}
 
 -- a value that is there is that of the field's line
 abbrev pub TellsValue : Option Line → Option Value → Type 0
-TellsValue line value = (n : ℕ) (name text : List ℕ) (v : Value) → option_map line_data line ≡ Some (field n name text) → value ≡ Some v → text ≡ written (value_data v)
+TellsValue line value = (n : ℕ) (name text : List ℕ) (v : Value) → option_map line_data line ≡ Some (field n name text) → value ≡ Some v
+    → text ≡ written (value_data v)
 
 -- where none is there, the field's line has none that the types of values hold
 abbrev pub TellsNone : Option Line → Option Value → Type 0
-TellsNone line value = (n : ℕ) (name text : List ℕ) (v : ScalarData) → option_map line_data line ≡ Some (field n name text) → value ≡ None → IsHeld v → text ≢ written v
+TellsNone line value = (n : ℕ) (name text : List ℕ) (v : ScalarData) → option_map line_data line ≡ Some (field n name text) → value ≡ None
+    → IsHeld v → text ≢ written v
 
 -- the text from a line on, and none behind the last
 abbrev pub text_from : Option Line → List ℕ → List ℕ

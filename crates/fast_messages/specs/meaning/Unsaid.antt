@@ -27,7 +27,9 @@ pub record IsPlainItem (t : Tree) (i : Instruction) : Type 0 where
 
 -- What may be due of a whole body at one place, up to its end, may be due of the rest at the next.
 pub record IsLeft (t : Tree) (whole rest : Body) (c next : Cursor) : Type 0 where
-  pub back : (vs : Slots) (ending : Ending) (es : List EventData) → SuitsBody whole vs → IsDue t (body_events whole vs ++ end_event ending ∷ es) c → (ws : Slots) × SuitsBody rest ws × IsDue t (body_events rest ws ++ end_event ending ∷ es) next
+  pub back : (vs : Slots) (ending : Ending) (es : List EventData) → SuitsBody whole vs
+      → IsDue t (body_events whole vs ++ end_event ending ∷ es) c
+      → (ws : Slots) × SuitsBody rest ws × IsDue t (body_events rest ws ++ end_event ending ∷ es) next
 
 -- No slots that suit the body have the text ahead, up to the body's end.
 abbrev pub HasNoBody : Tree → Body → Ending → Cursor → Type 0
@@ -39,7 +41,8 @@ HasNoItem t i c = IsPlainItem t i → (x : ItemData) (es : List EventData) → S
 
 -- not so many elements, up to the sequence's end
 abbrev pub HasNoRows : Tree → Body → ℕ → Cursor → Type 0
-HasNoRows t b n c = IsPlainBody t b → (rows : Elements) (es : List EventData) → AreRight (SuitsBody b) rows → count rows ≡ n → ¬ (IsDue t (element_events (body_events b) rows ++ SequenceEnd ∷ es) c)
+HasNoRows t b n c = IsPlainBody t b → (rows : Elements) (es : List EventData) → AreRight (SuitsBody b) rows → count rows ≡ n
+    → ¬ (IsDue t (element_events (body_events b) rows ++ SequenceEnd ∷ es) c)
 
 -- no message
 abbrev pub HasNoMessage : Tree → Cursor → Type 0

@@ -1,5 +1,6 @@
 -- The instructions at the key `fields`, and those of the items of an array, one after the other.
-use Rattle.std.proofs.Common.{◌≡◌, ◌≢◌, inl, inr, ℕ, ◌+◌, ◌<◌, ◌≤◌, max, List, [], ◌∷◌, ◌++◌, length, map, drop, get_or, refl, ap, sym, ◌∙◌, arith, suc, zero, Option, Some, None, Ordering, Less, Equal, Greater, codes, nat_cmp, Bool, true, false}
+use Rattle.std.proofs.Common.{◌≡◌, ◌≢◌, inl, inr, ℕ, ◌+◌, ◌<◌, ◌≤◌, max, List, [], ◌∷◌, ◌++◌, length, map, drop, get_or, refl, ap, sym, ◌∙◌}
+use Rattle.std.proofs.Common.{arith, suc, zero, Option, Some, None, Ordering, Less, Equal, Greater, codes, nat_cmp, Bool, true, false}
 use Rattle.std.specs.Prelude.{if◌then◌else◌}
 use Rattle.std.specs.Ordering.{match_ordering}
 use Rattle.std.specs.Cmp.Lexicographic.{slice_cmp}
@@ -7,12 +8,15 @@ use Rattle.std.specs.Str.{bytes_eq}
 use Rattle.std.proofs.lemmas.Slice.Eq.{bytes_eq-Decides}
 use Rattle.std.proofs.lemmas.Bool.{cases_Bool}
 use Rattle.std.proofs.lemmas.List.{map-append, drop_all}
-use Rattle.toml.specs.Data.{Data, string, integer, float, boolean, datetime, array, table, Items, no_items, Members, no_members, member, get_member, as_table, depth, items_depth, members_depth}
+use Rattle.toml.specs.Data.{Data, string, integer, float, boolean, datetime, array, table, Items, no_items, Members, no_members, member}
+use Rattle.toml.specs.Data.{get_member, as_table, depth, items_depth, members_depth}
 use Rattle.toml.specs.View.{view, items_view}
 use Rattle.toml.proofs.Views.{items_view-drop}
 use Rattle.toml.specs.declared.value.Value.{Value}
 use Rattle.fast_tree.specs.meaning.AsWritten.{Declared, DeclaredList, no_more}
-use Rattle.fast_notation.specs.device.Reading.{◌>>=◌, has_only, text_of, of_kind, name_of, flag_of, length_of, items_of, in_front, declared_of, fields_of, array_fields, all_fields, group_of, sequence_of, reference_of, kind_named, field_of}
+use Rattle.fast_notation.specs.device.Reading.{◌>>=◌, has_only, text_of, of_kind, name_of, flag_of, length_of, items_of, in_front}
+use Rattle.fast_notation.specs.device.Reading.{declared_of, fields_of, array_fields, all_fields, group_of, sequence_of, reference_of}
+use Rattle.fast_notation.specs.device.Reading.{kind_named, field_of}
 use Rattle.fast_notation.specs.device.WrittenSets.{list_of, instruction_data, fields_data}
 use Rattle.fast_notation.specs.declared.written.WrittenInstruction.{WrittenInstruction}
 
@@ -21,7 +25,8 @@ abbrev fields_at : Option Data → Option DeclaredList
 fields_at None = Some no_more
 fields_at (Some d) = array_fields d
 
-at_ordering : (o : Ordering) (a : Option Data) (d : Data) → match_ordering o (fields_at a) (array_fields d) (fields_at a) ≡ fields_at (match_ordering o a (Some d) a)
+at_ordering : (o : Ordering) (a : Option Data) (d : Data)
+    → match_ordering o (fields_at a) (array_fields d) (fields_at a) ≡ fields_at (match_ordering o a (Some d) a)
 at_ordering Less a d = refl
 at_ordering Equal a d = refl
 at_ordering Greater a d = refl
@@ -61,7 +66,8 @@ pub fields_of_none : (ms : Members) → items_of (get_member (codes "fields") ms
 fields_of_none ms e = fields_found ms ∙ fields_no_items (get_member (codes "fields") ms) e
 
 -- what stands at a key is less deep than the table
-below_ordering : (o : Ordering) (a : Option Data) (d e : Data) (n : ℕ) → match_ordering o a (Some d) a ≡ Some e → (a ≡ Some e → depth e ≤ n) → depth e ≤ max (depth d) n
+below_ordering : (o : Ordering) (a : Option Data) (d e : Data) (n : ℕ) → match_ordering o a (Some d) a ≡ Some e
+    → (a ≡ Some e → depth e ≤ n) → depth e ≤ max (depth d) n
 below_ordering Less a d e n found before = let h = before found in omega (arith, h)
 below_ordering Greater a d e n found before = let h = before found in omega (arith, h)
 below_ordering Equal a d e n found before = let h : depth d ≡ depth e = ap depth (let s : d ≡ e = cc in s) in omega (arith, h)
@@ -72,7 +78,8 @@ member_below k (member l d ms) e found = below_ordering (slice_cmp nat_cmp k l) 
 
 items_below_at : (o : Option Data) (xs : Items) (n : ℕ) → items_of o ≡ Some xs → ((e : Data) → o ≡ Some e → depth e ≤ n) → items_depth xs ≤ n
 items_below_at None xs n e below = let h : items_depth xs ≡ 0 = ap items_depth (let s : xs ≡ no_items = cc in s) in omega (arith, h)
-items_below_at (Some (array ys)) xs n e below = let h : items_depth ys ≡ items_depth xs = ap items_depth (let s : ys ≡ xs = cc in s) in let b = below (array ys) refl in omega (arith, h, b)
+items_below_at (Some (array ys)) xs n e below = let h : items_depth ys ≡ items_depth xs = ap items_depth (let s : ys ≡ xs = cc in s) in
+    let b = below (array ys) refl in omega (arith, h, b)
 items_below_at (Some (string x)) xs n e below = absurd (cc)
 items_below_at (Some (integer x)) xs n e below = absurd (cc)
 items_below_at (Some (float x)) xs n e below = absurd (cc)
@@ -166,7 +173,8 @@ table_is (boolean x) ms e = absurd (cc)
 table_is (datetime x) ms e = absurd (cc)
 
 -- the instruction of a table of a kind, by what its `fields` hold
-kind_read : (d : Data) (ms : Members) (t : Option (List ℕ)) (kind : List ℕ) (inner : Option DeclaredList) → as_table d ≡ Some ms → text_of (get_member (codes "kind") ms) ≡ Some t → t ≡ Some kind
+kind_read : (d : Data) (ms : Members) (t : Option (List ℕ)) (kind : List ℕ) (inner : Option DeclaredList) → as_table d ≡ Some ms
+    → text_of (get_member (codes "kind") ms) ≡ Some t → t ≡ Some kind
     → fields_of ms ≡ inner → declared_of d ≡ of_kind kind ms inner
 kind_read d ms t kind inner is_table text some fields =
     ap declared_of (table_is d ms is_table)
@@ -175,15 +183,19 @@ kind_read d ms t kind inner is_table text some fields =
     ∙ ap (of_kind kind ms) fields
 
 -- a group, a sequence, a reference, or a field of a kind
-pub group_read : (d : Data) (ms : Members) (t : Option (List ℕ)) (kind : List ℕ) (inner : Option DeclaredList) → as_table d ≡ Some ms → text_of (get_member (codes "kind") ms) ≡ Some t
+pub group_read : (d : Data) (ms : Members) (t : Option (List ℕ)) (kind : List ℕ) (inner : Option DeclaredList) → as_table d ≡ Some ms
+    → text_of (get_member (codes "kind") ms) ≡ Some t
     → t ≡ Some kind → kind ≡ codes "group" → fields_of ms ≡ inner → declared_of d ≡ group_of ms inner
 group_read d ms t kind inner is_table text some group fields = kind_read d ms t kind inner is_table text some fields ∙ ap (λ k. of_kind k ms inner) group
 
-pub sequence_read : (d : Data) (ms : Members) (t : Option (List ℕ)) (kind : List ℕ) (inner : Option DeclaredList) → as_table d ≡ Some ms → text_of (get_member (codes "kind") ms) ≡ Some t
+pub sequence_read : (d : Data) (ms : Members) (t : Option (List ℕ)) (kind : List ℕ) (inner : Option DeclaredList) → as_table d ≡ Some ms
+    → text_of (get_member (codes "kind") ms) ≡ Some t
     → t ≡ Some kind → kind ≡ codes "sequence" → fields_of ms ≡ inner → declared_of d ≡ sequence_of ms inner
-sequence_read d ms t kind inner is_table text some sequence fields = kind_read d ms t kind inner is_table text some fields ∙ ap (λ k. of_kind k ms inner) sequence
+sequence_read d ms t kind inner is_table text some sequence fields = kind_read d ms t kind inner is_table text some fields
+    ∙ ap (λ k. of_kind k ms inner) sequence
 
-pub reference_read : (d : Data) (ms : Members) (t : Option (List ℕ)) (kind : List ℕ) → as_table d ≡ Some ms → text_of (get_member (codes "kind") ms) ≡ Some t → t ≡ Some kind
+pub reference_read : (d : Data) (ms : Members) (t : Option (List ℕ)) (kind : List ℕ) → as_table d ≡ Some ms
+    → text_of (get_member (codes "kind") ms) ≡ Some t → t ≡ Some kind
     → kind ≡ codes "ref" → declared_of d ≡ reference_of ms
 reference_read d ms t kind is_table text some ref = kind_read d ms t kind (fields_of ms) is_table text some refl ∙ ap (λ k. of_kind k ms (fields_of ms)) ref
 
@@ -196,7 +208,8 @@ differs s t other = elim (cases_Bool (bytes_eq s t)) as (λ _. bytes_eq s t ≡ 
 passed_over : {A : Type 0} (b : Bool) (x y : A) → b ≡ false → (if b then x else y) ≡ y
 passed_over b x y e = ap (λ c. if c then x else y) e
 
-pub other_read : (d : Data) (ms : Members) (t : Option (List ℕ)) (kind : List ℕ) → as_table d ≡ Some ms → text_of (get_member (codes "kind") ms) ≡ Some t → t ≡ Some kind
+pub other_read : (d : Data) (ms : Members) (t : Option (List ℕ)) (kind : List ℕ) → as_table d ≡ Some ms
+    → text_of (get_member (codes "kind") ms) ≡ Some t → t ≡ Some kind
     → kind ≢ codes "group" → kind ≢ codes "sequence" → kind ≢ codes "ref" → declared_of d ≡ (kind_named kind >>= (λ k. field_of k ms))
 other_read d ms t kind is_table text some not_group not_sequence not_ref =
     kind_read d ms t kind (fields_of ms) is_table text some refl
@@ -217,20 +230,23 @@ no_table (datetime x) e = refl
 pub kind_unread : (d : Data) (ms : Members) → as_table d ≡ Some ms → text_of (get_member (codes "kind") ms) ≡ None → declared_of d ≡ None
 kind_unread d ms is_table none = ap declared_of (table_is d ms is_table) ∙ ap (λ o. o >>= (λ s. s >>= (λ k. of_kind k ms (fields_of ms)))) none
 
-pub no_kind : (d : Data) (ms : Members) (t : Option (List ℕ)) → as_table d ≡ Some ms → text_of (get_member (codes "kind") ms) ≡ Some t → t ≡ None → declared_of d ≡ None
+pub no_kind : (d : Data) (ms : Members) (t : Option (List ℕ)) → as_table d ≡ Some ms → text_of (get_member (codes "kind") ms) ≡ Some t
+    → t ≡ None → declared_of d ≡ None
 no_kind d ms t is_table text none =
     ap declared_of (table_is d ms is_table)
     ∙ ap (λ o. o >>= (λ s. s >>= (λ k. of_kind k ms (fields_of ms)))) text
     ∙ ap (λ s. s >>= (λ k. of_kind k ms (fields_of ms))) none
 
 -- a group's instructions can't be read
-pub group_unread : (d : Data) (ms : Members) (t : Option (List ℕ)) (kind : List ℕ) → as_table d ≡ Some ms → text_of (get_member (codes "kind") ms) ≡ Some t → t ≡ Some kind
+pub group_unread : (d : Data) (ms : Members) (t : Option (List ℕ)) (kind : List ℕ) → as_table d ≡ Some ms
+    → text_of (get_member (codes "kind") ms) ≡ Some t → t ≡ Some kind
     → kind ≡ codes "group" → fields_of ms ≡ None → declared_of d ≡ None
 group_unread d ms t kind is_table text some group none =
     kind_read d ms t kind None is_table text some none ∙ ap (λ k. of_kind k ms None) group ∙ group_of_none ms
 
 -- a sequence's instructions can't be read
-pub sequence_unread : (d : Data) (ms : Members) (t : Option (List ℕ)) (kind : List ℕ) → as_table d ≡ Some ms → text_of (get_member (codes "kind") ms) ≡ Some t → t ≡ Some kind
+pub sequence_unread : (d : Data) (ms : Members) (t : Option (List ℕ)) (kind : List ℕ) → as_table d ≡ Some ms
+    → text_of (get_member (codes "kind") ms) ≡ Some t → t ≡ Some kind
     → kind ≡ codes "sequence" → fields_of ms ≡ None → declared_of d ≡ None
 sequence_unread d ms t kind is_table text some sequence none =
     kind_read d ms t kind None is_table text some none ∙ ap (λ k. of_kind k ms None) sequence ∙ sequence_of_none ms

@@ -1,5 +1,6 @@
 -- Places of one element more.
-use Rattle.std.proofs.Common.{◌≡◌, ◌≢◌, ℕ, ◌+◌, List, [], ◌∷◌, ◌++◌, length, take, get_or, slice_get, refl, ap, sym, ◌∙◌, arith, suc, zero, add-zero, Option, Some, None, Bool, true, false, inl, inr}
+use Rattle.std.proofs.Common.{◌≡◌, ◌≢◌, ℕ, ◌+◌, List, [], ◌∷◌, ◌++◌, length, take, get_or, slice_get, refl, ap, sym, ◌∙◌, arith, suc, zero}
+use Rattle.std.proofs.Common.{add-zero, Option, Some, None, Bool, true, false, inl, inr}
 use Rattle.std.specs.Prelude.{if◌then◌else◌, All, AllPairs}
 use Rattle.std.proofs.lemmas.Bool.{cases_Bool, false≢true}
 use Rattle.std.proofs.lemmas.List.Elements.{All-nil, All-cons}
@@ -23,15 +24,18 @@ or_else (Some n) o = Some n
 or_else None o = o
 
 -- one element more behind the others
-pub place-push : {A : Type 0} (test : A → Bool) (n : ℕ) (xs : List A) (x : A) → place test n (xs ++ x ∷ []) ≡ or_else (place test n xs) (if test x then Some (n + length xs) else None)
+pub place-push : {A : Type 0} (test : A → Bool) (n : ℕ) (xs : List A) (x : A)
+    → place test n (xs ++ x ∷ []) ≡ or_else (place test n xs) (if test x then Some (n + length xs) else None)
 place-push test n [] x = ap (λ m. if test x then Some m else None) (sym (add-zero n))
 place-push test n (y ∷ xs) x = elim (cases_Bool (test y)) [
   | inl here ↦ rw here refl
-  | inr there ↦ rw there (place-push test (suc n) xs x ∙ ap (λ m. or_else (place test (suc n) xs) (if test x then Some m else None)) (let e : suc n + length xs ≡ n + suc (length xs) = omega arith in e))
+  | inr there ↦ rw there (place-push test (suc n) xs x ∙ ap (λ m. or_else (place test (suc n) xs) (if test x then Some m else None))
+      (let e : suc n + length xs ≡ n + suc (length xs) = omega arith in e))
 ]
 
 -- what stands at a place
-pub placed : {A : Type 0} (test : A → Bool) (n k : ℕ) (xs : List A) → place test n xs ≡ Some k → (j : ℕ) × (x : A) × (k ≡ n + j) × (slice_get xs j ≡ Some x) × (test x ≡ true)
+pub placed : {A : Type 0} (test : A → Bool) (n k : ℕ) (xs : List A) → place test n xs ≡ Some k
+    → (j : ℕ) × (x : A) × (k ≡ n + j) × (slice_get xs j ≡ Some x) × (test x ≡ true)
 placed test n k [] e = absurd (cc)
 placed test n k (x ∷ xs) e = elim (cases_Bool (test x)) [
   | inl here ↦ (0, x, (let s : n ≡ k = some_is (rw here at e) in omega (arith, s)), refl, here)
@@ -74,7 +78,8 @@ other_way s t e = elim (cases_Bool (bytes_eq t s)) [
 ]
 
 -- the index by names with one template more
-pub names_more : (old new : List ℕ → Option ℕ) (us : List DeclaredTemplate) (t : DeclaredTemplate) (k : ℕ) → k ≡ length us → ((q : List ℕ) → old q ≡ place_of_name q us) → old t.name ≡ None
+pub names_more : (old new : List ℕ → Option ℕ) (us : List DeclaredTemplate) (t : DeclaredTemplate) (k : ℕ) → k ≡ length us
+    → ((q : List ℕ) → old q ≡ place_of_name q us) → old t.name ≡ None
     → ((q : List ℕ) → new q ≡ (if bytes_eq t.name q then Some k else old q)) → (q : List ℕ) → new q ≡ place_of_name q (us ++ t ∷ [])
 names_more old new us t k long before none updated q =
     updated q ∙ elim (cases_Bool (bytes_eq t.name q)) as (λ _. (if bytes_eq t.name q then Some k else old q) ≡ place_of_name q (us ++ t ∷ [])) [
@@ -88,13 +93,15 @@ names_more old new us t k long before none updated q =
     ]
 
 -- no earlier template has the name
-pub names_apart : (us : List DeclaredTemplate) (t : DeclaredTemplate) → place_of_name t.name us ≡ None → AllPairs (λ a b. a.name ≢ b.name) us → AllPairs (λ a b. a.name ≢ b.name) (us ++ t ∷ [])
+pub names_apart : (us : List DeclaredTemplate) (t : DeclaredTemplate) → place_of_name t.name us ≡ None
+    → AllPairs (λ a b. a.name ≢ b.name) us → AllPairs (λ a b. a.name ≢ b.name) (us ++ t ∷ [])
 names_apart us t none apart =
     all_pairs_push (λ a b. a.name ≢ b.name) us t apart
     (λ k d inside same. false≢true (sym (no_place (λ u. bytes_eq t.name u.name) 0 us none k d inside) ∙ ap (λ s. bytes_eq t.name s) same ∙ text_same t.name))
 
 -- an earlier template has the name
-pub name_before : (ts : List DeclaredTemplate) (k j : ℕ) (t : DeclaredTemplate) → slice_get ts k ≡ Some t → place_of_name t.name (take k ts) ≡ Some j → StandsAt ts C1 k
+pub name_before : (ts : List DeclaredTemplate) (k j : ℕ) (t : DeclaredTemplate) → slice_get ts k ≡ Some t
+    → place_of_name t.name (take k ts) ≡ Some j → StandsAt ts C1 k
 name_before ts k j t found e =
     let p = placed (λ u. bytes_eq t.name u.name) 0 j (take k ts) e in
     let inside = slice_get_within (take k ts) p.0 p.1 p.3 in
@@ -115,7 +122,8 @@ id_is id (Some n) e = ap Some (sym (nat_same id n e))
 pub is_the_id : (id : ℕ) (o : Option ℕ) → o ≡ Some id → is_id id o ≡ true
 is_the_id id o e = ap (is_id id) e ∙ same_nat id
 
-pub ids_more : (old new : ℕ → Option ℕ) (us : List DeclaredTemplate) (t : DeclaredTemplate) (id k : ℕ) → t.id ≡ Some id → k ≡ length us → ((q : ℕ) → old q ≡ place_of_id q us) → old id ≡ None
+pub ids_more : (old new : ℕ → Option ℕ) (us : List DeclaredTemplate) (t : DeclaredTemplate) (id k : ℕ) → t.id ≡ Some id → k ≡ length us
+    → ((q : ℕ) → old q ≡ place_of_id q us) → old id ≡ None
     → ((q : ℕ) → new q ≡ (if nat_eq id q then Some k else old q)) → (q : ℕ) → new q ≡ place_of_id q (us ++ t ∷ [])
 ids_more old new us t id k has long before none updated q =
     updated q ∙ elim (cases_Bool (nat_eq id q)) as (λ _. (if nat_eq id q then Some k else old q) ≡ place_of_id q (us ++ t ∷ [])) [
@@ -133,17 +141,21 @@ ids_more old new us t id k has long before none updated q =
     other_nat m n e = grind (arith, nat_tests)
 
 -- a template without identifier
-pub ids_same : (old : ℕ → Option ℕ) (us : List DeclaredTemplate) (t : DeclaredTemplate) → t.id ≡ None → ((q : ℕ) → old q ≡ place_of_id q us) → (q : ℕ) → old q ≡ place_of_id q (us ++ t ∷ [])
+pub ids_same : (old : ℕ → Option ℕ) (us : List DeclaredTemplate) (t : DeclaredTemplate) → t.id ≡ None
+    → ((q : ℕ) → old q ≡ place_of_id q us) → (q : ℕ) → old q ≡ place_of_id q (us ++ t ∷ [])
 ids_same old us t none before q =
-    before q ∙ sym (place-push (λ u. is_id q u.id) 0 us t ∙ ap (λ b. or_else (place_of_id q us) (if b then Some (0 + length us) else None)) (ap (is_id q) none) ∙ or_nothing (place_of_id q us))
+    before q ∙ sym (place-push (λ u. is_id q u.id) 0 us t ∙ ap (λ b. or_else (place_of_id q us) (if b then Some (0 + length us) else None))
+    (ap (is_id q) none) ∙ or_nothing (place_of_id q us))
 
-pub ids_apart : (us : List DeclaredTemplate) (t : DeclaredTemplate) → ((id : ℕ) → t.id ≡ Some id → place_of_id id us ≡ None) → AllPairs (λ a b. (id : ℕ) → a.id ≡ Some id → b.id ≢ Some id) us
+pub ids_apart : (us : List DeclaredTemplate) (t : DeclaredTemplate) → ((id : ℕ) → t.id ≡ Some id → place_of_id id us ≡ None)
+    → AllPairs (λ a b. (id : ℕ) → a.id ≡ Some id → b.id ≢ Some id) us
     → AllPairs (λ a b. (id : ℕ) → a.id ≡ Some id → b.id ≢ Some id) (us ++ t ∷ [])
 ids_apart us t none apart =
     all_pairs_push (λ a b. (id : ℕ) → a.id ≡ Some id → b.id ≢ Some id) us t apart
     (λ k d inside id has has_too. false≢true (sym (no_place (λ u. is_id id u.id) 0 us (none id has_too) k d inside) ∙ is_the_id id (get_or us k d).id has))
 
-pub id_before : (ts : List DeclaredTemplate) (k j id : ℕ) (t : DeclaredTemplate) → slice_get ts k ≡ Some t → t.id ≡ Some id → place_of_id id (take k ts) ≡ Some j → StandsAt ts C2 k
+pub id_before : (ts : List DeclaredTemplate) (k j id : ℕ) (t : DeclaredTemplate) → slice_get ts k ≡ Some t → t.id ≡ Some id
+    → place_of_id id (take k ts) ≡ Some j → StandsAt ts C2 k
 id_before ts k j id t found has e =
     let p = placed (λ u. is_id id u.id) 0 j (take k ts) e in
     let inside = slice_get_within (take k ts) p.0 p.1 p.3 in

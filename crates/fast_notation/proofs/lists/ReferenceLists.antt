@@ -1,5 +1,6 @@
 -- The references of instructions, one instruction after the other.
-use Rattle.std.proofs.Common.{◌≡◌, ◌≢◌, ℕ, List, [], ◌∷◌, slice_get, refl, ap, sym, ◌∙◌, arith, suc, Option, Some, None, Bool, true, false, ◌&&◌, string_bytes, rules, String, Global, inl, inr}
+use Rattle.std.proofs.Common.{◌≡◌, ◌≢◌, ℕ, List, [], ◌∷◌, slice_get, refl, ap, sym, ◌∙◌, arith, suc, Option, Some, None, Bool, true, false}
+use Rattle.std.proofs.Common.{◌&&◌, string_bytes, rules, String, Global, inl, inr}
 use Rattle.std.specs.Prelude.{All, Any, IsSome, is_some}
 use Rattle.std.specs.List.{list_all}
 use Rattle.std.specs.Option.{option_copied}
@@ -18,7 +19,8 @@ use Rattle.fast_notation.proofs.lists.PlaceLists.{no_place}
 use Rattle.fast_notation.proofs.texts.ReadingPieces.{text_same}
 
 -- what passes everywhere holds everywhere
-pub all_known : (look : List ℕ → Option ℕ) (ts : List DeclaredTemplate) (names : List (List ℕ)) → ((q : List ℕ) → look q ≡ place_of_name q ts) → list_all (λ q. is_some (look q)) names ≡ true
+pub all_known : (look : List ℕ → Option ℕ) (ts : List DeclaredTemplate) (names : List (List ℕ))
+    → ((q : List ℕ) → look q ≡ place_of_name q ts) → list_all (λ q. is_some (look q)) names ≡ true
     → All (λ name. IsSome (place_of_name name ts)) names
 all_known look ts [] index e = All-nil (λ name. IsSome (place_of_name name ts))
 all_known look ts (q ∷ qs) index e =
@@ -26,7 +28,8 @@ all_known look ts (q ∷ qs) index e =
     All-cons (λ name. IsSome (place_of_name name ts)) q qs (ap is_some (sym (index q)) ∙ here) (all_known look ts qs index rest)
 
 -- what fails somewhere is a reference to an unknown name
-any_unknown : (look : List ℕ → Option ℕ) (ts : List DeclaredTemplate) (names : List (List ℕ)) → ((q : List ℕ) → look q ≡ place_of_name q ts) → list_all (λ q. is_some (look q)) names ≡ false
+any_unknown : (look : List ℕ → Option ℕ) (ts : List DeclaredTemplate) (names : List (List ℕ))
+    → ((q : List ℕ) → look q ≡ place_of_name q ts) → list_all (λ q. is_some (look q)) names ≡ false
     → Any (λ name. All (λ u. u.name ≢ name) ts) names
 any_unknown look ts [] index e = absurd (false≢true (sym e))
 any_unknown look ts (q ∷ qs) index e = elim (cases_Bool (is_some (look q))) [
@@ -39,7 +42,8 @@ any_unknown look ts (q ∷ qs) index e = elim (cases_Bool (is_some (look q))) [
     omega arith,
     refl,
     λ k d inside same.
-        false≢true (sym (no_place (λ u. bytes_eq q u.name) 0 ts (nothing (place_of_name q ts) (ap is_some (sym (index q)) ∙ unknown)) k d inside) ∙ ap (bytes_eq q) same ∙ text_same q),
+        false≢true (sym (no_place (λ u. bytes_eq q u.name) 0 ts
+        (nothing (place_of_name q ts) (ap is_some (sym (index q)) ∙ unknown)) k d inside) ∙ ap (bytes_eq q) same ∙ text_same q),
   )
 ]
   where
@@ -47,7 +51,8 @@ any_unknown look ts (q ∷ qs) index e = elim (cases_Bool (is_some (look q))) [
     nothing None h = refl
     nothing (Some n) h = absurd (false≢true (sym h))
 
-pub unknown_at : (look : List ℕ → Option ℕ) (ts : List DeclaredTemplate) (k : ℕ) (t : DeclaredTemplate) → ((q : List ℕ) → look q ≡ place_of_name q ts) → slice_get ts k ≡ Some t
+pub unknown_at : (look : List ℕ → Option ℕ) (ts : List DeclaredTemplate) (k : ℕ) (t : DeclaredTemplate)
+    → ((q : List ℕ) → look q ≡ place_of_name q ts) → slice_get ts k ≡ Some t
     → list_all (λ q. is_some (look q)) (all_references t.fields) ≡ false → StandsAt ts D8 k
 unknown_at look ts k t index found e = (t, found, any_unknown look ts (all_references t.fields) index e)
 

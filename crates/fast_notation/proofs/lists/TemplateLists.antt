@@ -1,5 +1,6 @@
 -- The templates of the items of an array, one after the other.
-use Rattle.std.proofs.Common.{◌≡◌, ℕ, ◌+◌, ◌<◌, ◌≤◌, List, [], ◌∷◌, ◌++◌, length, map, drop, get_or, refl, ap, sym, ◌∙◌, arith, suc, Option, Some, None, Bool, true, false, append_assoc, ◌≢◌, codes, le-leb, nat_le, ◌&&◌, inl, inr}
+use Rattle.std.proofs.Common.{◌≡◌, ℕ, ◌+◌, ◌<◌, ◌≤◌, List, [], ◌∷◌, ◌++◌, length, map, drop, get_or, refl, ap, sym, ◌∙◌, arith, suc, Option}
+use Rattle.std.proofs.Common.{Some, None, Bool, true, false, append_assoc, ◌≢◌, codes, le-leb, nat_le, ◌&&◌, inl, inr}
 use Rattle.std.proofs.lemmas.List.{map-append}
 use Rattle.toml.specs.Data.{Data, Items, Members, get_item, get_member, as_array}
 use Rattle.toml.specs.View.{view, items_view, members_view}
@@ -22,7 +23,8 @@ use Rattle.fast_notation.specs.declared.written.WrittenTemplate.{WrittenTemplate
 abbrev pub front : List DeclaredTemplate → Option (List DeclaredTemplate) → Option (List DeclaredTemplate)
 front ts o = o >>= (λ us. Some (ts ++ us))
 
-front_push : (ts : List DeclaredTemplate) (t : DeclaredTemplate) (o : Option (List DeclaredTemplate)) → front (ts ++ t ∷ []) o ≡ front ts (o >>= (λ us. Some (t ∷ us)))
+front_push : (ts : List DeclaredTemplate) (t : DeclaredTemplate) (o : Option (List DeclaredTemplate))
+    → front (ts ++ t ∷ []) o ≡ front ts (o >>= (λ us. Some (t ∷ us)))
 front_push ts t None = refl
 front_push ts t (Some us) = ap Some (append_assoc ts (t ∷ []) us)
 
@@ -48,12 +50,14 @@ items_count-view [] = refl
 items_count-view (v ∷ vs) = ap suc (items_count-view vs)
 
 -- the tables of a document
-pub tables_found : (ms : Members) (d : Data) (xs : Items) → members_count ms ≡ 1 → get_member (codes "template") ms ≡ Some d → as_array d ≡ Some xs → are_templates xs ≡ true → tables_of ms ≡ Some xs
+pub tables_found : (ms : Members) (d : Data) (xs : Items) → members_count ms ≡ 1 → get_member (codes "template") ms ≡ Some d
+    → as_array d ≡ Some xs → are_templates xs ≡ true → tables_of ms ≡ Some xs
 tables_found ms d xs one found is_array good = rw (one, found, is_array, good) refl
 
 -- a document of more or fewer keys has none
 pub tables_of_others : (ms : Members) → members_count ms ≢ 1 → tables_of ms ≡ None
-tables_of_others ms other = ap (λ b. if b then get_member (codes "template") ms >>= as_array >>= (λ xs. checked (are_templates xs) xs) else None) (eqb-false other)
+tables_of_others ms other = ap (λ b. if b then get_member (codes "template") ms >>= as_array >>=
+    (λ xs. checked (are_templates xs) xs) else None) (eqb-false other)
   where
     eqb-false : {n : ℕ} → n ≢ 1 → nat_eq n 1 ≡ false
     eqb-false h = grind (arith, nat_tests)
@@ -71,20 +75,27 @@ pub too_many_templates : (vs : List Value) → 4294967295 < length vs → are_te
 too_many_templates vs many =
     let c = items_count-view vs in
     let test : nat_le (items_count (items_view vs)) 4294967295 ≡ false = grind (arith, nat_tests, c, many) in
-    ap (λ b. nat_le 1 (items_count (items_view vs)) && b && are_tables (items_view vs)) test ∙ never (nat_le 1 (items_count (items_view vs))) (are_tables (items_view vs))
+    ap (λ b. nat_le 1 (items_count (items_view vs)) && b && are_tables (items_view vs)) test
+    ∙ never (nat_le 1 (items_count (items_view vs))) (are_tables (items_view vs))
   where
     never : (a b : Bool) → (a && false && b) ≡ false
     never true b = refl
     never false b = refl
 
 -- the fault of an item that was not read
-pub unread_fault : (f : Unread) (r : StaticFault) (xs : Items) (k : ℕ) (d : Data) → (f ≡ Shape → r ≡ record { code = S1; template = Some k }) → (f ≡ Memory → r ≡ record { code = NoMemory; template = None })
+pub unread_fault : (f : Unread) (r : StaticFault) (xs : Items) (k : ℕ) (d : Data) → (f ≡ Shape → r ≡ record {
+  code = S1;
+  template = Some k;
+}) → (f ≡ Memory → r ≡ record { code = NoMemory; template = None })
     → get_item k xs ≡ Some d → (f ≡ Shape → template_in d ≡ None) → IsUnread xs r.code r.template
 unread_fault Shape r xs k d shape memory found none = rw (shape refl) (d, found, none refl)
 unread_fault Memory r xs k d shape memory found none = rw (memory refl) tt
 
 -- what was read before it
-pub unread_first : (f : Unread) (r : StaticFault) (k : ℕ) (P : ℕ → Type 0) → (f ≡ Shape → r ≡ record { code = S1; template = Some k }) → (f ≡ Memory → r ≡ record { code = NoMemory; template = None })
+pub unread_first : (f : Unread) (r : StaticFault) (k : ℕ) (P : ℕ → Type 0) → (f ≡ Shape → r ≡ record {
+  code = S1;
+  template = Some k;
+}) → (f ≡ Memory → r ≡ record { code = NoMemory; template = None })
     → P k → IfSome r.template (λ n. (r.code ≡ S1) × P n)
 unread_first Shape r k P shape memory h = rw (shape refl) (refl, h)
 unread_first Memory r k P shape memory h = rw (memory refl) tt
@@ -93,7 +104,8 @@ some_is : {A : Type 0} {a b : A} → Some a ≡ Some b → a ≡ b
 some_is h = cc
 
 -- one item more
-pub read_more : (xs : Items) (k : ℕ) (d : Data) (t : DeclaredTemplate) → get_item k xs ≡ Some d → template_in d ≡ Some t → ((j : ℕ) (e : Data) → j < k → get_item j xs ≡ Some e → IsSome (template_in e))
+pub read_more : (xs : Items) (k : ℕ) (d : Data) (t : DeclaredTemplate) → get_item k xs ≡ Some d → template_in d ≡ Some t
+    → ((j : ℕ) (e : Data) → j < k → get_item j xs ≡ Some e → IsSome (template_in e))
     → (j : ℕ) (e : Data) → j < k + 1 → get_item j xs ≡ Some e → IsSome (template_in e)
 read_more xs k d t found read before j e below at = elim (cases_lt j k) [
   | inl h ↦ before j e h at

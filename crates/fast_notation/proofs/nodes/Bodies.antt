@@ -21,7 +21,8 @@ instruction_here ns n v s later inside read is =
     ∙ ap (instruction_of (label_of n v) 0 (instructions_from 0 ns)) is
 
 -- what a node names
-pub names_later : (ns : List Node) (n : ℕ) (v : Node) (s : Shape) → NameLaterNodes ns → n < length ns → v ≡ get_or ns n v → (get_or ns n v).shape ≡ s → AreBetween n (length ns) (numbers_of s)
+pub names_later : (ns : List Node) (n : ℕ) (v : Node) (s : Shape) → NameLaterNodes ns → n < length ns → v ≡ get_or ns n v
+    → (get_or ns n v).shape ≡ s → AreBetween n (length ns) (numbers_of s)
 names_later ns n v s later inside read is =
     let found : slice_get ns n ≡ Some v = slice_get_read ns (length ns) n v refl inside read in
     let e : v.shape ≡ s = ap (λ (x : Node). x.shape) read ∙ is in

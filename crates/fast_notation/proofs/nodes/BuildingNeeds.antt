@@ -1,5 +1,6 @@
 -- What building needs, of the parts of instructions for which it has it.
-use Rattle.std.proofs.Common.{◌≡◌, ◌≢◌, ℕ, ◌+◌, ◌*◌, ◌<◌, ◌≤◌, zero, suc, Bool, List, [], ◌∷◌, ◌++◌, length, take, get_or, slice_get, refl, ap, sym, ◌∙◌, subst, arith, Option, Some, append-nil, length-append}
+use Rattle.std.proofs.Common.{◌≡◌, ◌≢◌, ℕ, ◌+◌, ◌*◌, ◌<◌, ◌≤◌, zero, suc, Bool, List, [], ◌∷◌, ◌++◌, length, take, get_or, slice_get, refl}
+use Rattle.std.proofs.Common.{ap, sym, ◌∙◌, subst, arith, Option, Some, append-nil, length-append}
 use Rattle.std.specs.Prelude.{All, AllPairs, Contains, IsSome, sum_by}
 use Rattle.std.proofs.Math.Nat.{suc-mul}
 use Rattle.std.proofs.lemmas.List.Sums.{sum_by-cons}
@@ -7,7 +8,9 @@ use Rattle.std.proofs.lemmas.List.{get_or_append_left, get_or-append-add}
 use Rattle.std.proofs.lemmas.List.Elements.{Contains-append_left, Contains-append_right, All-get_or}
 use Rattle.std.proofs.lemmas.Option.{slice_get_within, get_or_from_slice_get}
 use Rattle.fast_notation.specs.declared.written.WrittenInstruction.{WrittenInstruction}
-use Rattle.fast_tree.specs.meaning.AsWritten.{Written, Declared, scalar, by_parts, group, sequence, reference, DeclaredList, no_more, more, DeclaredTemplate, Use, scalar_use, exponent_use, mantissa_use, length_use, uses, all_uses, references, all_references}
+use Rattle.fast_tree.specs.meaning.AsWritten.{Written, Declared, scalar, by_parts, group, sequence, reference, DeclaredList, no_more, more}
+use Rattle.fast_tree.specs.meaning.AsWritten.{DeclaredTemplate, Use, scalar_use, exponent_use, mantissa_use, length_use, uses, all_uses}
+use Rattle.fast_tree.specs.meaning.AsWritten.{references, all_references}
 use Rattle.fast_notation.specs.device.Built.{IsReady, IsIndexed, CanBuild, IsBuilt}
 use Rattle.fast_notation.specs.device.Chains.{Fits, nodes_by, nodes_in}
 use Rattle.fast_tree.specs.meaning.Entries.{Entry, Scope, scope_of, in_scope, uses_from}
@@ -44,7 +47,8 @@ pub all_but_first : {A : Type 0} (P : A → Type 0) (x : A) (xs : List A) → Al
 all_but_first P x xs h k d inside = h (suc k) d (omega (arith, inside))
 
 -- what holds of all uses holds of those of one instruction
-uses_at : (P : Use → Type 0) (fs : List WrittenInstruction) (i : ℕ) (d : WrittenInstruction) → i < length fs → All P (all_uses (fields_data fs)) → All P (uses (instruction_data (get_or fs i d)))
+uses_at : (P : Use → Type 0) (fs : List WrittenInstruction) (i : ℕ) (d : WrittenInstruction) → i < length fs
+    → All P (all_uses (fields_data fs)) → All P (uses (instruction_data (get_or fs i d)))
 uses_at P [] i d inside h = absurd (omega arith)
 uses_at P (f ∷ fs) zero d inside h = all_left P (uses (instruction_data f)) (all_uses (fields_data fs)) h
 uses_at P (f ∷ fs) (suc i) d inside h = uses_at P fs i d (omega (arith, inside)) (all_right P (uses (instruction_data f)) (all_uses (fields_data fs)) h)
@@ -53,17 +57,21 @@ references_at : (P : List ℕ → Type 0) (fs : List WrittenInstruction) (i : �
     → All P (references (instruction_data (get_or fs i d)))
 references_at P [] i d inside h = absurd (omega arith)
 references_at P (f ∷ fs) zero d inside h = all_left P (references (instruction_data f)) (all_references (fields_data fs)) h
-references_at P (f ∷ fs) (suc i) d inside h = references_at P fs i d (omega (arith, inside)) (all_right P (references (instruction_data f)) (all_references (fields_data fs)) h)
+references_at P (f ∷ fs) (suc i) d inside h = references_at P fs i d (omega (arith, inside))
+    (all_right P (references (instruction_data f)) (all_references (fields_data fs)) h)
 
 -- the references of one instruction are some of all
-reference_among : (fs : List WrittenInstruction) (i : ℕ) (d : WrittenInstruction) (name : List ℕ) → i < length fs → Contains (references (instruction_data (get_or fs i d))) name
+reference_among : (fs : List WrittenInstruction) (i : ℕ) (d : WrittenInstruction) (name : List ℕ) → i < length fs
+    → Contains (references (instruction_data (get_or fs i d))) name
     → Contains (all_references (fields_data fs)) name
 reference_among [] i d name inside h = absurd (omega arith)
 reference_among (f ∷ fs) zero d name inside h = Contains-append_left (references (instruction_data f)) (all_references (fields_data fs)) name h
-reference_among (f ∷ fs) (suc i) d name inside h = Contains-append_right (references (instruction_data f)) (all_references (fields_data fs)) name (reference_among fs i d name (omega (arith, inside)) h)
+reference_among (f ∷ fs) (suc i) d name inside h = Contains-append_right (references (instruction_data f))
+    (all_references (fields_data fs)) name (reference_among fs i d name (omega (arith, inside)) h)
 
 -- fewer references fit too
-fits_among : (ts : List DeclaredTemplate) (chain : ℕ) (some all : DeclaredList) → ((name : List ℕ) → Contains (all_references some) name → Contains (all_references all) name) → Fits ts chain all → Fits ts chain some
+fits_among : (ts : List DeclaredTemplate) (chain : ℕ) (some all : DeclaredList)
+    → ((name : List ℕ) → Contains (all_references some) name → Contains (all_references all) name) → Fits ts chain all → Fits ts chain some
 unfolding Fits
 fits_among ts zero some all among h = nothing (all_references some) (λ name there. none name (subst (λ names. Contains names name) h (among name there)))
   where
@@ -82,7 +90,8 @@ chain_some ts zero name ds h = absurd (cc)
 chain_some ts (suc n) name ds h = omega arith
 
 -- what the chain leads to fits in the rest
-fits_next : (ts : List DeclaredTemplate) (chain : ℕ) (name : List ℕ) (ds : DeclaredList) (k : ℕ) (t : DeclaredTemplate) → Fits ts (suc chain) (more (reference name) ds) → slice_get ts k ≡ Some t → t.name ≡ name → Fits ts chain t.fields
+fits_next : (ts : List DeclaredTemplate) (chain : ℕ) (name : List ℕ) (ds : DeclaredList) (k : ℕ) (t : DeclaredTemplate)
+    → Fits ts (suc chain) (more (reference name) ds) → slice_get ts k ≡ Some t → t.name ≡ name → Fits ts chain t.fields
 unfolding Fits
 fits_next ts chain name ds k t h found same = h name k t (0, omega arith, refl) found same
 
@@ -97,7 +106,8 @@ nodes_up_to of (f ∷ fs) (suc i) d inside = let r = nodes_up_to of fs i d (omeg
 
 module _ {ts : List DeclaredTemplate} {entries : List Entry} {chain : ℕ} {s : Scope} where
   -- one instruction behind those that are built
-  pub can_build_next : (fs : List WrittenInstruction) (i : ℕ) (d : WrittenInstruction) (old mid : List NodeData) (before between : List ℕ) → AllPairs (λ a b. a.name ≢ b.name) ts → i < length fs
+  pub can_build_next : (fs : List WrittenInstruction) (i : ℕ) (d : WrittenInstruction) (old mid : List NodeData) (before between : List ℕ)
+      → AllPairs (λ a b. a.name ≢ b.name) ts → i < length fs
       → IsBuilt ts entries chain s (fields_data (take i fs)) old mid before between → CanBuild ts entries chain s (fields_data fs) (length old)
       → CanBuild ts entries chain s (more (instruction_data (get_or fs i d)) no_more) (length mid)
   can_build_next fs i d old mid before between apart inside b c =
@@ -110,7 +120,8 @@ module _ {ts : List DeclaredTemplate} {entries : List Entry} {chain : ℕ} {s : 
       let few = c.few in
       record {
         ready = subst (All (IsReady entries s)) (sym (append-nil (uses one))) (uses_at (IsReady entries s) fs i d inside c.ready);
-        known = subst (All (λ name. IsSome (place_of_name name ts))) (sym (append-nil (references one))) (references_at (λ name. IsSome (place_of_name name ts)) fs i d inside c.known);
+        known = subst (All (λ name. IsSome (place_of_name name ts))) (sym (append-nil (references one)))
+            (references_at (λ name. IsSome (place_of_name name ts)) fs i d inside c.known);
         fits = fits_among ts chain (more one no_more) (fields_data fs)
             (λ name there. reference_among fs i d name inside (subst (λ names. Contains names name) (append-nil (references one)) there)) c.fits;
         few = omega (arith, so_far, all, e, f, g, few);
@@ -124,7 +135,8 @@ module _ {ts : List DeclaredTemplate} {entries : List Entry} {chain : ℕ} {s : 
       omega (arith, f, few, some)
 
   -- the instructions of a group
-  pub can_build_group : (name : List ℕ) (optional : Bool) (ds : DeclaredList) (n : ℕ) → CanBuild ts entries chain s (more (group name optional ds) no_more) n → CanBuild ts entries chain s ds (suc n)
+  pub can_build_group : (name : List ℕ) (optional : Bool) (ds : DeclaredList) (n : ℕ)
+      → CanBuild ts entries chain s (more (group name optional ds) no_more) n → CanBuild ts entries chain s ds (suc n)
   can_build_group name optional ds n c =
       let e = nodes_in-by ts chain (more (group name optional ds) no_more) in
       let f = nodes_in-by ts chain ds in
@@ -132,42 +144,52 @@ module _ {ts : List DeclaredTemplate} {entries : List Entry} {chain : ℕ} {s : 
       record {
         ready = subst (All (IsReady entries s)) (append-nil (all_uses ds)) c.ready;
         known = subst (All (λ name. IsSome (place_of_name name ts))) (append-nil (all_references ds)) c.known;
-        fits = fits_among ts chain ds (more (group name optional ds) no_more) (λ q there. subst (λ names. Contains names q) (sym (append-nil (all_references ds))) there) c.fits;
+        fits = fits_among ts chain ds (more (group name optional ds) no_more)
+            (λ q there. subst (λ names. Contains names q) (sym (append-nil (all_references ds))) there) c.fits;
         few = omega (arith, e, f, few);
       }
 
   -- the length of a sequence, and the instructions of an element
-  pub length_ready : (name : List ℕ) (optional : Bool) (o : Option (List ℕ)) (w : Written) (ds : DeclaredList) (n : ℕ) → CanBuild ts entries chain s (more (sequence name optional o w ds) no_more) n
+  pub length_ready : (name : List ℕ) (optional : Bool) (o : Option (List ℕ)) (w : Written) (ds : DeclaredList) (n : ℕ)
+      → CanBuild ts entries chain s (more (sequence name optional o w ds) no_more) n
       → IsReady entries s (length_use name optional o w)
   length_ready name optional o w ds n c = all_first (IsReady entries s) (length_use name optional o w) (all_uses ds ++ []) c.ready
 
-  pub can_build_sequence : (name : List ℕ) (optional : Bool) (o : Option (List ℕ)) (w : Written) (ds : DeclaredList) (n : ℕ) → CanBuild ts entries chain s (more (sequence name optional o w ds) no_more) n
+  pub can_build_sequence : (name : List ℕ) (optional : Bool) (o : Option (List ℕ)) (w : Written) (ds : DeclaredList) (n : ℕ)
+      → CanBuild ts entries chain s (more (sequence name optional o w ds) no_more) n
       → CanBuild ts entries chain s ds (suc n)
   can_build_sequence name optional o w ds n c =
       let e = nodes_in-by ts chain (more (sequence name optional o w ds) no_more) in
       let f = nodes_in-by ts chain ds in
       let few = c.few in
       record {
-        ready = subst (All (IsReady entries s)) (append-nil (all_uses ds)) (all_but_first (IsReady entries s) (length_use name optional o w) (all_uses ds ++ []) c.ready);
+        ready = subst (All (IsReady entries s)) (append-nil (all_uses ds))
+            (all_but_first (IsReady entries s) (length_use name optional o w) (all_uses ds ++ []) c.ready);
         known = subst (All (λ name. IsSome (place_of_name name ts))) (append-nil (all_references ds)) c.known;
-        fits = fits_among ts chain ds (more (sequence name optional o w ds) no_more) (λ q there. subst (λ names. Contains names q) (sym (append-nil (all_references ds))) there) c.fits;
+        fits = fits_among ts chain ds (more (sequence name optional o w ds) no_more)
+            (λ q there. subst (λ names. Contains names q) (sym (append-nil (all_references ds))) there) c.fits;
         few = omega (arith, e, f, few);
       }
 
   -- the uses of fields and decimals
-  pub scalar_ready : (name : List ℕ) (optional : Bool) (kind : Kind) (w : Written) (n : ℕ) → CanBuild ts entries chain s (more (scalar name optional kind w) no_more) n → IsReady entries s (scalar_use name optional kind w)
+  pub scalar_ready : (name : List ℕ) (optional : Bool) (kind : Kind) (w : Written) (n : ℕ)
+      → CanBuild ts entries chain s (more (scalar name optional kind w) no_more) n → IsReady entries s (scalar_use name optional kind w)
   scalar_ready name optional kind w n c = all_first (IsReady entries s) (scalar_use name optional kind w) [] c.ready
 
-  pub exponent_ready : (name : List ℕ) (optional : Bool) (v w : Written) (n : ℕ) → CanBuild ts entries chain s (more (by_parts name optional v w) no_more) n → IsReady entries s (exponent_use name optional v)
+  pub exponent_ready : (name : List ℕ) (optional : Bool) (v w : Written) (n : ℕ)
+      → CanBuild ts entries chain s (more (by_parts name optional v w) no_more) n → IsReady entries s (exponent_use name optional v)
   exponent_ready name optional v w n c = all_first (IsReady entries s) (exponent_use name optional v) (mantissa_use name w ∷ []) c.ready
 
-  pub mantissa_ready : (name : List ℕ) (optional : Bool) (v w : Written) (n : ℕ) → CanBuild ts entries chain s (more (by_parts name optional v w) no_more) n → IsReady entries s (mantissa_use name w)
-  mantissa_ready name optional v w n c = all_first (IsReady entries s) (mantissa_use name w) [] (all_but_first (IsReady entries s) (exponent_use name optional v) (mantissa_use name w ∷ []) c.ready)
+  pub mantissa_ready : (name : List ℕ) (optional : Bool) (v w : Written) (n : ℕ)
+      → CanBuild ts entries chain s (more (by_parts name optional v w) no_more) n → IsReady entries s (mantissa_use name w)
+  mantissa_ready name optional v w n c = all_first (IsReady entries s) (mantissa_use name w) []
+      (all_but_first (IsReady entries s) (exponent_use name optional v) (mantissa_use name w ∷ []) c.ready)
 
 -- ---- templates
 
 -- what holds of all uses holds of those of one template
-pub uses_of_template : (P : Scope → Use → Type 0) (n k : ℕ) (ts : List DeclaredTemplate) (t : DeclaredTemplate) → All (λ p. P p.0 p.1) (uses_from n ts) → slice_get ts k ≡ Some t
+pub uses_of_template : (P : Scope → Use → Type 0) (n k : ℕ) (ts : List DeclaredTemplate) (t : DeclaredTemplate)
+    → All (λ p. P p.0 p.1) (uses_from n ts) → slice_get ts k ≡ Some t
     → All (P (scope_of (n + k) t)) (all_uses t.fields)
 uses_of_template P n k [] t h found = absurd (cc)
 uses_of_template P n zero (u ∷ ts) t h found =
@@ -189,37 +211,49 @@ uses_of_template P n (suc k) (u ∷ ts) t h found =
 
 module _ {ts : List DeclaredTemplate} {entries : List Entry} {look : List ℕ → Option ℕ} where
   -- the uses of each template are ready
-  template_ready : (k : ℕ) (t : DeclaredTemplate) → IsIndexed look ts entries → slice_get ts k ≡ Some t → All (IsReady entries (scope_of k t)) (all_uses t.fields)
+  template_ready : (k : ℕ) (t : DeclaredTemplate) → IsIndexed look ts entries → slice_get ts k ≡ Some t
+      → All (IsReady entries (scope_of k t)) (all_uses t.fields)
   template_ready k t set found i d inside =
       let inside_ts = slice_get_within ts k t found in
       let is = get_or_from_slice_get ts k t t found in
       record {
         entry = subst (λ m. HasEntry entries (scope_of m t) (get_or (all_uses t.fields) i d)) (let e : 0 + k ≡ k = omega arith in e)
             (uses_of_template (HasEntry entries) 0 k ts t (collected_has [] entries (uses_from 0 ts) set.collected) found i d inside);
-        sound = subst (λ (v : DeclaredTemplate). All IsSound (all_uses v.fields)) is (All-get_or (λ v. All IsSound (all_uses v.fields)) ts k t inside_ts set.sound) i d inside;
+        sound = subst (λ (v : DeclaredTemplate). All IsSound (all_uses v.fields)) is
+            (All-get_or (λ v. All IsSound (all_uses v.fields)) ts k t inside_ts set.sound) i d inside;
       }
 
-  template_known : (k : ℕ) (t : DeclaredTemplate) → IsIndexed look ts entries → slice_get ts k ≡ Some t → All (λ name. IsSome (place_of_name name ts)) (all_references t.fields)
+  template_known : (k : ℕ) (t : DeclaredTemplate) → IsIndexed look ts entries → slice_get ts k ≡ Some t
+      → All (λ name. IsSome (place_of_name name ts)) (all_references t.fields)
   template_known k t set found =
       subst (λ (v : DeclaredTemplate). All (λ name. IsSome (place_of_name name ts)) (all_references v.fields)) (get_or_from_slice_get ts k t t found)
       (All-get_or (λ v. All (λ name. IsSome (place_of_name name ts)) (all_references v.fields)) ts k t (slice_get_within ts k t found) set.known)
 
   -- a template's instructions, behind so many nodes
-  pub can_build_template : (chain k n : ℕ) (t : DeclaredTemplate) → IsIndexed look ts entries → slice_get ts k ≡ Some t → Fits ts chain t.fields → n + nodes_in ts chain t.fields ≤ node_limit
+  pub can_build_template : (chain k n : ℕ) (t : DeclaredTemplate) → IsIndexed look ts entries → slice_get ts k ≡ Some t
+      → Fits ts chain t.fields → n + nodes_in ts chain t.fields ≤ node_limit
       → CanBuild ts entries chain (scope_of k t) t.fields n
-  can_build_template chain k n t set found fits few = record { ready = template_ready k t set found; known = template_known k t set found; fits = fits; few = few }
+  can_build_template chain k n t set found fits few = record {
+    ready = template_ready k t set found;
+    known = template_known k t set found;
+    fits = fits;
+    few = few;
+  }
 
   -- what a reference leads to
-  pub can_build_reference : (chain k n : ℕ) (s : Scope) (name : List ℕ) (t : DeclaredTemplate) → IsIndexed look ts entries → slice_get ts k ≡ Some t → t.name ≡ name
+  pub can_build_reference : (chain k n : ℕ) (s : Scope) (name : List ℕ) (t : DeclaredTemplate) → IsIndexed look ts entries
+      → slice_get ts k ≡ Some t → t.name ≡ name
       → CanBuild ts entries (suc chain) s (more (reference name) no_more) n → CanBuild ts entries chain (scope_of k t) t.fields n
   can_build_reference chain k n s name t set found same c =
       let e = nodes_in-by ts (suc chain) (more (reference name) no_more) in
-      let named : nodes_named ts (suc chain) name ≡ nodes_in ts chain t.fields = nodes_named-suc ts chain name ∙ ap (nodes_in ts chain) (fields_of_name ts k t name set.names found same) in
+      let named : nodes_named ts (suc chain) name ≡ nodes_in ts chain t.fields = nodes_named-suc ts chain name
+      ∙ ap (nodes_in ts chain) (fields_of_name ts k t name set.names found same) in
       let few = c.few in
       can_build_template chain k n t set found (fits_next ts chain name no_more k t c.fits found same) (omega (arith, e, named, few))
 
   -- the template of a name
-  pub looked_up : (name : List ℕ) (k : ℕ) → IsIndexed look ts entries → look name ≡ Some k → (t : DeclaredTemplate) × (slice_get ts k ≡ Some t) × (t.name ≡ name)
+  pub looked_up : (name : List ℕ) (k : ℕ) → IsIndexed look ts entries → look name ≡ Some k
+      → (t : DeclaredTemplate) × (slice_get ts k ≡ Some t) × (t.name ≡ name)
   looked_up name k set found =
       let p = placed (λ u. bytes_eq name u.name) 0 k ts (sym (set.index name) ∙ found) in
       let e = p.2 in
@@ -239,11 +273,13 @@ abbrev pub measure : List DeclaredTemplate → ℕ → ℕ → ℕ
 measure ts chain own = chain * (3 * sum_by (λ (t : DeclaredTemplate). weight t.fields) ts) + own
 
 -- an instruction weighs no more than its list
-pub weight_at : (fs : List WrittenInstruction) (i : ℕ) (d : WrittenInstruction) → i < length fs → weight (more (instruction_data (get_or fs i d)) no_more) ≤ weight (fields_data fs)
+pub weight_at : (fs : List WrittenInstruction) (i : ℕ) (d : WrittenInstruction) → i < length fs
+    → weight (more (instruction_data (get_or fs i d)) no_more) ≤ weight (fields_data fs)
 weight_at fs i d inside = let r = nodes_up_to (λ name. 1) fs i d inside in omega (arith, r)
 
 -- a template weighs no more than all
-weight_of : (ts : List DeclaredTemplate) (k : ℕ) (t : DeclaredTemplate) → slice_get ts k ≡ Some t → weight t.fields ≤ sum_by (λ (u : DeclaredTemplate). weight u.fields) ts
+weight_of : (ts : List DeclaredTemplate) (k : ℕ) (t : DeclaredTemplate) → slice_get ts k ≡ Some t
+    → weight t.fields ≤ sum_by (λ (u : DeclaredTemplate). weight u.fields) ts
 weight_of [] k t found = absurd (cc)
 weight_of (u ∷ ts) zero t found =
     let c = sum_by-cons (λ (v : DeclaredTemplate). weight v.fields) u ts in
@@ -258,7 +294,8 @@ weight_of (u ∷ ts) (suc k) t found =
     omega (arith, c, r)
 
 -- with the next template less is left
-pub next_smaller : (ts : List DeclaredTemplate) (k chain : ℕ) (t : DeclaredTemplate) → slice_get ts k ≡ Some t → measure ts chain (3 * weight t.fields + 1) < measure ts (suc chain) 2
+pub next_smaller : (ts : List DeclaredTemplate) (k chain : ℕ) (t : DeclaredTemplate) → slice_get ts k ≡ Some t
+    → measure ts chain (3 * weight t.fields + 1) < measure ts (suc chain) 2
 next_smaller ts k chain t found =
     let w = weight_of ts k t found in
     let all = 3 * sum_by (λ (u : DeclaredTemplate). weight u.fields) ts in

@@ -1,5 +1,7 @@
 -- Sets that are built: their tree, and the numbers in it.
-use Rattle.std.proofs.Common.{◌≡◌, ◌≢◌, inl, inr, ℕ, ◌+◌, ◌*◌, ◌<◌, ◌≤◌, zero, suc, List, [], ◌∷◌, ◌++◌, length, map, take, get_or, slice_get, refl, ap, sym, ◌∙◌, subst, arith, Some, append_assoc, append-nil, length-append, flat_map, add-zero}
+use Rattle.std.proofs.Common.{◌≡◌, ◌≢◌, inl, inr, ℕ, ◌+◌, ◌*◌, ◌<◌, ◌≤◌, zero, suc, List, [], ◌∷◌, ◌++◌, length, map, take, get_or}
+use Rattle.std.proofs.Common.{slice_get, refl, ap, sym, ◌∙◌, subst, arith, Some, append_assoc, append-nil, length-append, flat_map}
+use Rattle.std.proofs.Common.{add-zero}
 use Rattle.std.specs.Prelude.{AllPairs, sum_by}
 use Rattle.std.proofs.lemmas.Bool.{cases_order}
 use Rattle.std.proofs.lemmas.List.{map-append, length-map}
@@ -9,7 +11,8 @@ use Rattle.fast_tree.specs.declared.instructions.Node.{Node}
 use Rattle.fast_tree.specs.declared.instructions.Shape.{Shape}
 use Rattle.fast_tree.specs.declared.instructions.Shape.TheVariants.{Field, Decimal, Group, Sequence}
 use Rattle.fast_tree.specs.declared.instructions.Template.{Template}
-use Rattle.fast_tree.specs.meaning.AsWritten.{Declared, scalar, by_parts, group, sequence, reference, DeclaredList, no_more, more, DeclaredTemplate, Use, uses, all_uses}
+use Rattle.fast_tree.specs.meaning.AsWritten.{Declared, scalar, by_parts, group, sequence, reference, DeclaredList, no_more, more}
+use Rattle.fast_tree.specs.meaning.AsWritten.{DeclaredTemplate, Use, uses, all_uses}
 use Rattle.fast_notation.specs.device.Built.{top_numbers, spread_all, outline_of, IsBuilt, AreBuilt}
 use Rattle.fast_notation.specs.device.Chains.{instruction_nodes, nodes_by, nodes_in}
 use Rattle.fast_tree.specs.meaning.Entries.{Entry, scope_of, in_scope, uses_from}
@@ -22,7 +25,8 @@ use Rattle.fast_tree.specs.meaning.Numbers.{numbers_of, NameNodes, NameLaterNode
 use Rattle.fast_tree.specs.meaning.Sizes.{nesting_limit, node_limit}
 use Rattle.fast_tree.specs.meaning.Tree.{Instruction, Body, end, step, TemplateData}
 use Rattle.fast_notation.proofs.nodes.BuiltLists.{spread-then}
-use Rattle.fast_notation.proofs.nodes.BuiltTrees.{after_all, inside, AreNumbered, numbered-then, in_place-numbered, all_inside, long_all, body_among, spread_body, labels_body, named_numbers, tops_between, between_all}
+use Rattle.fast_notation.proofs.nodes.BuiltTrees.{after_all, inside, AreNumbered, numbered-then, in_place-numbered, all_inside, long_all}
+use Rattle.fast_notation.proofs.nodes.BuiltTrees.{body_among, spread_body, labels_body, named_numbers, tops_between, between_all}
 use Rattle.fast_notation.proofs.references.ChainSizes.{nodes_named, nodes_in-by}
 use Rattle.fast_notation.proofs.references.InPlaceSizes.{in_place-nodes}
 use Rattle.fast_notation.proofs.lists.Lists.{mapped_get, map_get_back}
@@ -30,7 +34,8 @@ use Rattle.fast_notation.proofs.lists.NodeLists.{same_instructions, same_templat
 
 -- ---- one template more
 
-in_place_push : (all : List DeclaredTemplate) (entries : List Entry) (k : ℕ) (ts : List DeclaredTemplate) (n mid m : ℕ) (us : List TemplateData) (t : DeclaredTemplate) (b : Body)
+in_place_push : (all : List DeclaredTemplate) (entries : List Entry) (k : ℕ) (ts : List DeclaredTemplate) (n mid m : ℕ)
+    (us : List TemplateData) (t : DeclaredTemplate) (b : Body)
     → AreInPlace all entries k ts n us mid → InPlace all entries nesting_limit (scope_of (k + length ts) t) t.fields mid b m
     → AreInPlace all entries k (ts ++ t ∷ []) n (us ++ record { name = t.name; id = t.id; reset = t.reset; body = b } ∷ []) m
 in_place_push all entries k [] n mid m [] t b h i =
@@ -48,11 +53,14 @@ in_place_push all entries k (s ∷ ts) n mid m (u ∷ us) t b (next, name, id, r
       (subst (λ j. InPlace all entries nesting_limit (scope_of j t) t.fields mid b m) (let e : k + suc (length ts) ≡ suc k + length ts = omega arith in e) i),
 )
 
-spread_push : (us : List TemplateData) (u : TemplateData) → flat_map (λ v. spread_all v.body) (us ++ u ∷ []) ≡ flat_map (λ v. spread_all v.body) us ++ spread_all u.body
+spread_push : (us : List TemplateData) (u : TemplateData)
+    → flat_map (λ v. spread_all v.body) (us ++ u ∷ []) ≡ flat_map (λ v. spread_all v.body) us ++ spread_all u.body
 spread_push [] u = append-nil (spread_all u.body)
-spread_push (v ∷ us) u = ap (λ ns. spread_all v.body ++ ns) (spread_push us u) ∙ sym (append_assoc (spread_all v.body) (flat_map (λ v. spread_all v.body) us) (spread_all u.body))
+spread_push (v ∷ us) u = ap (λ ns. spread_all v.body ++ ns) (spread_push us u)
+    ∙ sym (append_assoc (spread_all v.body) (flat_map (λ v. spread_all v.body) us) (spread_all u.body))
 
-pub are_built_more : (all : List DeclaredTemplate) (entries : List Entry) (ts : List DeclaredTemplate) (t : DeclaredTemplate) (k : ℕ) (old new : List NodeData) (os : List TemplateOutline) (body : List ℕ) → k ≡ length ts
+pub are_built_more : (all : List DeclaredTemplate) (entries : List Entry) (ts : List DeclaredTemplate) (t : DeclaredTemplate) (k : ℕ)
+    (old new : List NodeData) (os : List TemplateOutline) (body : List ℕ) → k ≡ length ts
     → AreBuilt all entries ts old os → IsBuilt all entries nesting_limit (scope_of k t) t.fields old new [] body
     → AreBuilt all entries (ts ++ t ∷ []) new (os ++ record { name = t.name; id = t.id; reset = t.reset; body = body } ∷ [])
 are_built_more all entries ts t k old new os body long a b =
@@ -60,14 +68,21 @@ are_built_more all entries ts t k old new os body long a b =
     record {
       templates = a.templates ++ u ∷ [];
       in_place = in_place_push all entries 0 ts 0 (length old) (length new) a.templates t b.body a.in_place
-          (subst (λ j. InPlace all entries nesting_limit (scope_of j t) t.fields (length old) b.body (length new)) (let e : k ≡ 0 + length ts = omega (arith, long) in e) b.in_place);
+          (subst (λ j. InPlace all entries nesting_limit (scope_of j t) t.fields (length old) b.body (length new))
+          (let e : k ≡ 0 + length ts = omega (arith, long) in e) b.in_place);
       spread_into = b.nodes ∙ ap (λ ns. ns ++ spread_all b.body) a.spread_into ∙ sym (spread_push a.templates u);
       named_by = ap (λ os. os ++ record { name = t.name; id = t.id; reset = t.reset; body = body } ∷ []) a.named_by
-          ∙ ap (λ ns. map outline_of a.templates ++ record { name = t.name; id = t.id; reset = t.reset; body = ns } ∷ []) b.numbers ∙ sym (map-append outline_of a.templates (u ∷ []));
+          ∙ ap (λ ns. map outline_of a.templates ++ record {
+            name = t.name;
+            id = t.id;
+            reset = t.reset;
+            body = ns;
+          } ∷ []) b.numbers ∙ sym (map-append outline_of a.templates (u ∷ []));
     }
 
 -- the nodes of templates in place
-pub set_nodes : (all : List DeclaredTemplate) (entries : List Entry) (k : ℕ) (ts : List DeclaredTemplate) (n m : ℕ) (us : List TemplateData) → AllPairs (λ a b. a.name ≢ b.name) all
+pub set_nodes : (all : List DeclaredTemplate) (entries : List Entry) (k : ℕ) (ts : List DeclaredTemplate) (n m : ℕ)
+    (us : List TemplateData) → AllPairs (λ a b. a.name ≢ b.name) all
     → AreInPlace all entries k ts n us m → m ≡ n + sum_by (λ t. nodes_in all nesting_limit t.fields) ts
 set_nodes all entries k [] n m [] apart h = omega (arith, h)
 set_nodes all entries k [] n m (u ∷ us) apart h = absurd h
@@ -94,8 +109,10 @@ sum_up_to f (y ∷ xs) (suc k) x found =
     omega (arith, c, d, r)
 
 -- the room for the next template
-pub room_for_template : (all : List DeclaredTemplate) (entries : List Entry) (k : ℕ) (t : DeclaredTemplate) (nodes : List NodeData) (os : List TemplateOutline) → AllPairs (λ a b. a.name ≢ b.name) all
-    → slice_get all k ≡ Some t → AreBuilt all entries (take k all) nodes os → sum_by (λ t. nodes_in all nesting_limit t.fields) all ≤ node_limit → length nodes + nodes_in all nesting_limit t.fields ≤ node_limit
+pub room_for_template : (all : List DeclaredTemplate) (entries : List Entry) (k : ℕ) (t : DeclaredTemplate) (nodes : List NodeData)
+    (os : List TemplateOutline) → AllPairs (λ a b. a.name ≢ b.name) all
+    → slice_get all k ≡ Some t → AreBuilt all entries (take k all) nodes os
+    → sum_by (λ t. nodes_in all nesting_limit t.fields) all ≤ node_limit → length nodes + nodes_in all nesting_limit t.fields ≤ node_limit
 room_for_template all entries k t nodes os apart found b few =
     let so_far = set_nodes all entries 0 (take k all) 0 (length nodes) b.templates apart b.in_place in
     let more = sum_up_to (λ (t : DeclaredTemplate). nodes_in all nesting_limit t.fields) all k t found in
@@ -119,7 +136,8 @@ mutual
       let l = length-append (uses d) (all_uses ds) in
       omega (arith, a, r, l)
 
-pub few_uses_from : (all : List DeclaredTemplate) (n : ℕ) (ts : List DeclaredTemplate) → length (uses_from n ts) ≤ 2 * sum_by (λ t. nodes_in all nesting_limit t.fields) ts
+pub few_uses_from : (all : List DeclaredTemplate) (n : ℕ) (ts : List DeclaredTemplate)
+    → length (uses_from n ts) ≤ 2 * sum_by (λ t. nodes_in all nesting_limit t.fields) ts
 few_uses_from all n [] = omega arith
 few_uses_from all n (t ∷ ts) =
     let c = sum_by-cons (λ (t : DeclaredTemplate). nodes_in all nesting_limit t.fields) t ts in
@@ -156,14 +174,17 @@ labels_whole : (us : List TemplateData) → body_labels (whole us) ≡ template_
 labels_whole [] = refl
 labels_whole (u ∷ us) = labels-then u.body (whole us) ∙ ap (λ ns. body_labels u.body ++ ns) (labels_whole us)
 
-numbered_whole : (all : List DeclaredTemplate) (entries : List Entry) (k : ℕ) (ts : List DeclaredTemplate) (n m : ℕ) (us : List TemplateData) → AreInPlace all entries k ts n us m → AreNumbered n (whole us) m
+numbered_whole : (all : List DeclaredTemplate) (entries : List Entry) (k : ℕ) (ts : List DeclaredTemplate) (n m : ℕ)
+    (us : List TemplateData) → AreInPlace all entries k ts n us m → AreNumbered n (whole us) m
 numbered_whole all entries k [] n m [] h = h
 numbered_whole all entries k [] n m (u ∷ us) h = absurd h
 numbered_whole all entries k (t ∷ ts) n m [] h = absurd h
-numbered_whole all entries k (t ∷ ts) n m (u ∷ us) (mid, name, id, reset, body, rest) = numbered-then u.body (whole us) n mid m (in_place-numbered body) (numbered_whole all entries (suc k) ts mid m us rest)
+numbered_whole all entries k (t ∷ ts) n m (u ∷ us) (mid, name, id, reset, body, rest) =
+    numbered-then u.body (whole us) n mid m (in_place-numbered body) (numbered_whole all entries (suc k) ts mid m us rest)
 
 -- the templates among all instructions
-trees_among : (all : List DeclaredTemplate) (entries : List Entry) (k : ℕ) (ts : List DeclaredTemplate) (n m : ℕ) (us : List TemplateData) (front is : List Instruction) → AreInPlace all entries k ts n us m
+trees_among : (all : List DeclaredTemplate) (entries : List Entry) (k : ℕ) (ts : List DeclaredTemplate) (n m : ℕ) (us : List TemplateData)
+    (front is : List Instruction) → AreInPlace all entries k ts n us m
     → n ≡ length front → is ≡ front ++ all_inside (whole us) → map (template_from is) (map outline_of us) ≡ us
 trees_among all entries k [] n m [] front is h long e = refl
 trees_among all entries k [] n m (u ∷ us) front is h long e = absurd h
@@ -171,7 +192,8 @@ trees_among all entries k (t ∷ ts) n m [] front is h long e = absurd h
 trees_among all entries k (t ∷ ts) n m (u ∷ us) front is (mid, name, id, reset, body, rest) long e =
     let numbered = in_place-numbered body in
     let split : is ≡ front ++ (all_inside u.body ++ all_inside (whole us)) = e ∙ ap (λ js. front ++ js) (inside-then u.body (whole us)) in
-    let found : body_of 0 is (top_numbers u.body) ≡ u.body = ap (λ js. body_of 0 js (top_numbers u.body)) split ∙ body_among u.body n mid 0 front (all_inside (whole us)) numbered (omega (arith, long)) in
+    let found : body_of 0 is (top_numbers u.body) ≡ u.body = ap (λ js. body_of 0 js (top_numbers u.body)) split
+    ∙ body_among u.body n mid 0 front (all_inside (whole us)) numbered (omega (arith, long)) in
     let again : is ≡ (front ++ all_inside u.body) ++ all_inside (whole us) = split ∙ sym (append_assoc front (all_inside u.body) (all_inside (whole us))) in
     let l = length-append front (all_inside u.body) in
     let r = long_all u.body n mid numbered in
@@ -179,9 +201,11 @@ trees_among all entries k (t ∷ ts) n m (u ∷ us) front is (mid, name, id, res
     ∙ ap (λ vs. u ∷ vs) (trees_among all entries (suc k) ts mid m us (front ++ all_inside u.body) is rest (omega (arith, l, r, long)) again)
 
 -- what stands behind a template of the tree
-pub in_place_at : (all : List DeclaredTemplate) (entries : List Entry) (k : ℕ) (ts : List DeclaredTemplate) (n m : ℕ) (us : List TemplateData) (i : ℕ) (u : TemplateData) → AreInPlace all entries k ts n us m
+pub in_place_at : (all : List DeclaredTemplate) (entries : List Entry) (k : ℕ) (ts : List DeclaredTemplate) (n m : ℕ)
+    (us : List TemplateData) (i : ℕ) (u : TemplateData) → AreInPlace all entries k ts n us m
     → slice_get us i ≡ Some u
-    → (t : DeclaredTemplate) × (a b : ℕ) × (slice_get ts i ≡ Some t) × (u.id ≡ t.id) × InPlace all entries nesting_limit (scope_of (k + i) t) t.fields a u.body b × (b ≤ m)
+    → (t : DeclaredTemplate) × (a b : ℕ) × (slice_get ts i ≡ Some t) × (u.id ≡ t.id)
+    × InPlace all entries nesting_limit (scope_of (k + i) t) t.fields a u.body b × (b ≤ m)
 in_place_at all entries k [] n m [] i u h found = absurd (cc)
 in_place_at all entries k [] n m (v ∷ us) i u h found = absurd h
 in_place_at all entries k (t ∷ ts) n m [] i u h found = absurd h
@@ -193,20 +217,31 @@ in_place_at all entries k (t ∷ ts) n m (v ∷ us) zero u (mid, name, id, reset
       mid,
       refl,
       sym (ap (λ (w : TemplateData). w.id) is) ∙ id,
-      subst (λ j. InPlace all entries nesting_limit (scope_of j t) t.fields n u.body mid) (sym (add-zero k)) (subst (λ (w : TemplateData). InPlace all entries nesting_limit (scope_of k t) t.fields n w.body mid) is body),
+      subst (λ j. InPlace all entries nesting_limit (scope_of j t) t.fields n u.body mid) (sym (add-zero k))
+          (subst (λ (w : TemplateData). InPlace all entries nesting_limit (scope_of k t) t.fields n w.body mid) is body),
       last,
     )
   where
     some_is : {A : Type 0} {a b : A} → Some a ≡ Some b → a ≡ b
     some_is h = cc
 
-    after_whole : (all : List DeclaredTemplate) (entries : List Entry) (k : ℕ) (ts : List DeclaredTemplate) (n m : ℕ) (us : List TemplateData) → AreInPlace all entries k ts n us m → n ≤ m
+    after_whole : (all : List DeclaredTemplate) (entries : List Entry) (k : ℕ) (ts : List DeclaredTemplate) (n m : ℕ)
+        (us : List TemplateData) → AreInPlace all entries k ts n us m → n ≤ m
     after_whole all entries k ts n m us h = after_all (whole us) n m (numbered_whole all entries k ts n m us h)
 in_place_at all entries k (t ∷ ts) n m (v ∷ us) (suc i) u (mid, name, id, reset, body, rest) found =
-    let r = in_place_at all entries (suc k) ts mid m us i u rest found in
-    (r.0, r.1, r.2, r.3, r.4, subst (λ j. InPlace all entries nesting_limit (scope_of j r.0) r.0.fields r.1 u.body r.2) (let e : suc k + i ≡ k + suc i = omega arith in e) r.5, r.6)
+    let r = in_place_at all entries (suc k) ts mid m us i u rest found in (
+      r.0,
+      r.1,
+      r.2,
+      r.3,
+      r.4,
+      subst (λ j. InPlace all entries nesting_limit (scope_of j r.0) r.0.fields r.1 u.body r.2)
+          (let e : suc k + i ≡ k + suc i = omega arith in e) r.5,
+      r.6,
+    )
 
-module _ {all : List DeclaredTemplate} {entries : List Entry} (ns : List Node) (ts : List Template) (built : AreBuilt all entries all (map node_data ns) (map outline ts)) where
+module _ {all : List DeclaredTemplate} {entries : List Entry} (ns : List Node) (ts : List Template)
+    (built : AreBuilt all entries all (map node_data ns) (map outline ts)) where
   instructions_are : instructions_from 0 ns ≡ all_inside (whole built.templates)
   instructions_are =
       let us = built.templates in
@@ -225,12 +260,14 @@ module _ {all : List DeclaredTemplate} {entries : List Entry} (ns : List Node) (
       let us = built.templates in
       let numbered = numbered_whole all entries 0 all 0 (length (map node_data ns)) us built.in_place in
       ap template_labels built_tree ∙ sym (labels_whole us) ∙ sym (append-nil (body_labels (whole us)))
-      ∙ sym (labels_body (whole us) 0 (length (map node_data ns)) [] numbered) ∙ ap (data_labels 0) (append-nil (spread_all (whole us)) ∙ spread_whole us ∙ sym built.spread_into) ∙ sym (same_labels 0 ns)
+      ∙ sym (labels_body (whole us) 0 (length (map node_data ns)) [] numbered)
+      ∙ ap (data_labels 0) (append-nil (spread_all (whole us)) ∙ spread_whole us ∙ sym built.spread_into) ∙ sym (same_labels 0 ns)
 
   -- the template of the tree behind one of the set
   template_of_tree : (i : ℕ) (t : Template) → slice_get ts i ≡ Some t → (u : TemplateData) × (slice_get built.templates i ≡ Some u) × (outline t ≡ outline_of u)
   template_of_tree i t found =
-      map_get_back outline_of built.templates i (outline t) (ap (λ (os : List TemplateOutline). slice_get os i) (sym built.named_by) ∙ mapped_get outline ts i t found)
+      map_get_back outline_of built.templates i (outline t)
+      (ap (λ (os : List TemplateOutline). slice_get os i) (sym built.named_by) ∙ mapped_get outline ts i t found)
 
   pub built_names_nodes : NameNodes (length ns) ts
   built_names_nodes i t found k inside =
@@ -249,7 +286,8 @@ module _ {all : List DeclaredTemplate} {entries : List Entry} (ns : List Node) (
   built_names_later_nodes n v found k inside =
       let us = built.templates in
       let numbered = numbered_whole all entries 0 all 0 (length (map node_data ns)) us built.in_place in
-      let at : slice_get (spread_all (whole us)) n ≡ Some (node_data v) = ap (λ (xs : List NodeData). slice_get xs n) (spread_whole us ∙ sym built.spread_into) ∙ mapped_get node_data ns n v found in
+      let at : slice_get (spread_all (whole us)) n ≡ Some (node_data v) =
+      ap (λ (xs : List NodeData). slice_get xs n) (spread_whole us ∙ sym built.spread_into) ∙ mapped_get node_data ns n v found in
       let same = same_numbers v.shape in
       let l = ap length same in
       let e = ap (λ xs. get_or xs k 0) same in

@@ -1,5 +1,6 @@
 -- Bodies whose nodes are numbered in preorder: the nodes that they are spread into stand for them.
-use Rattle.std.proofs.Common.{◌≡◌, ◌⊎◌, inl, inr, ℕ, ◌+◌, ◌-◌, ◌<◌, ◌≤◌, zero, suc, List, [], ◌∷◌, ◌++◌, length, get_or, slice_get, refl, ap, sym, ◌∙◌, subst, arith, Some, append_assoc, length-append}
+use Rattle.std.proofs.Common.{◌≡◌, ◌⊎◌, inl, inr, ℕ, ◌+◌, ◌-◌, ◌<◌, ◌≤◌, zero, suc, List, [], ◌∷◌, ◌++◌, length, get_or, slice_get, refl}
+use Rattle.std.proofs.Common.{ap, sym, ◌∙◌, subst, arith, Some, append_assoc, length-append}
 use Rattle.std.specs.Prelude.{slice_index_or}
 use Rattle.std.proofs.Math.Seq.{get_or-append_seam}
 use Rattle.fast_tree.specs.meaning.AsWritten.{DeclaredList, DeclaredTemplate}
@@ -7,7 +8,8 @@ use Rattle.fast_notation.specs.device.Built.{own_number, top_numbers, spread, sp
 use Rattle.fast_tree.specs.meaning.Entries.{Entry, Scope}
 use Rattle.fast_notation.specs.meaning.InPlace.{◌then◌, InPlace, nothing, a_field, some_parts, a_group, a_sequence, a_reference}
 use Rattle.fast_notation.specs.meaning.Labels.{labels, body_labels}
-use Rattle.fast_tree.specs.meaning.NodeData.{ShapeData, a_field as a_field_data, a_decimal, a_group as a_group_data, a_sequence as a_sequence_data, NodeData, instructions_of}
+use Rattle.fast_tree.specs.meaning.NodeData.{ShapeData, a_field as a_field_data, a_decimal, a_group as a_group_data}
+use Rattle.fast_tree.specs.meaning.NodeData.{a_sequence as a_sequence_data, NodeData, instructions_of}
 use Rattle.fast_tree.specs.meaning.Nodes.{body_of, no_instruction}
 use Rattle.fast_tree.specs.meaning.Tree.{Label, Instruction, field, parts, group, sequence, Body, end, step}
 use Rattle.fast_notation.proofs.lists.NodeLists.{data_labels}
@@ -29,13 +31,15 @@ numbered-then end c n k m h i = subst (λ j. AreNumbered j c m) (sym h) i
 numbered-then (step x is) c n k m (j, first, rest) i = (j, first, numbered-then is c j k m rest i)
 
 -- references in place are numbered so
-pub in_place-numbered : {ts : List DeclaredTemplate} {entries : List Entry} {chain : ℕ} {s : Scope} {ds : DeclaredList} {n m : ℕ} {b : Body} → InPlace ts entries chain s ds n b m → AreNumbered n b m
+pub in_place-numbered : {ts : List DeclaredTemplate} {entries : List Entry} {chain : ℕ} {s : Scope} {ds : DeclaredList} {n m : ℕ}
+    {b : Body} → InPlace ts entries chain s ds n b m → AreNumbered n b m
 in_place-numbered nothing = refl
 in_place-numbered (a_field {n = n} f rest) = (suc n, (refl, refl), in_place-numbered rest)
 in_place-numbered (some_parts {n = n} e f rest) = (suc n, (refl, refl), in_place-numbered rest)
 in_place-numbered (a_group {k = k} inner rest) = (k, (refl, in_place-numbered inner), in_place-numbered rest)
 in_place-numbered (a_sequence {k = k} f inner rest) = (k, (refl, in_place-numbered inner), in_place-numbered rest)
-in_place-numbered (a_reference {n = n} {k = k} {m = m} {body = body} {is = is} number t found same inner rest) = numbered-then body is n k m (in_place-numbered inner) (in_place-numbered rest)
+in_place-numbered (a_reference {n = n} {k = k} {m = m} {body = body} {is = is} number t found same inner rest) =
+    numbered-then body is n k m (in_place-numbered inner) (in_place-numbered rest)
 
 -- numbers go up
 mutual
@@ -88,7 +92,8 @@ mutual
       omega (arith, a, r, l)
 
 -- the body is found among its instructions
-pub body_among : (b : Body) (n m first : ℕ) (front back : List Instruction) → AreNumbered n b m → n ≡ first + length front → body_of first (front ++ (all_inside b ++ back)) (top_numbers b) ≡ b
+pub body_among : (b : Body) (n m first : ℕ) (front back : List Instruction) → AreNumbered n b m → n ≡ first + length front
+    → body_of first (front ++ (all_inside b ++ back)) (top_numbers b) ≡ b
 body_among end n m first front back h at = refl
 body_among (step i is) n m first front back (k, one, rest) at =
     let own = own_first i n k one in
@@ -110,9 +115,12 @@ label_is l n e = ap (λ k. record { node = k; name = l.name }) (sym e)
 
 -- the nodes that are spread are these instructions
 mutual
-  spread_one : (i : Instruction) (n m : ℕ) (back : List NodeData) → IsNumbered n i m → instructions_of n (spread i ++ back) ≡ (i ∷ inside i) ++ instructions_of m back
-  spread_one (field l f) n m back (own, last) = ap (λ at. field at f ∷ instructions_of (suc n) back) (label_is l n own) ∙ ap (λ k. field l f ∷ instructions_of k back) (sym last)
-  spread_one (parts l e f) n m back (own, last) = ap (λ at. parts at e f ∷ instructions_of (suc n) back) (label_is l n own) ∙ ap (λ k. parts l e f ∷ instructions_of k back) (sym last)
+  spread_one : (i : Instruction) (n m : ℕ) (back : List NodeData) → IsNumbered n i m
+      → instructions_of n (spread i ++ back) ≡ (i ∷ inside i) ++ instructions_of m back
+  spread_one (field l f) n m back (own, last) = ap (λ at. field at f ∷ instructions_of (suc n) back) (label_is l n own)
+      ∙ ap (λ k. field l f ∷ instructions_of k back) (sym last)
+  spread_one (parts l e f) n m back (own, last) = ap (λ at. parts at e f ∷ instructions_of (suc n) back) (label_is l n own)
+      ∙ ap (λ k. parts l e f ∷ instructions_of k back) (sym last)
   spread_one (group l optional body) n m back (own, inner) =
       let rest = spread_body body (suc n) m back inner in
       let found = body_among body (suc n) m (suc n) [] (instructions_of m back) inner (let e : suc n ≡ suc n + 0 = omega arith in e) in
@@ -126,7 +134,8 @@ mutual
       ∙ ap (λ b. sequence (record { node = n; name = l.name }) f b ∷ (all_inside body ++ instructions_of m back)) found
       ∙ ap (λ at. sequence at f body ∷ (all_inside body ++ instructions_of m back)) (label_is l n own)
 
-  pub spread_body : (b : Body) (n m : ℕ) (back : List NodeData) → AreNumbered n b m → instructions_of n (spread_all b ++ back) ≡ all_inside b ++ instructions_of m back
+  pub spread_body : (b : Body) (n m : ℕ) (back : List NodeData) → AreNumbered n b m
+      → instructions_of n (spread_all b ++ back) ≡ all_inside b ++ instructions_of m back
   spread_body end n m back h = ap (λ k. instructions_of k back) h
   spread_body (step i is) n m back (k, first, rest) =
       ap (instructions_of n) (append_assoc (spread i) (spread_all is) back) ∙ spread_one i n k (spread_all is ++ back) first
@@ -138,8 +147,11 @@ mutual
   labels_one : (i : Instruction) (n m : ℕ) (back : List NodeData) → IsNumbered n i m → data_labels n (spread i ++ back) ≡ labels i ++ data_labels m back
   labels_one (field l f) n m back (own, last) = ap (λ at. at ∷ data_labels (suc n) back) (label_is l n own) ∙ ap (λ k. l ∷ data_labels k back) (sym last)
   labels_one (parts l e f) n m back (own, last) = ap (λ at. at ∷ data_labels (suc n) back) (label_is l n own) ∙ ap (λ k. l ∷ data_labels k back) (sym last)
-  labels_one (group l optional body) n m back (own, inner) = ap (λ at. at ∷ data_labels (suc n) (spread_all body ++ back)) (label_is l n own) ∙ ap (λ ls. l ∷ ls) (labels_body body (suc n) m back inner)
-  labels_one (sequence l f body) n m back (own, inner) = ap (λ at. at ∷ data_labels (suc n) (spread_all body ++ back)) (label_is l n own) ∙ ap (λ ls. l ∷ ls) (labels_body body (suc n) m back inner)
+  labels_one (group l optional body) n m back (own, inner) =
+      ap (λ at. at ∷ data_labels (suc n) (spread_all body ++ back)) (label_is l n own)
+      ∙ ap (λ ls. l ∷ ls) (labels_body body (suc n) m back inner)
+  labels_one (sequence l f body) n m back (own, inner) = ap (λ at. at ∷ data_labels (suc n) (spread_all body ++ back)) (label_is l n own)
+      ∙ ap (λ ls. l ∷ ls) (labels_body body (suc n) m back inner)
 
   pub labels_body : (b : Body) (n m : ℕ) (back : List NodeData) → AreNumbered n b m → data_labels n (spread_all b ++ back) ≡ body_labels b ++ data_labels m back
   labels_body end n m back h = ap (λ k. data_labels k back) h
@@ -157,7 +169,8 @@ named_numbers (a_group_data optional body) = body
 named_numbers (a_sequence_data f body) = body
 
 -- the numbers of a body's own nodes
-pub tops_between : (b : Body) (n m : ℕ) → AreNumbered n b m → (k : ℕ) → k < length (top_numbers b) → (n ≤ get_or (top_numbers b) k 0) × (get_or (top_numbers b) k 0 < m)
+pub tops_between : (b : Body) (n m : ℕ) → AreNumbered n b m → (k : ℕ) → k < length (top_numbers b)
+    → (n ≤ get_or (top_numbers b) k 0) × (get_or (top_numbers b) k 0 < m)
 tops_between end n m h k inside = absurd (omega arith)
 tops_between (step i is) n m (j, first, rest) zero inside =
     let own = own_first i n j first in
@@ -171,7 +184,8 @@ tops_between (step i is) n m (j, first, rest) (suc k) inside =
     (omega (arith, a, low), t.1)
 
 -- an element of two lists is one of the first or of the second
-in_either : {A : Type 0} (xs ys : List A) (k : ℕ) (x : A) → slice_get (xs ++ ys) k ≡ Some x → (slice_get xs k ≡ Some x) ⊎ ((j : ℕ) × (k ≡ length xs + j) × (slice_get ys j ≡ Some x))
+in_either : {A : Type 0} (xs ys : List A) (k : ℕ) (x : A) → slice_get (xs ++ ys) k ≡ Some x
+    → (slice_get xs k ≡ Some x) ⊎ ((j : ℕ) × (k ≡ length xs + j) × (slice_get ys j ≡ Some x))
 in_either [] ys k x h = inr (k, (let e : k ≡ 0 + k = omega arith in e), h)
 in_either (y ∷ xs) ys zero x h = inl h
 in_either (y ∷ xs) ys (suc k) x h = elim (in_either xs ys k x h) [ inl a ↦ inl a | inr b ↦ inr (b.0, (let e = b.1 in omega (arith, e)), b.2) ]
@@ -198,7 +212,8 @@ some_shape h = cc
 none : (d : NodeData) (s : ShapeData) (k : ℕ) → d.shape ≡ s → named_numbers s ≡ [] → k < length (named_numbers d.shape) → ⊥
 none d s k is empty inside = let e = ap length (ap named_numbers is ∙ empty) in omega (arith, e, inside)
 
-own_between : (body : Body) (n m : ℕ) (d : NodeData) (s : ShapeData) (k : ℕ) → d.shape ≡ s → named_numbers s ≡ top_numbers body → AreNumbered (suc n) body m → k < length (named_numbers d.shape)
+own_between : (body : Body) (n m : ℕ) (d : NodeData) (s : ShapeData) (k : ℕ) → d.shape ≡ s → named_numbers s ≡ top_numbers body
+    → AreNumbered (suc n) body m → k < length (named_numbers d.shape)
     → (n + 0 < get_or (named_numbers d.shape) k 0) × (get_or (named_numbers d.shape) k 0 < m)
 own_between body n m d s k is names h inside =
     let same = ap named_numbers is ∙ names in
@@ -211,24 +226,28 @@ own_between body n m d s k is names h inside =
 
 -- each node names later ones
 mutual
-  between_one : (i : Instruction) (n m : ℕ) → IsNumbered n i m → (at : ℕ) (d : NodeData) → slice_get (spread i) at ≡ Some d → (k : ℕ) → k < length (named_numbers d.shape)
+  between_one : (i : Instruction) (n m : ℕ) → IsNumbered n i m → (at : ℕ) (d : NodeData) → slice_get (spread i) at ≡ Some d → (k : ℕ)
+      → k < length (named_numbers d.shape)
       → (n + at < get_or (named_numbers d.shape) k 0) × (get_or (named_numbers d.shape) k 0 < m)
   between_one (field l f) n m h zero d found k inside = absurd (none d (a_field_data f) k (some_shape found) refl inside)
   between_one (field l f) n m h (suc at) d found k inside = absurd (cc)
   between_one (parts l e f) n m h zero d found k inside = absurd (none d (a_decimal e f) k (some_shape found) refl inside)
   between_one (parts l e f) n m h (suc at) d found k inside = absurd (cc)
-  between_one (group l optional body) n m h zero d found k inside = own_between body n m d (a_group_data optional (top_numbers body)) k (some_shape found) refl h.1 inside
+  between_one (group l optional body) n m h zero d found k inside =
+      own_between body n m d (a_group_data optional (top_numbers body)) k (some_shape found) refl h.1 inside
   between_one (group l optional body) n m h (suc at) d found k inside =
       let r = between_all body (suc n) m h.1 at d found k inside in
       let low = r.0 in
       (omega (arith, low), r.1)
-  between_one (sequence l f body) n m h zero d found k inside = own_between body n m d (a_sequence_data f (top_numbers body)) k (some_shape found) refl h.1 inside
+  between_one (sequence l f body) n m h zero d found k inside =
+      own_between body n m d (a_sequence_data f (top_numbers body)) k (some_shape found) refl h.1 inside
   between_one (sequence l f body) n m h (suc at) d found k inside =
       let r = between_all body (suc n) m h.1 at d found k inside in
       let low = r.0 in
       (omega (arith, low), r.1)
 
-  pub between_all : (b : Body) (n m : ℕ) → AreNumbered n b m → (at : ℕ) (d : NodeData) → slice_get (spread_all b) at ≡ Some d → (k : ℕ) → k < length (named_numbers d.shape)
+  pub between_all : (b : Body) (n m : ℕ) → AreNumbered n b m → (at : ℕ) (d : NodeData) → slice_get (spread_all b) at ≡ Some d → (k : ℕ)
+      → k < length (named_numbers d.shape)
       → (n + at < get_or (named_numbers d.shape) k 0) × (get_or (named_numbers d.shape) k 0 < m)
   between_all end n m h at d found k inside = absurd (cc)
   between_all (step i is) n m (j, first, rest) at d found k inside = elim (in_either (spread i) (spread_all is) at d found) [

@@ -16,7 +16,8 @@ use Rattle.fast_tree.specs.meaning.AsWritten.{Written, DeclaredList, DeclaredTem
 use Rattle.fast_notation.specs.device.Built.{top_numbers, spread_all, AreBuilt}
 use Rattle.fast_tree.specs.meaning.Entries.{Entry, Scope, keeps_value, EntryNumber}
 use Rattle.fast_notation.specs.meaning.InPlace.{InPlace, nothing, a_field, some_parts, a_group, a_sequence, a_reference, AreInPlace}
-use Rattle.fast_tree.specs.meaning.NodeData.{a_field as a_field_data, a_decimal, a_group as a_group_data, a_sequence as a_sequence_data, NodeData, node_data, outline}
+use Rattle.fast_tree.specs.meaning.NodeData.{a_field as a_field_data, a_decimal, a_group as a_group_data, a_sequence as a_sequence_data}
+use Rattle.fast_tree.specs.meaning.NodeData.{NodeData, node_data, outline}
 use Rattle.fast_notation.specs.device.Sound.{IsSound}
 use Rattle.fast_tree.specs.meaning.Tree.{FieldData, Body, TemplateData}
 use Rattle.fast_notation.specs.meaning.Uses.{suits, IsField}
@@ -43,7 +44,8 @@ suited_tail Increment k h = refl
 suited_tail Delta k h = refl
 
 -- The number of an entry is one of those of the set, in which the identifier has the first.
-numbered_place : (entries : List Entry) (s : Scope) (u : Use) (o : Option ℕ) → EntryNumber entries s u o → has_place (suc (length entries)) (keeps_value u.written.operator) o ≡ true
+numbered_place : (entries : List Entry) (s : Scope) (u : Use) (o : Option ℕ) → EntryNumber entries s u o
+    → has_place (suc (length entries)) (keeps_value u.written.operator) o ≡ true
 numbered_place entries s u None h = ap not h
 numbered_place entries s u (Some n) (k, e, keeps, is, at, same) =
     let inside = slice_get_within entries k e at in
@@ -66,26 +68,33 @@ length_kind name optional (Some own) w = refl
 abbrev IsUsableNode : List Entry → NodeData → Type 0
 IsUsableNode entries x = is_usable_shape (suc (length entries)) x.shape ≡ true
 
-usable_body : {ts : List DeclaredTemplate} {entries : List Entry} {chain : ℕ} {s : Scope} {ds : DeclaredList} {n m : ℕ} {b : Body} → All (λ t. All IsSound (all_uses t.fields)) ts → All IsSound (all_uses ds)
+usable_body : {ts : List DeclaredTemplate} {entries : List Entry} {chain : ℕ} {s : Scope} {ds : DeclaredList} {n m : ℕ} {b : Body}
+    → All (λ t. All IsSound (all_uses t.fields)) ts → All IsSound (all_uses ds)
     → InPlace ts entries chain s ds n b m → All (IsUsableNode entries) (spread_all b)
 usable_body {entries = entries} all here nothing = All-nil (IsUsableNode entries)
 usable_body {entries = entries} all here (a_field {name = name} {optional = optional} {kind = kind} {w = w} {ds = ds} {f = f} {is = is} is_field rest) =
     let u = scalar_use name optional kind w in
-    All-cons (IsUsableNode entries) (record { name = name; shape = a_field_data f }) (spread_all is) (usable_field (all_first IsSound u (all_uses ds) here) is_field)
+    All-cons (IsUsableNode entries) (record {
+      name = name;
+      shape = a_field_data f;
+    }) (spread_all is) (usable_field (all_first IsSound u (all_uses ds) here) is_field)
     (usable_body all (all_but_first IsSound u (all_uses ds) here) rest)
-usable_body {entries = entries} all here (some_parts {name = name} {optional = optional} {v = v} {w = w} {ds = ds} {e = e} {f = f} {is = is} is_exponent is_mantissa rest) =
+usable_body {entries = entries} all here (some_parts {name = name} {optional = optional} {v = v} {w = w} {ds = ds} {e = e} {f = f}
+    {is = is} is_exponent is_mantissa rest) =
     let u = exponent_use name optional v in
     let m = mantissa_use name w in
     let later = all_but_first IsSound u (m ∷ all_uses ds) here in
     let usable_e = usable_field (all_first IsSound u (m ∷ all_uses ds) here) is_exponent in
     let usable_f = usable_field (all_first IsSound m (all_uses ds) later) is_mantissa in
     All-cons (IsUsableNode entries) (record { name = name; shape = a_decimal e f }) (spread_all is)
-    (both_true (both_true usable_e (ap is_int32 is_exponent.kind)) (both_true usable_f (ap is_int64 is_mantissa.kind))) (usable_body all (all_but_first IsSound m (all_uses ds) later) rest)
+    (both_true (both_true usable_e (ap is_int32 is_exponent.kind)) (both_true usable_f (ap is_int64 is_mantissa.kind)))
+    (usable_body all (all_but_first IsSound m (all_uses ds) later) rest)
 usable_body {entries = entries} all here (a_group {name = name} {optional = optional} {inner = inner} {ds = ds} {body = body} {is = is} within rest) =
     All-cons (IsUsableNode entries) (record { name = name; shape = a_group_data optional (top_numbers body) }) (spread_all body ++ spread_all is) refl
     (All-append (IsUsableNode entries) (spread_all body) (spread_all is) (usable_body all (all_left IsSound (all_uses inner) (all_uses ds) here) within)
     (usable_body all (all_right IsSound (all_uses inner) (all_uses ds) here) rest))
-usable_body {entries = entries} all here (a_sequence {name = name} {optional = optional} {own = own} {w = w} {inner = inner} {ds = ds} {f = f} {body = body} {is = is} is_length within rest) =
+usable_body {entries = entries} all here (a_sequence {name = name} {optional = optional} {own = own} {w = w} {inner = inner} {ds = ds}
+    {f = f} {body = body} {is = is} is_length within rest) =
     let u = length_use name optional own w in
     let later = all_but_first IsSound u (all_uses inner ++ all_uses ds) here in
     let usable_f = usable_field (all_first IsSound u (all_uses inner ++ all_uses ds) here) is_length in
@@ -97,25 +106,30 @@ usable_body {ts = ts} {entries = entries} all here (a_reference {ds = ds} {body 
     subst (All (IsUsableNode entries)) (sym (spread-then body is))
     (All-append (IsUsableNode entries) (spread_all body) (spread_all is) (usable_body all (sound_at ts number t found all) within) (usable_body all here rest))
   where
-    sound_at : (ts : List DeclaredTemplate) (k : ℕ) (t : DeclaredTemplate) → slice_get ts k ≡ Some t → All (λ t. All IsSound (all_uses t.fields)) ts → All IsSound (all_uses t.fields)
-    sound_at ts k t at h = subst (λ (x : DeclaredTemplate). All IsSound (all_uses x.fields)) (get_or_from_slice_get ts k t t at) (All-get_or (λ x. All IsSound (all_uses x.fields)) ts k t (slice_get_within ts k t at) h)
+    sound_at : (ts : List DeclaredTemplate) (k : ℕ) (t : DeclaredTemplate) → slice_get ts k ≡ Some t
+        → All (λ t. All IsSound (all_uses t.fields)) ts → All IsSound (all_uses t.fields)
+    sound_at ts k t at h = subst (λ (x : DeclaredTemplate). All IsSound (all_uses x.fields)) (get_or_from_slice_get ts k t t at)
+        (All-get_or (λ x. All IsSound (all_uses x.fields)) ts k t (slice_get_within ts k t at) h)
 
 -- ---- the set
 
-usable_templates : (all : List DeclaredTemplate) (entries : List Entry) (k : ℕ) (ts : List DeclaredTemplate) (n m : ℕ) (us : List TemplateData) → All (λ t. All IsSound (all_uses t.fields)) all
+usable_templates : (all : List DeclaredTemplate) (entries : List Entry) (k : ℕ) (ts : List DeclaredTemplate) (n m : ℕ)
+    (us : List TemplateData) → All (λ t. All IsSound (all_uses t.fields)) all
     → All (λ t. All IsSound (all_uses t.fields)) ts → AreInPlace all entries k ts n us m → All (IsUsableNode entries) (flat_map (λ u. spread_all u.body) us)
 usable_templates all entries k [] n m [] sound here h = All-nil (IsUsableNode entries)
 usable_templates all entries k [] n m (u ∷ us) sound here h = absurd h
 usable_templates all entries k (t ∷ ts) n m [] sound here h = absurd h
 usable_templates all entries k (t ∷ ts) n m (u ∷ us) sound here (mid, name, id, reset, body, rest) =
-    All-append (IsUsableNode entries) (spread_all u.body) (flat_map (λ u. spread_all u.body) us) (usable_body sound (all_first (λ t. All IsSound (all_uses t.fields)) t ts here) body)
+    All-append (IsUsableNode entries) (spread_all u.body) (flat_map (λ u. spread_all u.body) us)
+    (usable_body sound (all_first (λ t. All IsSound (all_uses t.fields)) t ts here) body)
     (usable_templates all entries (suc k) ts mid m us sound (all_but_first (λ t. All IsSound (all_uses t.fields)) t ts here) rest)
 
 -- The nodes of a set that is built of sound uses are usable.
 pub built_usable : (all : List DeclaredTemplate) (entries : List Entry) (ns : List Node) (ts : List Template) → All (λ t. All IsSound (all_uses t.fields)) all
     → AreBuilt all entries all (map node_data ns) (map outline ts) → AreUsable (suc (length entries)) ns
 built_usable all entries ns ts sound built n v found =
-    let usable = subst (All (IsUsableNode entries)) (sym built.spread_into) (usable_templates all entries 0 all 0 (length (map node_data ns)) built.templates sound sound built.in_place) in
+    let usable = subst (All (IsUsableNode entries)) (sym built.spread_into)
+    (usable_templates all entries 0 all 0 (length (map node_data ns)) built.templates sound sound built.in_place) in
     let at = mapped_get node_data ns n v found in
     subst (IsUsableNode entries) (get_or_from_slice_get (map node_data ns) n (node_data v) (node_data v) at)
     (All-get_or (IsUsableNode entries) (map node_data ns) n (node_data v) (slice_get_within (map node_data ns) n (node_data v) at) usable)

@@ -28,7 +28,11 @@ least_within limit (n ∷ ns) (suc k) inside =
 -- the less of two greater numbers
 above_both : (own a b : ℕ) → own < a → own < b → own < min a b
 above_both own a b h i =
-    elim (cases_lt a b) [ inl l ↦ subst (λ m. own < m) (sym (min-eq_left (omega (arith, l)))) h | inr l ↦ subst (λ m. own < m) (sym (min-eq_right (omega (arith, l)))) i ]
+    elim (cases_lt a b) [
+      | inl l ↦ subst (λ m. own < m) (sym (min-eq_left (omega (arith, l)))) h
+      | inr l ↦ subst (λ m. own < m)
+          (sym (min-eq_right (omega (arith, l)))) i
+    ]
 
 -- later numbers have a later least
 pub least_later : (own limit : ℕ) (ns : List ℕ) → own < limit → AreBetween own limit ns → own < least limit ns

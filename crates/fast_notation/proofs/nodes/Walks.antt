@@ -15,11 +15,13 @@ use Rattle.fast_tree.specs.meaning.Numbers.{numbers_of, AreBetween}
 pub instructions-drop : (own k : ℕ) (ns : List Node) → drop k (instructions_from own ns) ≡ instructions_from (own + k) (drop k ns)
 instructions-drop own zero ns = ap (λ m. instructions_from m ns) (let e : own ≡ own + 0 = omega arith in e)
 instructions-drop own (suc k) [] = refl
-instructions-drop own (suc k) (n ∷ ns) = instructions-drop (suc own) k ns ∙ ap (λ m. instructions_from m (drop k ns)) (let e : suc own + k ≡ own + suc k = omega arith in e)
+instructions-drop own (suc k) (n ∷ ns) = instructions-drop (suc own) k ns
+    ∙ ap (λ m. instructions_from m (drop k ns)) (let e : suc own + k ≡ own + suc k = omega arith in e)
 
 -- the instruction behind some others, by the instructions of the nodes behind it
 pub instruction_behind : (own k : ℕ) (ns : List Node) (v : Node) (d : Instruction) → slice_get ns k ≡ Some v
-    → slice_index_or (instructions_from own ns) k d ≡ instruction_of (label_of (own + k) v) (suc (own + k)) (instructions_from (suc (own + k)) (drop (suc k) ns)) v.shape
+    → slice_index_or (instructions_from own ns) k d ≡ instruction_of (label_of (own + k) v) (suc (own + k))
+    (instructions_from (suc (own + k)) (drop (suc k) ns)) v.shape
 instruction_behind own k [] v d found = absurd (cc)
 instruction_behind own zero (n ∷ ns) v d found =
     let is : n ≡ v = cc in
@@ -39,7 +41,8 @@ instruction_of_node n ns v d found =
     instruction_behind 0 n ns v d found ∙ ap (λ m. instruction_of (label_of m v) (suc m) (instructions_from (suc m) (drop (suc n) ns)) v.shape) e
 
 -- a body of later nodes by the instructions behind a node, and by all instructions
-body_of_later : (first : ℕ) (is : List Instruction) (ms : List ℕ) → ((k : ℕ) → k < length ms → first ≤ slice_index ms k) → body_of first (drop first is) ms ≡ body_of 0 is ms
+body_of_later : (first : ℕ) (is : List Instruction) (ms : List ℕ) → ((k : ℕ) → k < length ms → first ≤ slice_index ms k)
+    → body_of first (drop first is) ms ≡ body_of 0 is ms
 body_of_later first is [] later = refl
 body_of_later first is (m ∷ ms) later =
     let here : first ≤ m = later 0 (omega arith) in
@@ -66,7 +69,8 @@ instruction_of_later n limit ns at (Group optional body) later = ap (group at op
 instruction_of_later n limit ns at (Sequence length body) later = ap (sequence at (field_data length)) (later_body n limit ns body.items later)
 
 -- a body begins with the instruction of its first node
-pub body_at : (is : List Instruction) (ms : List ℕ) (p n : ℕ) → slice_get ms p ≡ Some n → body_of 0 is (drop p ms) ≡ step (slice_index_or is n no_instruction) (body_of 0 is (drop (suc p) ms))
+pub body_at : (is : List Instruction) (ms : List ℕ) (p n : ℕ) → slice_get ms p ≡ Some n
+    → body_of 0 is (drop p ms) ≡ step (slice_index_or is n no_instruction) (body_of 0 is (drop (suc p) ms))
 body_at is ms p n found =
     let inside = slice_get_within ms p n found in
     let read : get_or ms p n ≡ n = get_or_from_slice_get ms p n n found in

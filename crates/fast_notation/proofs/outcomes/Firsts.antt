@@ -1,5 +1,6 @@
 -- The fault that is told of a set is the first.
-use Rattle.std.proofs.Common.{◌≡◌, ◌≢◌, ◌⊎◌, inl, inr, ℕ, zero, suc, ◌+◌, ◌<◌, ◌≤◌, List, [], ◌∷◌, length, map, take, slice_get, get_or, refl, ap, sym, ◌∙◌, subst, arith, Option, Some, None}
+use Rattle.std.proofs.Common.{◌≡◌, ◌≢◌, ◌⊎◌, inl, inr, ℕ, zero, suc, ◌+◌, ◌<◌, ◌≤◌, List, [], ◌∷◌, length, map, take, slice_get, get_or}
+use Rattle.std.proofs.Common.{refl, ap, sym, ◌∙◌, subst, arith, Option, Some, None}
 use Rattle.std.specs.Prelude.{All, Any, AllPairs, Contains, IfSome, IsSome, sum_by}
 use Rattle.std.specs.Str.{bytes_eq}
 use Rattle.std.proofs.lemmas.Bool.{false≢true}
@@ -78,14 +79,16 @@ no_id : (ts : List DeclaredTemplate) → AllPairs (λ a b. (id : ℕ) → a.id �
 no_id ts apart j (i, id, t, u, before, at_i, at_j, has, has_too) =
     two_of (λ (a b : DeclaredTemplate). (id : ℕ) → a.id ≡ Some id → b.id ≢ Some id) ts i j t u apart before at_i at_j id has has_too
 
-no_id_before : (ts : List DeclaredTemplate) (k : ℕ) → AllPairs (λ a b. (id : ℕ) → a.id ≡ Some id → b.id ≢ Some id) (take k ts) → (j : ℕ) → j < k → StandsAt ts C2 j → ⊥
+no_id_before : (ts : List DeclaredTemplate) (k : ℕ) → AllPairs (λ a b. (id : ℕ) → a.id ≡ Some id → b.id ≢ Some id) (take k ts) → (j : ℕ)
+    → j < k → StandsAt ts C2 j → ⊥
 no_id_before ts k apart j below (i, id, t, u, before, at_i, at_j, has, has_too) =
     no_id (take k ts) apart j (i, id, t, u, before, taken_at k i ts t (omega (arith, before, below)) at_i, taken_at k j ts u below at_j, has, has_too)
 
 any_unsound : (P : Use → Type 0) → ((u : Use) → IsSound u → P u → ⊥) → (us : List Use) → All IsSound us → Any P us → ⊥
 any_unsound P never us all (j, u, inside, at, bad) = never u (subst IsSound at (all j u inside)) bad
 
-no_reference : (ts : List DeclaredTemplate) (j : ℕ) → ((t : DeclaredTemplate) → slice_get ts j ≡ Some t → All (λ name. IsSome (place_of_name name ts)) (all_references t.fields)) → StandsAt ts D8 j → ⊥
+no_reference : (ts : List DeclaredTemplate) (j : ℕ) → ((t : DeclaredTemplate) → slice_get ts j ≡ Some t
+    → All (λ name. IsSome (place_of_name name ts)) (all_references t.fields)) → StandsAt ts D8 j → ⊥
 no_reference ts j knows (t, found, (i, name, inside, at, unknown)) =
     there (place_of_name name ts) refl (subst (λ q. IsSome (place_of_name q ts)) at (knows t found i name inside))
   where
@@ -93,20 +96,24 @@ no_reference ts j knows (t, found, (i, name, inside, at, unknown)) =
     there None is some = false≢true some
     there (Some n) is some =
         let (p, u, number, at_p, passes) = placed (λ (v : DeclaredTemplate). bytes_eq name v.name) 0 n ts is in
-        unknown p u (slice_get_within ts p u at_p) (ap (λ (v : DeclaredTemplate). v.name) (get_or_from_slice_get ts p u u at_p) ∙ sym (same_text name u.name passes))
+        unknown p u (slice_get_within ts p u at_p) (ap (λ (v : DeclaredTemplate). v.name) (get_or_from_slice_get ts p u u at_p)
+        ∙ sym (same_text name u.name passes))
 
 -- no chain is longer than that in which all references are put in place
-fits_short : (ts : List DeclaredTemplate) (m chain a b : ℕ) (t : DeclaredTemplate) → Reaches ts m a b → slice_get ts a ≡ Some t → Fits ts chain t.fields → m ≤ chain
+fits_short : (ts : List DeclaredTemplate) (m chain a b : ℕ) (t : DeclaredTemplate) → Reaches ts m a b → slice_get ts a ≡ Some t
+    → Fits ts chain t.fields → m ≤ chain
 unfolding Fits
 fits_short ts zero chain a b t r at fits = omega arith
 fits_short ts (suc m) zero a b t (mid, s, u, at_a, at_mid, refers, onward) at fits =
-    absurd (in_none (all_references t.fields) u.name fits (subst (λ (v : DeclaredTemplate). Contains (all_references v.fields) u.name) (some_is (sym at_a ∙ at)) refers))
+    absurd (in_none (all_references t.fields) u.name fits (subst (λ (v : DeclaredTemplate). Contains (all_references v.fields) u.name)
+    (some_is (sym at_a ∙ at)) refers))
 fits_short ts (suc m) (suc chain) a b t (mid, s, u, at_a, at_mid, refers, onward) at fits =
     let here = subst (λ (v : DeclaredTemplate). Contains (all_references v.fields) u.name) (some_is (sym at_a ∙ at)) refers in
     let r = fits_short ts m chain mid b u onward at_mid (fits u.name mid u here at_mid refl) in
     omega (arith, r)
 
-too_long : (ts : List DeclaredTemplate) (k b m : ℕ) → nesting_limit < m → ((t : DeclaredTemplate) → slice_get ts k ≡ Some t → Fits ts nesting_limit t.fields) → Reaches ts m k b → ⊥
+too_long : (ts : List DeclaredTemplate) (k b m : ℕ) → nesting_limit < m
+    → ((t : DeclaredTemplate) → slice_get ts k ≡ Some t → Fits ts nesting_limit t.fields) → Reaches ts m k b → ⊥
 too_long ts k b zero long fits r = omega (arith, long)
 too_long ts k b (suc m) long fits r =
     let short = fits_short ts (suc m) nesting_limit k b r.1 r r.3 (fits r.1 r.3) in
@@ -117,7 +124,9 @@ no_cycle ts j fits (n, r) =
     let long = many_rounds n 65 in
     too_long ts j j (rounds n 65) (omega (arith, long)) fits (reach_round ts n j 65 r)
 
-no_depth : (ts : List DeclaredTemplate) (j : ℕ) → AllPairs (λ a b. a.name ≢ b.name) ts → ((t : DeclaredTemplate) → slice_get ts j ≡ Some t → Fits ts nesting_limit t.fields × (depth_in ts nesting_limit t.fields ≤ nesting_limit))
+no_depth : (ts : List DeclaredTemplate) (j : ℕ) → AllPairs (λ a b. a.name ≢ b.name) ts
+    → ((t : DeclaredTemplate) → slice_get ts j ≡ Some t → Fits ts nesting_limit t.fields
+    × (depth_in ts nesting_limit t.fields ≤ nesting_limit))
     → StandsAt ts C4 j → ⊥
 no_depth ts j apart chained (inl (b, r)) = too_long ts j b (suc nesting_limit) (omega arith) (λ t at. (chained t at).0) r
 no_depth ts j apart chained (inr (body, (es, t, n, m, found, there), deep)) =
@@ -125,14 +134,17 @@ no_depth ts j apart chained (inr (body, (es, t, n, m, found, there), deep)) =
     let limit = (chained t found).1 in
     omega (arith, d, limit, deep)
 
-no_nodes : (ts : List DeclaredTemplate) (j : ℕ) → AllPairs (λ a b. a.name ≢ b.name) ts → sum_by (λ t. nodes_in ts nesting_limit t.fields) (take (suc j) ts) ≤ node_limit → StandsAt ts C6 j → ⊥
+no_nodes : (ts : List DeclaredTemplate) (j : ℕ) → AllPairs (λ a b. a.name ≢ b.name) ts
+    → sum_by (λ t. nodes_in ts nesting_limit t.fields) (take (suc j) ts) ≤ node_limit → StandsAt ts C6 j → ⊥
 no_nodes ts j apart few (es, us, n, there, many) =
     let e = set_nodes ts es 0 (take (suc j) ts) 0 n us apart there in
     omega (arith, e, few, many)
 
 -- the body of a template is narrow, whatever entries there are
 IsNarrowAt : List DeclaredTemplate → ℕ → Type 0
-IsNarrowAt ts j = (t : DeclaredTemplate) → slice_get ts j ≡ Some t → (es : List Entry) × (b : Body) × (n m : ℕ) × InPlace ts es nesting_limit (scope_of j t) t.fields n b m × (suc (bits_of b) ≤ segment_limit) × AreNarrowInside b
+IsNarrowAt ts j = (t : DeclaredTemplate) → slice_get ts j ≡ Some t
+    → (es : List Entry) × (b : Body) × (n m : ℕ) × InPlace ts es nesting_limit (scope_of j t) t.fields n b m
+    × (suc (bits_of b) ≤ segment_limit) × AreNarrowInside b
 
 no_width : (ts : List DeclaredTemplate) (j : ℕ) → AllPairs (λ a b. a.name ≢ b.name) ts → IsNarrowAt ts j → StandsAt ts C5 j → ⊥
 unfolding IsNarrowAt
@@ -147,16 +159,20 @@ no_width ts j apart narrow (body, (es, t, n, m, found, there), wide) =
 -- what a condition that stands shows, by the number of its pass
 by_pass : (ts : List DeclaredTemplate) (Q : ℕ → ℕ → Type 0) → ((j : ℕ) → StandsAt ts C1 j → Q 1 j) → ((j : ℕ) → StandsAt ts C2 j → Q 2 j)
     → ((j : ℕ) → (((t : DeclaredTemplate) → slice_get ts j ≡ Some t → All IsSound (all_uses t.fields)) → ⊥) → Q 3 j)
-    → ((j : ℕ) → StandsAt ts D8 j → Q 4 j) → ((j : ℕ) → StandsAt ts C3 j → Q 5 j) → ((j : ℕ) → StandsAt ts C4 j → Q 6 j) → ((j : ℕ) → StandsAt ts C6 j → Q 7 j) → ((j : ℕ) → StandsAt ts C5 j → Q 8 j)
+    → ((j : ℕ) → StandsAt ts D8 j → Q 4 j) → ((j : ℕ) → StandsAt ts C3 j → Q 5 j) → ((j : ℕ) → StandsAt ts C4 j → Q 6 j)
+    → ((j : ℕ) → StandsAt ts C6 j → Q 7 j) → ((j : ℕ) → StandsAt ts C5 j → Q 8 j)
     → (c : StaticCode) (j : ℕ) → StandsAt ts c j → Q (pass_of c) j
 by_pass ts Q names ids uses refs cycles deep many wide S1 j s = absurd s
 by_pass ts Q names ids uses refs cycles deep many wide C1 j s = names j s
 by_pass ts Q names ids uses refs cycles deep many wide C2 j s = ids j s
-by_pass ts Q names ids uses refs cycles deep many wide S2 j (t, found, bad) = uses j (λ sound. any_unsound IsS2 (λ u h. h.suited) (all_uses t.fields) (sound t found) bad)
+by_pass ts Q names ids uses refs cycles deep many wide S2 j (t, found, bad) =
+    uses j (λ sound. any_unsound IsS2 (λ u h. h.suited) (all_uses t.fields) (sound t found) bad)
 by_pass ts Q names ids uses refs cycles deep many wide S3 j (t, found, bad) =
     uses j (λ sound. any_unsound IsS3 (λ u h none. none h.initial.0 h.initial.1) (all_uses t.fields) (sound t found) bad)
-by_pass ts Q names ids uses refs cycles deep many wide S4 j (t, found, bad) = uses j (λ sound. any_unsound IsS4 (λ u h. h.constant) (all_uses t.fields) (sound t found) bad)
-by_pass ts Q names ids uses refs cycles deep many wide S5 j (t, found, bad) = uses j (λ sound. any_unsound IsS5 (λ u h. h.default) (all_uses t.fields) (sound t found) bad)
+by_pass ts Q names ids uses refs cycles deep many wide S4 j (t, found, bad) =
+    uses j (λ sound. any_unsound IsS4 (λ u h. h.constant) (all_uses t.fields) (sound t found) bad)
+by_pass ts Q names ids uses refs cycles deep many wide S5 j (t, found, bad) =
+    uses j (λ sound. any_unsound IsS5 (λ u h. h.default) (all_uses t.fields) (sound t found) bad)
 by_pass ts Q names ids uses refs cycles deep many wide D8 j s = refs j s
 by_pass ts Q names ids uses refs cycles deep many wide C3 j s = cycles j s
 by_pass ts Q names ids uses refs cycles deep many wide C4 j s = deep j s
@@ -176,25 +192,35 @@ earlier n j k (inr h) = h.1
 
 pub first_name : (ts : List DeclaredTemplate) (k : ℕ) → AllPairs (λ a b. a.name ≢ b.name) (take k ts) → IsFirst ts C1 k
 first_name ts k apart c j told s =
-    by_pass ts (λ p i. ComesBefore p i 1 k → ⊥) (λ i at here. no_name_before ts k apart i (earlier 1 i k here) at) (λ i at. later 2 1 i k (omega arith)) (λ i bad. later 3 1 i k (omega arith))
-    (λ i at. later 4 1 i k (omega arith)) (λ i at. later 5 1 i k (omega arith)) (λ i at. later 6 1 i k (omega arith)) (λ i at. later 7 1 i k (omega arith)) (λ i at. later 8 1 i k (omega arith)) c j s told
+    by_pass ts (λ p i. ComesBefore p i 1 k → ⊥) (λ i at here. no_name_before ts k apart i (earlier 1 i k here) at)
+    (λ i at. later 2 1 i k (omega arith)) (λ i bad. later 3 1 i k (omega arith))
+    (λ i at. later 4 1 i k (omega arith)) (λ i at. later 5 1 i k (omega arith)) (λ i at. later 6 1 i k (omega arith))
+    (λ i at. later 7 1 i k (omega arith)) (λ i at. later 8 1 i k (omega arith)) c j s told
 
-pub first_id : (ts : List DeclaredTemplate) (k : ℕ) → AllPairs (λ a b. a.name ≢ b.name) ts → AllPairs (λ a b. (id : ℕ) → a.id ≡ Some id → b.id ≢ Some id) (take k ts) → IsFirst ts C2 k
+pub first_id : (ts : List DeclaredTemplate) (k : ℕ) → AllPairs (λ a b. a.name ≢ b.name) ts
+    → AllPairs (λ a b. (id : ℕ) → a.id ≡ Some id → b.id ≢ Some id) (take k ts) → IsFirst ts C2 k
 first_id ts k names apart c j told s =
-    by_pass ts (λ p i. ComesBefore p i 2 k → ⊥) (λ i at here. no_name ts names i at) (λ i at here. no_id_before ts k apart i (earlier 2 i k here) at) (λ i bad. later 3 2 i k (omega arith))
-    (λ i at. later 4 2 i k (omega arith)) (λ i at. later 5 2 i k (omega arith)) (λ i at. later 6 2 i k (omega arith)) (λ i at. later 7 2 i k (omega arith)) (λ i at. later 8 2 i k (omega arith)) c j s told
+    by_pass ts (λ p i. ComesBefore p i 2 k → ⊥) (λ i at here. no_name ts names i at)
+    (λ i at here. no_id_before ts k apart i (earlier 2 i k here) at) (λ i bad. later 3 2 i k (omega arith))
+    (λ i at. later 4 2 i k (omega arith)) (λ i at. later 5 2 i k (omega arith)) (λ i at. later 6 2 i k (omega arith))
+    (λ i at. later 7 2 i k (omega arith)) (λ i at. later 8 2 i k (omega arith)) c j s told
 
 -- the uses of a template before one are sound
-sound_before : (ts : List DeclaredTemplate) (k j : ℕ) → All (λ t. All IsSound (all_uses t.fields)) (take k ts) → j < k → (t : DeclaredTemplate) → slice_get ts j ≡ Some t → All IsSound (all_uses t.fields)
+sound_before : (ts : List DeclaredTemplate) (k j : ℕ) → All (λ t. All IsSound (all_uses t.fields)) (take k ts) → j < k
+    → (t : DeclaredTemplate) → slice_get ts j ≡ Some t → All IsSound (all_uses t.fields)
 sound_before ts k j sound below t at = one_of (λ (u : DeclaredTemplate). All IsSound (all_uses u.fields)) (take k ts) j t sound (taken_at k j ts t below at)
 
-use_first : (ts : List DeclaredTemplate) (k : ℕ) → AllPairs (λ a b. a.name ≢ b.name) ts → AllPairs (λ a b. (id : ℕ) → a.id ≡ Some id → b.id ≢ Some id) ts → All (λ t. All IsSound (all_uses t.fields)) (take k ts)
+use_first : (ts : List DeclaredTemplate) (k : ℕ) → AllPairs (λ a b. a.name ≢ b.name) ts
+    → AllPairs (λ a b. (id : ℕ) → a.id ≡ Some id → b.id ≢ Some id) ts → All (λ t. All IsSound (all_uses t.fields)) (take k ts)
     → (c : StaticCode) (j : ℕ) → ComesBefore (pass_of c) j 3 k → StandsAt ts c j → ⊥
 use_first ts k names ids sound c j told s =
-    by_pass ts (λ p i. ComesBefore p i 3 k → ⊥) (λ i at here. no_name ts names i at) (λ i at here. no_id ts ids i at) (λ i bad here. bad (sound_before ts k i sound (earlier 3 i k here)))
-    (λ i at. later 4 3 i k (omega arith)) (λ i at. later 5 3 i k (omega arith)) (λ i at. later 6 3 i k (omega arith)) (λ i at. later 7 3 i k (omega arith)) (λ i at. later 8 3 i k (omega arith)) c j s told
+    by_pass ts (λ p i. ComesBefore p i 3 k → ⊥) (λ i at here. no_name ts names i at) (λ i at here. no_id ts ids i at)
+    (λ i bad here. bad (sound_before ts k i sound (earlier 3 i k here)))
+    (λ i at. later 4 3 i k (omega arith)) (λ i at. later 5 3 i k (omega arith)) (λ i at. later 6 3 i k (omega arith))
+    (λ i at. later 7 3 i k (omega arith)) (λ i at. later 8 3 i k (omega arith)) c j s told
 
-pub first_use : (ts : List DeclaredTemplate) (k : ℕ) (code : StaticCode) → pass_of code ≡ 3 → AllPairs (λ a b. a.name ≢ b.name) ts → AllPairs (λ a b. (id : ℕ) → a.id ≡ Some id → b.id ≢ Some id) ts
+pub first_use : (ts : List DeclaredTemplate) (k : ℕ) (code : StaticCode) → pass_of code ≡ 3 → AllPairs (λ a b. a.name ≢ b.name) ts
+    → AllPairs (λ a b. (id : ℕ) → a.id ≡ Some id → b.id ≢ Some id) ts
     → All (λ t. All IsSound (all_uses t.fields)) (take k ts) → IsFirst ts code k
 first_use ts k S2 is names ids sound = use_first ts k names ids sound
 first_use ts k S3 is names ids sound = use_first ts k names ids sound
@@ -219,29 +245,37 @@ pub record AreNamed (ts : List DeclaredTemplate) : Type 0 where
 all_sound : (ts : List DeclaredTemplate) (j : ℕ) → AreNamed ts → (t : DeclaredTemplate) → slice_get ts j ≡ Some t → All IsSound (all_uses t.fields)
 all_sound ts j w t at = one_of (λ (u : DeclaredTemplate). All IsSound (all_uses u.fields)) ts j t w.sound at
 
-pub first_reference : (ts : List DeclaredTemplate) (k : ℕ) → AreNamed ts → All (λ t. All (λ name. IsSome (place_of_name name ts)) (all_references t.fields)) (take k ts) → IsFirst ts D8 k
+pub first_reference : (ts : List DeclaredTemplate) (k : ℕ) → AreNamed ts
+    → All (λ t. All (λ name. IsSome (place_of_name name ts)) (all_references t.fields)) (take k ts) → IsFirst ts D8 k
 first_reference ts k w known c j told s =
     by_pass ts (λ p i. ComesBefore p i 4 k → ⊥) (λ i at here. no_name ts w.names i at) (λ i at here. no_id ts w.ids i at) (λ i bad here. bad (all_sound ts i w))
     (λ i at here. no_reference ts i (λ t found.
-    one_of (λ (u : DeclaredTemplate). All (λ name. IsSome (place_of_name name ts)) (all_references u.fields)) (take k ts) i t known (taken_at k i ts t (earlier 4 i k here) found)) at)
-    (λ i at. later 5 4 i k (omega arith)) (λ i at. later 6 4 i k (omega arith)) (λ i at. later 7 4 i k (omega arith)) (λ i at. later 8 4 i k (omega arith)) c j s told
+    one_of (λ (u : DeclaredTemplate). All (λ name. IsSome (place_of_name name ts)) (all_references u.fields)) (take k ts) i t known
+    (taken_at k i ts t (earlier 4 i k here) found)) at)
+    (λ i at. later 5 4 i k (omega arith)) (λ i at. later 6 4 i k (omega arith)) (λ i at. later 7 4 i k (omega arith))
+    (λ i at. later 8 4 i k (omega arith)) c j s told
 
 -- the references of a template are known
-known_at : (ts : List DeclaredTemplate) (j : ℕ) → KnowsReferences ts → (t : DeclaredTemplate) → slice_get ts j ≡ Some t → All (λ name. IsSome (place_of_name name ts)) (all_references t.fields)
+known_at : (ts : List DeclaredTemplate) (j : ℕ) → KnowsReferences ts → (t : DeclaredTemplate) → slice_get ts j ≡ Some t
+    → All (λ name. IsSome (place_of_name name ts)) (all_references t.fields)
 known_at ts j known t at = one_of (λ (u : DeclaredTemplate). All (λ name. IsSome (place_of_name name ts)) (all_references u.fields)) ts j t known at
 
 pub first_cycle : (ts : List DeclaredTemplate) (k : ℕ) → AreNamed ts → KnowsReferences ts → ((j : ℕ) → j < k → ¬ (StandsAt ts C3 j)) → IsFirst ts C3 k
 first_cycle ts k w known first c j told s =
     by_pass ts (λ p i. ComesBefore p i 5 k → ⊥) (λ i at here. no_name ts w.names i at) (λ i at here. no_id ts w.ids i at) (λ i bad here. bad (all_sound ts i w))
-    (λ i at here. no_reference ts i (known_at ts i known) at) (λ i at here. first i (earlier 5 i k here) at) (λ i at. later 6 5 i k (omega arith)) (λ i at. later 7 5 i k (omega arith)) (λ i at. later 8 5 i k (omega arith)) c j s told
+    (λ i at here. no_reference ts i (known_at ts i known) at) (λ i at here. first i (earlier 5 i k here) at)
+    (λ i at. later 6 5 i k (omega arith)) (λ i at. later 7 5 i k (omega arith)) (λ i at. later 8 5 i k (omega arith)) c j s told
 
 -- a template before one fits, and is not too deep
-chained_at : (all ts : List DeclaredTemplate) (j : ℕ) → AreChained all ts → (t : DeclaredTemplate) → slice_get ts j ≡ Some t → Fits all nesting_limit t.fields × (depth_in all nesting_limit t.fields ≤ nesting_limit)
-chained_at all ts j h t at = one_of (λ (u : DeclaredTemplate). Fits all nesting_limit u.fields × (depth_in all nesting_limit u.fields ≤ nesting_limit)) ts j t h at
+chained_at : (all ts : List DeclaredTemplate) (j : ℕ) → AreChained all ts → (t : DeclaredTemplate) → slice_get ts j ≡ Some t
+    → Fits all nesting_limit t.fields × (depth_in all nesting_limit t.fields ≤ nesting_limit)
+chained_at all ts j h t at = one_of (λ (u : DeclaredTemplate). Fits all nesting_limit u.fields
+    × (depth_in all nesting_limit u.fields ≤ nesting_limit)) ts j t h at
 
 pub first_depth : (ts : List DeclaredTemplate) (k : ℕ) → AreNamed ts → KnowsReferences ts → AreChained ts (take k ts) → IsFirst ts C4 k
 first_depth ts k w known chained c j told s =
-    by_pass ts (λ p i. (p < 5) ⊎ (p ≤ 6) × (i < k) → ⊥) (λ i at here. no_name ts w.names i at) (λ i at here. no_id ts w.ids i at) (λ i bad here. bad (all_sound ts i w))
+    by_pass ts (λ p i. (p < 5) ⊎ (p ≤ 6) × (i < k) → ⊥) (λ i at here. no_name ts w.names i at) (λ i at here. no_id ts w.ids i at)
+    (λ i bad here. bad (all_sound ts i w))
     (λ i at here. no_reference ts i (known_at ts i known) at) (λ i at here. no_cycle ts i (λ t found. (before i (low 5 i (omega arith) here) t found).0) at)
     (λ i at here. no_depth ts i w.names (before i (low 6 i (omega arith) here)) at) (λ i at. high 7 i (omega arith)) (λ i at. high 8 i (omega arith)) c j s told
   where
@@ -253,13 +287,17 @@ first_depth ts k w known chained c j told s =
     high p i above (inl h) = omega (arith, above, h)
     high p i above (inr h) = let m = h.0 in omega (arith, above, m)
 
-    before : (i : ℕ) → i < k → (t : DeclaredTemplate) → slice_get ts i ≡ Some t → Fits ts nesting_limit t.fields × (depth_in ts nesting_limit t.fields ≤ nesting_limit)
+    before : (i : ℕ) → i < k → (t : DeclaredTemplate) → slice_get ts i ≡ Some t
+        → Fits ts nesting_limit t.fields × (depth_in ts nesting_limit t.fields ≤ nesting_limit)
     before i below t found = chained_at ts (take k ts) i chained t (taken_at k i ts t below found)
 
-pub first_many : (ts : List DeclaredTemplate) (k : ℕ) → AreNamed ts → KnowsReferences ts → AreChained ts ts → sum_by (λ t. nodes_in ts nesting_limit t.fields) (take k ts) ≤ node_limit → IsFirst ts C6 k
+pub first_many : (ts : List DeclaredTemplate) (k : ℕ) → AreNamed ts → KnowsReferences ts → AreChained ts ts
+    → sum_by (λ t. nodes_in ts nesting_limit t.fields) (take k ts) ≤ node_limit → IsFirst ts C6 k
 first_many ts k w known chained few c j told s =
     by_pass ts (λ p i. ComesBefore p i 7 k → ⊥) (λ i at here. no_name ts w.names i at) (λ i at here. no_id ts w.ids i at) (λ i bad here. bad (all_sound ts i w))
-    (λ i at here. no_reference ts i (known_at ts i known) at) (λ i at here. no_cycle ts i (λ t found. (chained_at ts ts i chained t found).0) at) (λ i at here. no_depth ts i w.names (chained_at ts ts i chained) at)
+    (λ i at here. no_reference ts i (known_at ts i known) at)
+    (λ i at here. no_cycle ts i (λ t found. (chained_at ts ts i chained t found).0) at)
+    (λ i at here. no_depth ts i w.names (chained_at ts ts i chained) at)
     (λ i at here. no_nodes ts i w.names (few_before i (earlier 7 i k here)) at) (λ i at. later 8 7 i k (omega arith)) c j s told
   where
     few_before : (i : ℕ) → i < k → sum_by (λ t. nodes_in ts nesting_limit t.fields) (take (suc i) ts) ≤ node_limit
@@ -267,12 +305,15 @@ first_many ts k w known chained few c j told s =
         let r = sum_of_fronts (λ (t : DeclaredTemplate). nodes_in ts nesting_limit t.fields) ts (suc i) k (omega (arith, below)) in
         omega (arith, r, few)
 
-pub first_width : (ts : List DeclaredTemplate) (built : BuiltSet) (k : ℕ) → AreNamed ts → KnowsReferences ts → AreChained ts ts → sum_by (λ t. nodes_in ts nesting_limit t.fields) ts ≤ node_limit → IsSetBuilt ts built
+pub first_width : (ts : List DeclaredTemplate) (built : BuiltSet) (k : ℕ) → AreNamed ts → KnowsReferences ts → AreChained ts ts
+    → sum_by (λ t. nodes_in ts nesting_limit t.fields) ts ≤ node_limit → IsSetBuilt ts built
     → All IsNarrow (take k (map (template_data (instructions_from 0 built.nodes.items)) built.templates.items)) → IsFirst ts C5 k
 unfolding IsNarrowAt
 first_width ts built k w known chained few b narrow c j told s =
     by_pass ts (λ p i. ComesBefore p i 8 k → ⊥) (λ i at here. no_name ts w.names i at) (λ i at here. no_id ts w.ids i at) (λ i bad here. bad (all_sound ts i w))
-    (λ i at here. no_reference ts i (known_at ts i known) at) (λ i at here. no_cycle ts i (λ t found. (chained_at ts ts i chained t found).0) at) (λ i at here. no_depth ts i w.names (chained_at ts ts i chained) at)
+    (λ i at here. no_reference ts i (known_at ts i known) at)
+    (λ i at here. no_cycle ts i (λ t found. (chained_at ts ts i chained t found).0) at)
+    (λ i at here. no_depth ts i w.names (chained_at ts ts i chained) at)
     (λ i at here. no_nodes ts i w.names (few_all i) at) (λ i at here. no_width ts i w.names (narrow_before i (earlier 8 i k here)) at) c j s told
   where
     few_all : (i : ℕ) → sum_by (λ t. nodes_in ts nesting_limit t.fields) (take (suc i) ts) ≤ node_limit
@@ -297,7 +338,8 @@ first_width ts built k w known chained few b narrow c j told s =
 
 -- ---- what is told of a text
 
-pub names_first : (ts : List DeclaredTemplate) (code : StaticCode) (template : Option ℕ) → IfSome template (λ k. (code ≡ C1) × AllPairs (λ a b. a.name ≢ b.name) (take k ts)) → IfSome template (IsFirst ts code)
+pub names_first : (ts : List DeclaredTemplate) (code : StaticCode) (template : Option ℕ)
+    → IfSome template (λ k. (code ≡ C1) × AllPairs (λ a b. a.name ≢ b.name) (take k ts)) → IfSome template (IsFirst ts code)
 names_first ts code None h = tt
 names_first ts code (Some k) (is, apart) = subst (λ c. IsFirst ts c k) (sym is) (first_name ts k apart)
 
@@ -306,17 +348,20 @@ pub ids_first : (ts : List DeclaredTemplate) (code : StaticCode) (template : Opt
 ids_first ts code None names h = tt
 ids_first ts code (Some k) names (is, apart) = subst (λ c. IsFirst ts c k) (sym is) (first_id ts k names apart)
 
-pub uses_first : (ts : List DeclaredTemplate) (code : StaticCode) (template : Option ℕ) → AllPairs (λ a b. a.name ≢ b.name) ts → AllPairs (λ a b. (id : ℕ) → a.id ≡ Some id → b.id ≢ Some id) ts
+pub uses_first : (ts : List DeclaredTemplate) (code : StaticCode) (template : Option ℕ) → AllPairs (λ a b. a.name ≢ b.name) ts
+    → AllPairs (λ a b. (id : ℕ) → a.id ≡ Some id → b.id ≢ Some id) ts
     → IfSome template (λ k. (pass_of code ≡ 3) × All (λ t. All IsSound (all_uses t.fields)) (take k ts)) → IfSome template (IsFirst ts code)
 uses_first ts code None names ids h = tt
 uses_first ts code (Some k) names ids (is, sound) = first_use ts k code is names ids sound
 
 pub references_first : (ts : List DeclaredTemplate) (code : StaticCode) (template : Option ℕ) → AreNamed ts
-    → IfSome template (λ k. (code ≡ D8) × All (λ t. All (λ name. IsSome (place_of_name name ts)) (all_references t.fields)) (take k ts)) → IfSome template (IsFirst ts code)
+    → IfSome template (λ k. (code ≡ D8) × All (λ t. All (λ name. IsSome (place_of_name name ts)) (all_references t.fields)) (take k ts))
+    → IfSome template (IsFirst ts code)
 references_first ts code None w h = tt
 references_first ts code (Some k) w (is, known) = subst (λ c. IsFirst ts c k) (sym is) (first_reference ts k w known)
 
-pub chains_first : (ts : List DeclaredTemplate) (code : StaticCode) (template : Option ℕ) → AreNamed ts → KnowsReferences ts → IfSome template (IsFirstInChains ts code) → IfSome template (IsFirst ts code)
+pub chains_first : (ts : List DeclaredTemplate) (code : StaticCode) (template : Option ℕ) → AreNamed ts → KnowsReferences ts
+    → IfSome template (IsFirstInChains ts code) → IfSome template (IsFirst ts code)
 chains_first ts code None w known h = tt
 chains_first ts C3 (Some k) w known h = first_cycle ts k w known h
 chains_first ts C4 (Some k) w known h = first_depth ts k w known h
@@ -333,7 +378,8 @@ chains_first ts C5 (Some k) w known h = absurd h
 chains_first ts Memory (Some k) w known h = absurd h
 
 -- the first fault of a set that a document writes
-pub written_first : (read : Option Members) (document : Members) (ts : List DeclaredTemplate) (code : StaticCode) (template : Option ℕ) → read ≡ Some document → WritesSet document ts → IsFaultAt ts code template
+pub written_first : (read : Option Members) (document : Members) (ts : List DeclaredTemplate) (code : StaticCode) (template : Option ℕ)
+    → read ≡ Some document → WritesSet document ts → IsFaultAt ts code template
     → IfSome template (IsFirst ts code) → IsFirstFault read code template
 written_first read document ts code template is shape fault first = (
   λ other us is_too w.
@@ -347,11 +393,14 @@ written_first read document ts code template is shape fault first = (
     no_table (Some k) h = h
 
 -- that of a text that writes none
-pub unwritten_first : (read : Option Members) (code : StaticCode) (template : Option ℕ) → IfSome template (λ k. (code ≡ S1) × IsFirstUnwritten read k) → IsFirstFault read code template
+pub unwritten_first : (read : Option Members) (code : StaticCode) (template : Option ℕ)
+    → IfSome template (λ k. (code ≡ S1) × IsFirstUnwritten read k) → IsFirstFault read code template
 unwritten_first read code None h = ((λ document ts is w. tt), λ unread. tt)
 unwritten_first read code (Some k) (is, first) = ((λ document ts is_too w. subst (λ c. IsFirst ts c k) (sym is) (first_of_all ts)), λ unread. first)
   where
     first_of_all : (ts : List DeclaredTemplate) → IsFirst ts S1 k
     first_of_all ts c j told s =
-        by_pass ts (λ p i. ComesBefore p i 0 k → ⊥) (λ i at. later 1 0 i k (omega arith)) (λ i at. later 2 0 i k (omega arith)) (λ i bad. later 3 0 i k (omega arith))
-        (λ i at. later 4 0 i k (omega arith)) (λ i at. later 5 0 i k (omega arith)) (λ i at. later 6 0 i k (omega arith)) (λ i at. later 7 0 i k (omega arith)) (λ i at. later 8 0 i k (omega arith)) c j s told
+        by_pass ts (λ p i. ComesBefore p i 0 k → ⊥) (λ i at. later 1 0 i k (omega arith)) (λ i at. later 2 0 i k (omega arith))
+        (λ i bad. later 3 0 i k (omega arith))
+        (λ i at. later 4 0 i k (omega arith)) (λ i at. later 5 0 i k (omega arith)) (λ i at. later 6 0 i k (omega arith))
+        (λ i at. later 7 0 i k (omega arith)) (λ i at. later 8 0 i k (omega arith)) c j s told

@@ -1,5 +1,6 @@
 -- A text that is at fault stands for no tree.
-use Rattle.std.proofs.Common.{◌≡◌, ◌≢◌, ◌⊎◌, inl, inr, ℕ, ◌+◌, ◌<◌, ◌≤◌, zero, suc, List, [], ◌∷◌, ◌++◌, length, take, slice_get, refl, ap, sym, ◌∙◌, subst, arith, Option, Some, None}
+use Rattle.std.proofs.Common.{◌≡◌, ◌≢◌, ◌⊎◌, inl, inr, ℕ, ◌+◌, ◌<◌, ◌≤◌, zero, suc, List, [], ◌∷◌, ◌++◌, length, take, slice_get, refl, ap}
+use Rattle.std.proofs.Common.{sym, ◌∙◌, subst, arith, Option, Some, None}
 use Rattle.std.specs.Prelude.{All, Any, AllPairs, Contains, sum_by, codes}
 use Rattle.std.proofs.lemmas.Bool.{cases_order}
 use Rattle.std.proofs.lemmas.List.Elements.{All-nil, All-cons, All-append}
@@ -47,7 +48,8 @@ tables_written xs (t ∷ ts) (ms, rest, is, w, others) =
     let r = tables_written rest ts others in
     subst (λ ys. AreTables ys × (items_count ys ≡ suc (length ts))) (sym is) ((ms, refl, r.0), ap suc r.1)
 
-written_at : (xs : Items) (ts : List DeclaredTemplate) (k : ℕ) (ms : Members) → WritesTemplates xs ts → get_item k xs ≡ Some (table ms) → (t : DeclaredTemplate) × WritesTemplate ms t
+written_at : (xs : Items) (ts : List DeclaredTemplate) (k : ℕ) (ms : Members) → WritesTemplates xs ts → get_item k xs ≡ Some (table ms)
+    → (t : DeclaredTemplate) × WritesTemplate ms t
 written_at xs [] k ms h found = absurd (nothing_there k (sym (ap (get_item k) h) ∙ found))
   where
     nothing_there : (k : ℕ) → get_item k no_items ≡ Some (table ms) → ⊥
@@ -60,7 +62,8 @@ written_at xs (t ∷ ts) zero ms (ns, rest, is, w, others) found = (t, subst (λ
 written_at xs (t ∷ ts) (suc k) ms (ns, rest, is, w, others) found = written_at rest ts k ms others (sym (ap (get_item (suc k)) is) ∙ found)
 
 -- a text that writes no set
-not_unwritten : (read : Option Members) (code : StaticCode) (template : Option ℕ) (document : Members) (ts : List DeclaredTemplate) → code ≢ Memory → read ≡ Some document → WritesSet document ts → IsUnwritten read code template → ⊥
+not_unwritten : (read : Option Members) (code : StaticCode) (template : Option ℕ) (document : Members) (ts : List DeclaredTemplate)
+    → code ≢ Memory → read ≡ Some document → WritesSet document ts → IsUnwritten read code template → ⊥
 not_unwritten read S1 None document ts other is (xs, doc, w, some, few) h =
     let t = tables_written xs ts w in
     let n = t.1 in
@@ -89,19 +92,34 @@ not_unwritten read C6 template document ts other is w h = h
 -- ---- templates in place
 
 -- what is in place of a template
-pub in_place_of : (all : List DeclaredTemplate) (entries : List Entry) (k : ℕ) (ts : List DeclaredTemplate) (n m : ℕ) (us : List TemplateData) (i : ℕ) (t : DeclaredTemplate) → AreInPlace all entries k ts n us m
-    → slice_get ts i ≡ Some t → (u : TemplateData) × (a b : ℕ) × (slice_get us i ≡ Some u) × InPlace all entries nesting_limit (scope_of (k + i) t) t.fields a u.body b
+pub in_place_of : (all : List DeclaredTemplate) (entries : List Entry) (k : ℕ) (ts : List DeclaredTemplate) (n m : ℕ)
+    (us : List TemplateData) (i : ℕ) (t : DeclaredTemplate) → AreInPlace all entries k ts n us m
+    → slice_get ts i ≡ Some t → (u : TemplateData) × (a b : ℕ) × (slice_get us i ≡ Some u)
+    × InPlace all entries nesting_limit (scope_of (k + i) t) t.fields a u.body b
 in_place_of all entries k [] n m us i t h found = absurd (cc)
 in_place_of all entries k (s ∷ ts) n m [] i t h found = absurd h
 in_place_of all entries k (s ∷ ts) n m (u ∷ us) zero t (mid, name, id, reset, body, rest) found =
-    let is : s ≡ t = some_is found in
-    (u, n, mid, refl, subst (λ v. InPlace all entries nesting_limit (scope_of (k + 0) v) v.fields n u.body mid) is (subst (λ j. InPlace all entries nesting_limit (scope_of j s) s.fields n u.body mid) (let e : k ≡ k + 0 = omega arith in e) body))
+    let is : s ≡ t = some_is found in (
+      u,
+      n,
+      mid,
+      refl,
+      subst (λ v. InPlace all entries nesting_limit (scope_of (k + 0) v) v.fields n u.body mid) is
+          (subst (λ j. InPlace all entries nesting_limit (scope_of j s) s.fields n u.body mid) (let e : k ≡ k + 0 = omega arith in e) body),
+    )
 in_place_of all entries k (s ∷ ts) n m (u ∷ us) (suc i) t (mid, name, id, reset, body, rest) found =
-    let r = in_place_of all entries (suc k) ts mid m us i t rest found in
-    (r.0, r.1, r.2, r.3, subst (λ j. InPlace all entries nesting_limit (scope_of j t) t.fields r.1 r.0.body r.2) (let e : suc k + i ≡ k + suc i = omega arith in e) r.4)
+    let r = in_place_of all entries (suc k) ts mid m us i t rest found in (
+      r.0,
+      r.1,
+      r.2,
+      r.3,
+      subst (λ j. InPlace all entries nesting_limit (scope_of j t) t.fields r.1 r.0.body r.2)
+          (let e : suc k + i ≡ k + suc i = omega arith in e) r.4,
+    )
 
 -- each use has a field
-fields_in_place : {ts : List DeclaredTemplate} {entries : List Entry} {chain : ℕ} {s : Scope} {ds : DeclaredList} {n m : ℕ} {b : Body} → InPlace ts entries chain s ds n b m → All (λ u. (f : FieldData) × IsField entries s u f) (all_uses ds)
+fields_in_place : {ts : List DeclaredTemplate} {entries : List Entry} {chain : ℕ} {s : Scope} {ds : DeclaredList} {n m : ℕ} {b : Body}
+    → InPlace ts entries chain s ds n b m → All (λ u. (f : FieldData) × IsField entries s u f) (all_uses ds)
 fields_in_place {entries = entries} {s = s} nothing = All-nil (λ u. (f : FieldData) × IsField entries s u f)
 fields_in_place {entries = entries} {s = s} (a_field {name = name} {optional = optional} {kind = kind} {w = w} {ds = ds} {f = f} is rest) =
     All-cons (λ u. (f : FieldData) × IsField entries s u f) (scalar_use name optional kind w) (all_uses ds) (f, is) (fields_in_place rest)
@@ -110,16 +128,19 @@ fields_in_place {entries = entries} {s = s} (some_parts {name = name} {optional 
     (All-cons (λ u. (f : FieldData) × IsField entries s u f) (mantissa_use name w) (all_uses ds) (f, is_f) (fields_in_place rest))
 fields_in_place {entries = entries} {s = s} (a_group {inner = inner} {ds = ds} body rest) =
     All-append (λ u. (f : FieldData) × IsField entries s u f) (all_uses inner) (all_uses ds) (fields_in_place body) (fields_in_place rest)
-fields_in_place {entries = entries} {s = s} (a_sequence {name = name} {optional = optional} {own = own} {w = w} {inner = inner} {ds = ds} {f = f} is body rest) =
+fields_in_place {entries = entries} {s = s} (a_sequence {name = name} {optional = optional} {own = own} {w = w} {inner = inner} {ds = ds}
+    {f = f} is body rest) =
     All-cons (λ u. (f : FieldData) × IsField entries s u f) (length_use name optional own w) (all_uses inner ++ all_uses ds) (f, is)
     (All-append (λ u. (f : FieldData) × IsField entries s u f) (all_uses inner) (all_uses ds) (fields_in_place body) (fields_in_place rest))
 fields_in_place (a_reference number t found same body rest) = fields_in_place rest
 
 -- the template to which a reference leads, in place in a shorter chain
 abbrev Leads : List DeclaredTemplate → List Entry → ℕ → List ℕ → Type 0
-Leads ts entries chain name = (c number : ℕ) × (t : DeclaredTemplate) × (a b : ℕ) × (body : Body) × (chain ≡ suc c) × (slice_get ts number ≡ Some t) × (t.name ≡ name) × InPlace ts entries c (scope_of number t) t.fields a body b
+Leads ts entries chain name = (c number : ℕ) × (t : DeclaredTemplate) × (a b : ℕ) × (body : Body) × (chain ≡ suc c)
+    × (slice_get ts number ≡ Some t) × (t.name ≡ name) × InPlace ts entries c (scope_of number t) t.fields a body b
 
-references_in_place : {ts : List DeclaredTemplate} {entries : List Entry} {chain : ℕ} {s : Scope} {ds : DeclaredList} {n m : ℕ} {b : Body} → InPlace ts entries chain s ds n b m → All (Leads ts entries chain) (all_references ds)
+references_in_place : {ts : List DeclaredTemplate} {entries : List Entry} {chain : ℕ} {s : Scope} {ds : DeclaredList} {n m : ℕ} {b : Body}
+    → InPlace ts entries chain s ds n b m → All (Leads ts entries chain) (all_references ds)
 references_in_place {ts = ts} {entries = entries} {chain = chain} nothing = All-nil (Leads ts entries chain)
 references_in_place (a_field is rest) = references_in_place rest
 references_in_place (some_parts is_e is_f rest) = references_in_place rest
@@ -131,7 +152,8 @@ references_in_place {ts = ts} {entries = entries} (a_reference {chain = c} {n = 
     All-cons (Leads ts entries (suc c)) name (all_references ds) (c, number, t, n, k, b, refl, found, same, body) (references_in_place rest)
 
 -- a name stands once
-pub one_of_name : (ts : List DeclaredTemplate) (i j : ℕ) (t u : DeclaredTemplate) → AllPairs (λ a b. a.name ≢ b.name) ts → slice_get ts i ≡ Some t → slice_get ts j ≡ Some u → t.name ≡ u.name → i ≡ j
+pub one_of_name : (ts : List DeclaredTemplate) (i j : ℕ) (t u : DeclaredTemplate) → AllPairs (λ a b. a.name ≢ b.name) ts
+    → slice_get ts i ≡ Some t → slice_get ts j ≡ Some u → t.name ≡ u.name → i ≡ j
 one_of_name ts i j t u apart at_i at_j same = elim (cases_order i j) [
   | inl e ↦ e
   | inr (inl h) ↦ absurd (before i j t u h at_i at_j same)
@@ -149,12 +171,14 @@ all_contained : {A : Type 0} (P : A → Type 0) (xs : List A) (x : A) → All P 
 all_contained P xs x h (k, inside, at) = subst P at (h k x inside)
 
 -- no chain is longer than that in which a template is in place
-reach_short : (ts : List DeclaredTemplate) (entries : List Entry) (m chain a b : ℕ) (t : DeclaredTemplate) (s : Scope) (n k : ℕ) (body : Body) → AllPairs (λ a b. a.name ≢ b.name) ts → Reaches ts m a b → slice_get ts a ≡ Some t
+reach_short : (ts : List DeclaredTemplate) (entries : List Entry) (m chain a b : ℕ) (t : DeclaredTemplate) (s : Scope) (n k : ℕ)
+    (body : Body) → AllPairs (λ a b. a.name ≢ b.name) ts → Reaches ts m a b → slice_get ts a ≡ Some t
     → InPlace ts entries chain s t.fields n body k → m ≤ chain
 reach_short ts entries zero chain a b t s n k body apart r at h = omega arith
 reach_short ts entries (suc m) chain a b t s n k body apart (mid, t_too, u, at_a, at_mid, refers, onward) at h =
     let is : t_too ≡ t = some_is (sym at_a ∙ at) in
-    let l = all_contained (Leads ts entries chain) (all_references t.fields) u.name (references_in_place h) (subst (λ (v : DeclaredTemplate). Contains (all_references v.fields) u.name) is refers) in
+    let l = all_contained (Leads ts entries chain) (all_references t.fields) u.name (references_in_place h)
+    (subst (λ (v : DeclaredTemplate). Contains (all_references v.fields) u.name) is refers) in
     let number : l.1 ≡ mid = one_of_name ts l.1 mid l.2 u apart l.7 at_mid l.8 in
     let same : slice_get ts mid ≡ Some l.2 = subst (λ j. slice_get ts j ≡ Some l.2) number l.7 in
     let r = reach_short ts entries m l.0 mid b l.2 (scope_of l.1 l.2) l.3 l.4 l.5 apart onward same l.9 in
@@ -195,10 +219,12 @@ then-narrow (step i is) c h = let r = then-narrow is c h.1 in ((h.0, r.0), r.1)
 
 -- the same use of an operator uses the same bits
 same_bit : {es fs : List Entry} {s : Scope} {u : Use} {f g : FieldData} → IsField es s u f → IsField fs s u g → one_if (uses_bit f) ≡ one_if (uses_bit g)
-same_bit {f = f} {g = g} h i = ap one_if (ap (λ o. operator_uses_bit o f.optional) (h.operator ∙ sym i.operator) ∙ ap (operator_uses_bit g.operator) (h.optional ∙ sym i.optional))
+same_bit {f = f} {g = g} h i = ap one_if (ap (λ o. operator_uses_bit o f.optional) (h.operator ∙ sym i.operator)
+    ∙ ap (operator_uses_bit g.operator) (h.optional ∙ sym i.optional))
 
 -- whatever entries there are, a template's segments have the same bits
-pub same_bits : {ts : List DeclaredTemplate} {es fs : List Entry} {chain : ℕ} {s : Scope} {ds : DeclaredList} {n m j k : ℕ} {b c : Body} → AllPairs (λ a b. a.name ≢ b.name) ts
+pub same_bits : {ts : List DeclaredTemplate} {es fs : List Entry} {chain : ℕ} {s : Scope} {ds : DeclaredList} {n m j k : ℕ} {b c : Body}
+    → AllPairs (λ a b. a.name ≢ b.name) ts
     → InPlace ts es chain s ds n b m → InPlace ts fs chain s ds j c k → (bits_of b ≡ bits_of c) × (AreNarrowInside b → AreNarrowInside c)
 same_bits apart nothing nothing = (refl, λ h. h)
 same_bits apart (a_field is rest) (a_field is_too rest_too) =
@@ -225,10 +251,12 @@ same_bits apart (a_sequence is body rest) (a_sequence is_too body_too rest_too) 
     let r = same_bits apart rest rest_too in
     let same = r.0 in
     (omega (arith, e, same), λ h. (((let w = h.0.0 in omega (arith, w, inner)), i.1 h.0.1), r.1 h.1))
-same_bits {ts = ts} {fs = fs} apart (a_reference {chain = chain} {body = b} {is = is} number t found same body rest) (a_reference {n = j} {k = k} {body = c} {is = js} number_too t_too found_too same_too body_too rest_too) =
+same_bits {ts = ts} {fs = fs} apart (a_reference {chain = chain} {body = b} {is = is} number t found same body rest)
+    (a_reference {n = j} {k = k} {body = c} {is = js} number_too t_too found_too same_too body_too rest_too) =
     let number_is : number_too ≡ number = one_of_name ts number_too number t_too t apart found_too found (same_too ∙ sym same) in
     let t_is : t_too ≡ t = some_is (sym found_too ∙ ap (slice_get ts) number_is ∙ found) in
-    let there = subst (λ v. InPlace ts fs chain (scope_of number v) v.fields j c k) t_is (subst (λ i. InPlace ts fs chain (scope_of i t_too) t_too.fields j c k) number_is body_too) in
+    let there = subst (λ v. InPlace ts fs chain (scope_of number v) v.fields j c k) t_is
+    (subst (λ i. InPlace ts fs chain (scope_of i t_too) t_too.fields j c k) number_is body_too) in
     let i = same_bits apart body there in
     let r = same_bits apart rest rest_too in
     let first = i.0 in
@@ -257,10 +285,12 @@ module _ {document : Members} {tree : Tree} (h : IsTree document tree) where
 
   -- a template's body in the tree
   template_body : (k : ℕ) (t : DeclaredTemplate) → slice_get h.written k ≡ Some t
-      → (u : TemplateData) × (a b : ℕ) × (slice_get tree.templates k ≡ Some u) × InPlace h.written h.entries nesting_limit (scope_of (0 + k) t) t.fields a u.body b
+      → (u : TemplateData) × (a b : ℕ) × (slice_get tree.templates k ≡ Some u)
+      × InPlace h.written h.entries nesting_limit (scope_of (0 + k) t) t.fields a u.body b
   template_body k t found = in_place_of h.written h.entries 0 h.written 0 h.nodes tree.templates k t h.in_place found
 
-  no_unsuited : (P : Use → Type 0) (k : ℕ) (t : DeclaredTemplate) → slice_get h.written k ≡ Some t → All (λ u. ¬ (P u)) (all_uses t.fields) → Any P (all_uses t.fields) → ⊥
+  no_unsuited : (P : Use → Type 0) (k : ℕ) (t : DeclaredTemplate) → slice_get h.written k ≡ Some t → All (λ u. ¬ (P u)) (all_uses t.fields)
+      → Any P (all_uses t.fields) → ⊥
   no_unsuited P k t found all (j, u, inside, at, bad) = subst (λ v. ¬ (P v)) at (all j u inside) bad
 
   no_long_chain : (k b m : ℕ) → nesting_limit < m → Reaches h.written m k b → ⊥
@@ -277,7 +307,8 @@ module _ {document : Members} {tree : Tree} (h : IsTree document tree) where
       let a = in_place-depth h.written es nesting_limit (scope_of k t) t.fields n m body h.names there in
       let b = in_place-depth h.written h.entries nesting_limit (scope_of (0 + k) t) t.fields p.1 p.2 p.0.body h.names p.4 in
       let e = get_or_from_slice_get tree.templates k p.0 p.0 p.3 in
-      let limit : body_depth p.0.body ≤ nesting_limit = subst (λ (v : TemplateData). body_depth v.body ≤ nesting_limit) e (h.shallow k p.0 (slice_get_within tree.templates k p.0 p.3)) in
+      let limit : body_depth p.0.body ≤ nesting_limit = subst (λ (v : TemplateData). body_depth v.body ≤ nesting_limit) e
+      (h.shallow k p.0 (slice_get_within tree.templates k p.0 p.3)) in
       omega (arith, a, b, limit, deep)
 
   no_wide_body : (k : ℕ) (body : Body) → IsBodyOf h.written k body → (segment_limit < suc (bits_of body)) ⊎ ¬ (AreNarrowInside body) → ⊥
@@ -318,7 +349,8 @@ module _ {document : Members} {tree : Tree} (h : IsTree document tree) where
   nothing_stands C2 k (j, id, t, u, before, at_j, at_k, has, has_too) =
       let e = get_or_from_slice_get h.written j t t at_j in
       let f = get_or_from_slice_get h.written k u t at_k in
-      h.ids j k t before (slice_get_within h.written k u at_k) id (ap (λ (x : DeclaredTemplate). x.id) e ∙ has) (ap (λ (x : DeclaredTemplate). x.id) f ∙ has_too)
+      h.ids j k t before (slice_get_within h.written k u at_k) id (ap (λ (x : DeclaredTemplate). x.id) e ∙ has)
+      (ap (λ (x : DeclaredTemplate). x.id) f ∙ has_too)
   nothing_stands C3 k (n, r) =
       let long = many_rounds n 65 in
       no_long_chain k k (rounds n 65) (omega (arith, long)) (reach_round h.written n k 65 r)
@@ -345,9 +377,11 @@ module _ {document : Members} {tree : Tree} (h : IsTree document tree) where
   no_fault_at C6 None other s = s
 
 -- A text in which the condition of a code stands, other than want of memory, stands for no tree.
-pub no_tree : (read : Option Members) (code : StaticCode) (template : Option ℕ) → IsAtFault read code template → code ≢ Memory → (document : Members) (tree : Tree) → read ≡ Some document → IsTree document tree → ⊥
+pub no_tree : (read : Option Members) (code : StaticCode) (template : Option ℕ) → IsAtFault read code template → code ≢ Memory
+    → (document : Members) (tree : Tree) → read ≡ Some document → IsTree document tree → ⊥
 no_tree read code template (inl unwritten) other document tree is h = not_unwritten read code template document h.written other is h.shape unwritten
 no_tree read code template (inr fault) other document tree is h =
     let same_document : fault.document ≡ document = some_is (sym fault.reads ∙ is) in
-    let same : fault.written ≡ h.written = one_set document fault.written h.written (subst (λ d. WritesSet d fault.written) same_document fault.shape) h.shape in
+    let same : fault.written ≡ h.written = one_set document fault.written h.written
+    (subst (λ d. WritesSet d fault.written) same_document fault.shape) h.shape in
     no_fault_at h code template other (subst (λ ts. IsFaultAt ts code template) same fault.stands)

@@ -28,7 +28,8 @@ use Rattle.fast_notation.proofs.lists.EntryLists.{collected_few}
 use Rattle.fast_notation.proofs.references.InPlaceSizes.{in_place-depth}
 
 -- a checked text with its entries
-pub checked_indexed : (look : List ℕ → Option ℕ) (ts : List DeclaredTemplate) (entries : List Entry) → IsChecked look ts → Collects [] (uses_from 0 ts) entries → IsIndexed look ts entries
+pub checked_indexed : (look : List ℕ → Option ℕ) (ts : List DeclaredTemplate) (entries : List Entry) → IsChecked look ts
+    → Collects [] (uses_from 0 ts) entries → IsIndexed look ts entries
 checked_indexed look ts entries h collected =
     let a = collected_few [] entries (uses_from 0 ts) collected in
     let b = few_uses_from ts 0 ts in
@@ -36,32 +37,39 @@ checked_indexed look ts entries h collected =
     record { index = h.index; names = h.names; known = h.known; sound = h.sound; collected = collected; few = omega (arith, a, b, few) }
 
 -- no use of an operator has a fault
-suited_from : (n : ℕ) (ts : List DeclaredTemplate) → All (λ t. All IsSound (all_uses t.fields)) ts → All (λ u. ¬ (IsS2 u.1) × ¬ (IsS4 u.1) × ¬ (IsS5 u.1)) (uses_from n ts)
+suited_from : (n : ℕ) (ts : List DeclaredTemplate) → All (λ t. All IsSound (all_uses t.fields)) ts
+    → All (λ u. ¬ (IsS2 u.1) × ¬ (IsS4 u.1) × ¬ (IsS5 u.1)) (uses_from n ts)
 suited_from n [] h = All-nil (λ u. ¬ (IsS2 u.1) × ¬ (IsS4 u.1) × ¬ (IsS5 u.1))
 suited_from n (t ∷ ts) h =
-    All-append (λ u. ¬ (IsS2 u.1) × ¬ (IsS4 u.1) × ¬ (IsS5 u.1)) (in_scope (scope_of n t) (all_uses t.fields)) (uses_from (suc n) ts) (suited_in (scope_of n t) (all_uses t.fields) (h 0 t (omega arith)))
+    All-append (λ u. ¬ (IsS2 u.1) × ¬ (IsS4 u.1) × ¬ (IsS5 u.1)) (in_scope (scope_of n t) (all_uses t.fields)) (uses_from (suc n) ts)
+    (suited_in (scope_of n t) (all_uses t.fields) (h 0 t (omega arith)))
     (suited_from (suc n) ts (λ k d inside. h (suc k) d (omega (arith, inside))))
   where
     suited_in : (s : Scope) (us : List Use) → All IsSound us → All (λ u. ¬ (IsS2 u.1) × ¬ (IsS4 u.1) × ¬ (IsS5 u.1)) (in_scope s us)
     suited_in s [] h = All-nil (λ u. ¬ (IsS2 u.1) × ¬ (IsS4 u.1) × ¬ (IsS5 u.1))
     suited_in s (u ∷ us) h =
         let here = h 0 u (omega arith) in
-        All-cons (λ u. ¬ (IsS2 u.1) × ¬ (IsS4 u.1) × ¬ (IsS5 u.1)) (s, u) (in_scope s us) (here.suited, here.constant, here.default) (suited_in s us (λ k d inside. h (suc k) d (omega (arith, inside))))
+        All-cons (λ u. ¬ (IsS2 u.1) × ¬ (IsS4 u.1) × ¬ (IsS5 u.1)) (s, u) (in_scope s us) (here.suited, here.constant, here.default)
+        (suited_in s us (λ k d inside. h (suc k) d (omega (arith, inside))))
 
 -- no template is too deep
-shallow_trees : (ts : List DeclaredTemplate) (entries : List Entry) (m : ℕ) (us : List TemplateData) → AllPairs (λ a b. a.name ≢ b.name) ts → AreInPlace ts entries 0 ts 0 us m
+shallow_trees : (ts : List DeclaredTemplate) (entries : List Entry) (m : ℕ) (us : List TemplateData) → AllPairs (λ a b. a.name ≢ b.name) ts
+    → AreInPlace ts entries 0 ts 0 us m
     → All (λ t. depth_in ts nesting_limit t.fields ≤ nesting_limit) ts → All (λ u. body_depth u.body ≤ nesting_limit) us
 shallow_trees ts entries m us apart h shallow k d inside =
     let u = get_or us k d in
     let p = in_place_at ts entries 0 ts 0 m us k u h (slice_get-get_or us k d inside) in
     let deep = in_place-depth ts entries nesting_limit (scope_of (0 + k) p.0) p.0.fields p.1 p.2 u.body apart p.5 in
-    let limit : depth_in ts nesting_limit p.0.fields ≤ nesting_limit = subst (λ (t : DeclaredTemplate). depth_in ts nesting_limit t.fields ≤ nesting_limit) (get_or_from_slice_get ts k p.0 p.0 p.3)
+    let limit : depth_in ts nesting_limit p.0.fields ≤ nesting_limit =
+    subst (λ (t : DeclaredTemplate). depth_in ts nesting_limit t.fields ≤ nesting_limit) (get_or_from_slice_get ts k p.0 p.0 p.3)
     (All-get_or (λ t. depth_in ts nesting_limit t.fields ≤ nesting_limit) ts k p.0 (slice_get_within ts k p.0 p.3) shallow) in
     omega (arith, deep, limit)
 
 -- the tree of what was built
-pub tree_read : (document : Members) (ts : List DeclaredTemplate) (b : BuiltSet) → (w : IsSetBuilt ts b) → (names : AllPairs (λ a b. a.name ≢ b.name) ts) → AllPairs (λ a b. (id : ℕ) → a.id ≡ Some id → b.id ≢ Some id) ts
-    → WritesSet document ts → All (λ t. All IsSound (all_uses t.fields)) ts → All (λ t. depth_in ts nesting_limit t.fields ≤ nesting_limit) ts → sum_by (λ t. nodes_in ts nesting_limit t.fields) ts ≤ node_limit
+pub tree_read : (document : Members) (ts : List DeclaredTemplate) (b : BuiltSet) → (w : IsSetBuilt ts b)
+    → (names : AllPairs (λ a b. a.name ≢ b.name) ts) → AllPairs (λ a b. (id : ℕ) → a.id ≡ Some id → b.id ≢ Some id) ts
+    → WritesSet document ts → All (λ t. All IsSound (all_uses t.fields)) ts
+    → All (λ t. depth_in ts nesting_limit t.fields ≤ nesting_limit) ts → sum_by (λ t. nodes_in ts nesting_limit t.fields) ts ≤ node_limit
     → All IsNarrow (map (template_data (instructions_from 0 b.nodes.items)) b.templates.items)
     → IsTree document (record { templates = map (template_data (instructions_from 0 b.nodes.items)) b.templates.items; entries = b.entries })
 tree_read document ts b w names ids shape sound shallow few narrow =
@@ -88,7 +96,8 @@ tree_read document ts b w names ids shape sound shallow few narrow =
     }
 
 -- a segment that is too wide
-pub wide_stands : (ts : List DeclaredTemplate) (b : BuiltSet) (k : ℕ) (u : TemplateData) → IsSetBuilt ts b → slice_get (map (template_data (instructions_from 0 b.nodes.items)) b.templates.items) k ≡ Some u
+pub wide_stands : (ts : List DeclaredTemplate) (b : BuiltSet) (k : ℕ) (u : TemplateData) → IsSetBuilt ts b
+    → slice_get (map (template_data (instructions_from 0 b.nodes.items)) b.templates.items) k ≡ Some u
     → IsWide u → StandsAt ts C5 k
 wide_stands ts b k u w found wide =
     let built = w.are_built in
@@ -96,7 +105,15 @@ wide_stands ts b k u w found wide =
     let tree = built_tree b.nodes.items b.templates.items built in
     let p = in_place_at ts w.entries 0 ts 0 m built.templates k u built.in_place (subst (λ us. slice_get us k ≡ Some u) tree found) in (
       u.body,
-      (w.entries, p.0, p.1, p.2, p.3, subst (λ j. InPlace ts w.entries nesting_limit (scope_of j p.0) p.0.fields p.1 u.body p.2) (let e : 0 + k ≡ k = omega arith in e) p.5),
+      (
+        w.entries,
+        p.0,
+        p.1,
+        p.2,
+        p.3,
+        subst (λ j. InPlace ts w.entries nesting_limit (scope_of j p.0) p.0.fields p.1 u.body p.2)
+            (let e : 0 + k ≡ k = omega arith in e) p.5,
+      ),
       too_wide wide,
     )
   where

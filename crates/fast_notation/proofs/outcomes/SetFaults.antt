@@ -9,7 +9,8 @@ use Rattle.fast_notation.specs.meaning.Faults.{IsFaultAt, fault_of}
 use Rattle.fast_notation.specs.meaning.Firsts.{pass_of}
 
 -- the fault of a template's uses
-pub uses_fault : (ts : List DeclaredTemplate) (k : ℕ) (t : DeclaredTemplate) (code : StaticCode) → slice_get ts k ≡ Some t → HasFault code (all_uses t.fields) → IsFaultAt ts (fault_of code k).code (fault_of code k).template
+pub uses_fault : (ts : List DeclaredTemplate) (k : ℕ) (t : DeclaredTemplate) (code : StaticCode) → slice_get ts k ≡ Some t
+    → HasFault code (all_uses t.fields) → IsFaultAt ts (fault_of code k).code (fault_of code k).template
 uses_fault ts k t S2 found h = (t, found, h)
 uses_fault ts k t S3 found h = (t, found, h)
 uses_fault ts k t S4 found h = (t, found, h)
@@ -25,7 +26,8 @@ uses_fault ts k t C5 found h = absurd h
 uses_fault ts k t C6 found h = absurd h
 
 -- before which all uses are sound
-pub first_uses_fault : (ts : List DeclaredTemplate) (k : ℕ) (code : StaticCode) (us : List Use) → HasFault code us → All (λ t. All IsSound (all_uses t.fields)) (take k ts)
+pub first_uses_fault : (ts : List DeclaredTemplate) (k : ℕ) (code : StaticCode) (us : List Use) → HasFault code us
+    → All (λ t. All IsSound (all_uses t.fields)) (take k ts)
     → IfSome (fault_of code k).template (λ n. (pass_of (fault_of code k).code ≡ 3) × All (λ t. All IsSound (all_uses t.fields)) (take n ts))
 first_uses_fault ts k S2 us h sound = (refl, sound)
 first_uses_fault ts k S3 us h sound = (refl, sound)

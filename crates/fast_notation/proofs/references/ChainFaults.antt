@@ -1,5 +1,6 @@
 -- What the extents of templates show of a set, and what is wrong with one.
-use Rattle.std.proofs.Common.{◌≡◌, ◌≢◌, ℕ, zero, suc, ◌+◌, ◌<◌, ◌≤◌, List, [], ◌∷◌, refl, ap, sym, ◌∙◌, arith, slice_get, get_or, length, take, Option, Some, None, inl, inr}
+use Rattle.std.proofs.Common.{◌≡◌, ◌≢◌, ℕ, zero, suc, ◌+◌, ◌<◌, ◌≤◌, List, [], ◌∷◌, refl, ap, sym, ◌∙◌, arith, slice_get, get_or, length}
+use Rattle.std.proofs.Common.{take, Option, Some, None, inl, inr}
 use Rattle.std.specs.Prelude.{All, AllPairs, IfSome, sum_by}
 use Rattle.std.proofs.lemmas.List.{length-take}
 use Rattle.std.proofs.lemmas.List.Sums.{sum_by-cons}
@@ -39,7 +40,8 @@ known_at es k inside shallow = of_item (get_or es k None) (slice_get-get_or es k
     of_item (Some e) at h = (e, at, h)
 
 -- all fit, and none is too deep
-pub each_fits : (ts : List DeclaredTemplate) (es : List (Option Extent)) → AreExtents ts (suc nesting_limit) es → All IsShallow es → (k : ℕ) (t : DeclaredTemplate) → slice_get ts k ≡ Some t
+pub each_fits : (ts : List DeclaredTemplate) (es : List (Option Extent)) → AreExtents ts (suc nesting_limit) es → All IsShallow es
+    → (k : ℕ) (t : DeclaredTemplate) → slice_get ts k ≡ Some t
     → Fits ts nesting_limit t.fields × (depth_in ts nesting_limit t.fields ≤ nesting_limit)
 each_fits ts es h shallow k t at =
     let inside = slice_get_within ts k t at in
@@ -49,10 +51,12 @@ each_fits ts es h shallow k t at =
     let depth : e.depth ≡ capped (depth_in ts nesting_limit t.fields) = f.2 in
     (f.0, omega (arith, depth, low))
 
-pub all_fit : (ts : List DeclaredTemplate) (es : List (Option Extent)) → AreExtents ts (suc nesting_limit) es → All IsShallow es → All (λ t. Fits ts nesting_limit t.fields) ts
+pub all_fit : (ts : List DeclaredTemplate) (es : List (Option Extent)) → AreExtents ts (suc nesting_limit) es → All IsShallow es
+    → All (λ t. Fits ts nesting_limit t.fields) ts
 all_fit ts es h shallow k d inside = (each_fits ts es h shallow k (get_or ts k d) (slice_get-get_or ts k d inside)).0
 
-pub all_shallow : (ts : List DeclaredTemplate) (es : List (Option Extent)) → AreExtents ts (suc nesting_limit) es → All IsShallow es → All (λ t. depth_in ts nesting_limit t.fields ≤ nesting_limit) ts
+pub all_shallow : (ts : List DeclaredTemplate) (es : List (Option Extent)) → AreExtents ts (suc nesting_limit) es → All IsShallow es
+    → All (λ t. depth_in ts nesting_limit t.fields ≤ nesting_limit) ts
 all_shallow ts es h shallow k d inside = (each_fits ts es h shallow k (get_or ts k d) (slice_get-get_or ts k d inside)).1
 
 -- ---- sums of nodes
@@ -65,7 +69,8 @@ CountsOf all (t ∷ ts) [] = ⊥
 CountsOf all (t ∷ ts) (e ∷ es) = (known_nodes e ≡ capped (nodes_in all nesting_limit t.fields)) × CountsOf all ts es
 
 counts_of : (all ts : List DeclaredTemplate) (es : List (Option Extent)) → length es ≡ length ts
-    → ((k : ℕ) (t : DeclaredTemplate) (o : Option Extent) → slice_get ts k ≡ Some t → slice_get es k ≡ Some o → known_nodes o ≡ capped (nodes_in all nesting_limit t.fields)) → CountsOf all ts es
+    → ((k : ℕ) (t : DeclaredTemplate) (o : Option Extent) → slice_get ts k ≡ Some t → slice_get es k ≡ Some o
+    → known_nodes o ≡ capped (nodes_in all nesting_limit t.fields)) → CountsOf all ts es
 unfolding CountsOf
 counts_of all [] [] long h = tt
 counts_of all [] (e ∷ es) long h = absurd (omega (arith, long))
@@ -82,7 +87,8 @@ right_counts ts es h shallow = counts_of ts ts es h.long (λ k t o at at_o.
     some_is : {A : Type 0} {a b : A} → Some a ≡ Some b → a ≡ b
     some_is h = cc
 
-few_counts : (all ts : List DeclaredTemplate) (es : List (Option Extent)) → CountsOf all ts es → sum_by known_nodes es ≤ node_limit → sum_by (λ t. nodes_in all nesting_limit t.fields) ts ≤ sum_by known_nodes es
+few_counts : (all ts : List DeclaredTemplate) (es : List (Option Extent)) → CountsOf all ts es → sum_by known_nodes es ≤ node_limit
+    → sum_by (λ t. nodes_in all nesting_limit t.fields) ts ≤ sum_by known_nodes es
 unfolding CountsOf
 few_counts all [] [] h few = omega arith
 few_counts all [] (e ∷ es) h few = absurd h
@@ -93,7 +99,8 @@ few_counts all (t ∷ ts) (e ∷ es) (here, rest) few =
     let r = few_counts all ts es rest (omega (arith, c, few)) in
     omega (arith, c, d, r, here, few)
 
-many_counts : (all ts : List DeclaredTemplate) (es : List (Option Extent)) (k : ℕ) → CountsOf all ts es → sum_by known_nodes (take k es) ≤ sum_by (λ t. nodes_in all nesting_limit t.fields) (take k ts)
+many_counts : (all ts : List DeclaredTemplate) (es : List (Option Extent)) (k : ℕ) → CountsOf all ts es
+    → sum_by known_nodes (take k es) ≤ sum_by (λ t. nodes_in all nesting_limit t.fields) (take k ts)
 unfolding CountsOf
 many_counts all ts es zero h = omega arith
 many_counts all [] [] (suc k) h = omega arith
@@ -106,7 +113,8 @@ many_counts all (t ∷ ts) (e ∷ es) (suc k) (here, rest) =
     omega (arith, c, d, r, here)
 
 -- The set has few nodes.
-pub few_nodes : (ts : List DeclaredTemplate) (es : List (Option Extent)) → AreExtents ts (suc nesting_limit) es → All IsShallow es → sum_by known_nodes es ≤ node_limit
+pub few_nodes : (ts : List DeclaredTemplate) (es : List (Option Extent)) → AreExtents ts (suc nesting_limit) es → All IsShallow es
+    → sum_by known_nodes es ≤ node_limit
     → sum_by (λ t. nodes_in ts nesting_limit t.fields) ts ≤ node_limit
 few_nodes ts es h shallow few =
     let r = few_counts ts ts es (right_counts ts es h shallow) few in
@@ -115,7 +123,8 @@ few_nodes ts es h shallow few =
 -- ---- faults
 
 -- a template from which too long a chain leads, or that is too deep
-pub deep_at : (ts : List DeclaredTemplate) (es : List (Option Extent)) (k : ℕ) → AllPairs (λ a b. a.name ≢ b.name) ts → KnowsReferences ts → All (λ t. All IsSound (all_uses t.fields)) ts
+pub deep_at : (ts : List DeclaredTemplate) (es : List (Option Extent)) (k : ℕ) → AllPairs (λ a b. a.name ≢ b.name) ts → KnowsReferences ts
+    → All (λ t. All IsSound (all_uses t.fields)) ts
     → AreExtents ts (suc nesting_limit) es → IsDeepAt es k → StandsAt ts C4 k
 unfolding LeadsOn
 deep_at ts es k apart knows sound h (inl unknown) = inl (h.unknown k unknown)
@@ -135,7 +144,8 @@ deep_at ts es k apart knows sound h (inr (e, at_e, deep)) =
     there (x ∷ xs) (suc k) inside = there xs k (omega (arith, inside))
 
 -- the templates in place, with the nodes that were counted
-in_place_from : (all : List DeclaredTemplate) (entries : List Entry) → AllPairs (λ a b. a.name ≢ b.name) all → KnowsReferences all → AllHaveFields all entries → (j : ℕ) (ts : List DeclaredTemplate) (n : ℕ)
+in_place_from : (all : List DeclaredTemplate) (entries : List Entry) → AllPairs (λ a b. a.name ≢ b.name) all → KnowsReferences all
+    → AllHaveFields all entries → (j : ℕ) (ts : List DeclaredTemplate) (n : ℕ)
     → ((k : ℕ) (t : DeclaredTemplate) → slice_get ts k ≡ Some t → (slice_get all (j + k) ≡ Some t) × Fits all nesting_limit t.fields)
     → (us : List TemplateData) × (m : ℕ) × AreInPlace all entries j ts n us m × (m ≡ n + sum_by (λ t. nodes_in all nesting_limit t.fields) ts)
 in_place_from all entries apart knows fields j [] n h = ([], n, refl, omega arith)
@@ -151,7 +161,8 @@ in_place_from all entries apart knows fields j (t ∷ ts) n h =
     (record { name = t.name; id = t.id; reset = t.reset; body = body } ∷ us, m, (mid, refl, refl, refl, placed, rest), omega (arith, here, sum, d))
 
 -- the template with which there are too many nodes
-pub many_at : (ts : List DeclaredTemplate) (es : List (Option Extent)) (k : ℕ) → AllPairs (λ a b. a.name ≢ b.name) ts → KnowsReferences ts → All (λ t. All IsSound (all_uses t.fields)) ts
+pub many_at : (ts : List DeclaredTemplate) (es : List (Option Extent)) (k : ℕ) → AllPairs (λ a b. a.name ≢ b.name) ts → KnowsReferences ts
+    → All (λ t. All IsSound (all_uses t.fields)) ts
     → AreExtents ts (suc nesting_limit) es → All IsShallow es → node_limit < sum_by known_nodes (take (suc k) es) → StandsAt ts C6 k
 many_at ts es k apart knows sound h shallow many =
     let (us, m, placed, sum) = in_place_from ts (all_entries ts) apart knows (sound_fields ts sound) 0 (take (suc k) ts) 0 (λ j t at.
@@ -161,19 +172,23 @@ many_at ts es k apart knows sound h shallow many =
     (all_entries ts, us, m, placed, omega (arith, sum, counted, many))
 
 -- the same of a fault as it is told
-pub deep_fault : (ts : List DeclaredTemplate) (es : List (Option Extent)) → AllPairs (λ a b. a.name ≢ b.name) ts → KnowsReferences ts → All (λ t. All IsSound (all_uses t.fields)) ts → AreExtents ts (suc nesting_limit) es
+pub deep_fault : (ts : List DeclaredTemplate) (es : List (Option Extent)) → AllPairs (λ a b. a.name ≢ b.name) ts → KnowsReferences ts
+    → All (λ t. All IsSound (all_uses t.fields)) ts → AreExtents ts (suc nesting_limit) es
     → (fault : StaticFault) → (k : ℕ) × (fault.code ≡ C4) × (fault.template ≡ Some k) × IsDeepAt es k → IsFaultAt ts fault.code fault.template
 deep_fault ts es apart knows sound h fault (k, code, template, deep) = rw (code, template) (deep_at ts es k apart knows sound h deep)
 
-pub many_fault : (ts : List DeclaredTemplate) (es : List (Option Extent)) → AllPairs (λ a b. a.name ≢ b.name) ts → KnowsReferences ts → All (λ t. All IsSound (all_uses t.fields)) ts → AreExtents ts (suc nesting_limit) es
-    → All IsShallow es → (fault : StaticFault) → (k : ℕ) × (fault.code ≡ C6) × (fault.template ≡ Some k) × (k < length es) × (node_limit < sum_by known_nodes (take (suc k) es))
+pub many_fault : (ts : List DeclaredTemplate) (es : List (Option Extent)) → AllPairs (λ a b. a.name ≢ b.name) ts → KnowsReferences ts
+    → All (λ t. All IsSound (all_uses t.fields)) ts → AreExtents ts (suc nesting_limit) es
+    → All IsShallow es → (fault : StaticFault) → (k : ℕ) × (fault.code ≡ C6) × (fault.template ≡ Some k) × (k < length es)
+    × (node_limit < sum_by known_nodes (take (suc k) es))
     → IsFaultAt ts fault.code fault.template
 many_fault ts es apart knows sound h shallow fault (k, code, template, inside, many) = rw (code, template) (many_at ts es k apart knows sound h shallow many)
 
 -- ---- what was shown before a fault
 
 -- the templates before one fit, and none is too deep
-chained_before : (ts : List DeclaredTemplate) (es : List (Option Extent)) (k : ℕ) → AreExtents ts (suc nesting_limit) es → All IsShallow (take k es) → AreChained ts (take k ts)
+chained_before : (ts : List DeclaredTemplate) (es : List (Option Extent)) (k : ℕ) → AreExtents ts (suc nesting_limit) es
+    → All IsShallow (take k es) → AreChained ts (take k ts)
 chained_before ts es k h shallow j d inside =
     let t = get_or (take k ts) j d in
     let at = take_get k j ts t (slice_get-get_or (take k ts) j d inside) in
@@ -207,11 +222,13 @@ cycle_first ts fault h = of_code fault.code fault.template h
     of_code code (Some k) (is, first) = rw is first
 
 pub deep_first : (ts : List DeclaredTemplate) (es : List (Option Extent)) → AreExtents ts (suc nesting_limit) es
-    → (fault : StaticFault) → (k : ℕ) × (fault.code ≡ C4) × (fault.template ≡ Some k) × All IsShallow (take k es) → IfSome fault.template (IsFirstInChains ts fault.code)
+    → (fault : StaticFault) → (k : ℕ) × (fault.code ≡ C4) × (fault.template ≡ Some k) × All IsShallow (take k es)
+    → IfSome fault.template (IsFirstInChains ts fault.code)
 deep_first ts es h fault (k, code, template, shallow) = rw (code, template) (chained_before ts es k h shallow)
 
 pub many_first : (ts : List DeclaredTemplate) (es : List (Option Extent)) → AreExtents ts (suc nesting_limit) es → All IsShallow es
-    → (fault : StaticFault) → (k : ℕ) × (fault.code ≡ C6) × (fault.template ≡ Some k) × (sum_by known_nodes (take k es) ≤ node_limit) → IfSome fault.template (IsFirstInChains ts fault.code)
+    → (fault : StaticFault) → (k : ℕ) × (fault.code ≡ C6) × (fault.template ≡ Some k) × (sum_by known_nodes (take k es) ≤ node_limit)
+    → IfSome fault.template (IsFirstInChains ts fault.code)
 many_first ts es h shallow fault (k, code, template, few) =
     let r = few_counts_before ts ts es k (right_counts ts es h shallow) few in
     rw (code, template) ((λ j d inside. each_fits ts es h shallow j (get_or ts j d) (slice_get-get_or ts j d inside)), omega (arith, r, few))

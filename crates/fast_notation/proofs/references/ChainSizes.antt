@@ -36,7 +36,8 @@ unfolding depth_named
 depth_named-suc ts n name = refl
 
 -- Where names are apart, a name has the fields of the one template of that name.
-pub fields_of_name : (ts : List DeclaredTemplate) (k : ℕ) (t : DeclaredTemplate) (name : List ℕ) → AllPairs (λ a b. a.name ≢ b.name) ts → slice_get ts k ≡ Some t → t.name ≡ name
+pub fields_of_name : (ts : List DeclaredTemplate) (k : ℕ) (t : DeclaredTemplate) (name : List ℕ) → AllPairs (λ a b. a.name ≢ b.name) ts
+    → slice_get ts k ≡ Some t → t.name ≡ name
     → fields_named ts name ≡ t.fields
 unfolding fields_named
 fields_of_name [] k t name apart at_k same = absurd (cc)
@@ -50,6 +51,7 @@ fields_of_name (u ∷ ts) zero t name apart at_k same =
 fields_of_name (u ∷ ts) (suc k) t name apart at_k same = elim (cases_Bool (bytes_eq name u.name)) [
   | inl here ↦
       let inside = slice_get_within ts k t at_k in
-      absurd (apart 0 (suc k) u (omega arith) (omega (arith, inside)) (sym (same_text name u.name here) ∙ sym same ∙ sym (ap (λ (v : DeclaredTemplate). v.name) (get_or_from_slice_get ts k t u at_k))))
+      absurd (apart 0 (suc k) u (omega arith) (omega (arith, inside))
+      (sym (same_text name u.name here) ∙ sym same ∙ sym (ap (λ (v : DeclaredTemplate). v.name) (get_or_from_slice_get ts k t u at_k))))
   | inr there ↦ rw there (fields_of_name ts k t name (λ i j d below inside. apart (suc i) (suc j) d (omega arith) (omega arith)) at_k same)
 ]

@@ -1,12 +1,16 @@
 -- A body in place exists for instructions that fit, where references are known and uses of operators are sound.
-use Rattle.std.proofs.Common.{◌≡◌, ◌≢◌, ℕ, zero, suc, ◌+◌, List, [], ◌∷◌, refl, ap, sym, ◌∙◌, subst, arith, slice_get, length, Option, Some, None, false, inl, inr, codes}
+use Rattle.std.proofs.Common.{◌≡◌, ◌≢◌, ℕ, zero, suc, ◌+◌, List, [], ◌∷◌, refl, ap, sym, ◌∙◌, subst, arith, slice_get, length, Option, Some}
+use Rattle.std.proofs.Common.{None, false, inl, inr, codes}
 use Rattle.std.specs.Prelude.{All, Contains, IsSome, if◌then◌else◌, unwrap_or}
 use Rattle.std.specs.Str.{bytes_eq}
 use Rattle.std.proofs.lemmas.Bool.{cases_Bool, false≢true}
 use Rattle.std.proofs.lemmas.Option.{slice_get_within, slice_get-get_or, get_or_from_slice_get}
 use Rattle.std.proofs.lemmas.List.Elements.{All-contains, Contains-append_left, Contains-append_right}
-use Rattle.fast_tree.specs.meaning.AsWritten.{Declared, scalar, by_parts, group, sequence, reference, DeclaredList, no_more, more, DeclaredTemplate, whole, Use, scalar_use, exponent_use, mantissa_use, length_use, uses, all_uses, references, all_references}
-use Rattle.fast_tree.specs.meaning.Entries.{Place, global, of_template, named, Entry, Scope, IsPlace, IsUnderKey, IsEntry, keeps_value, scope_of, in_scope, uses_from}
+use Rattle.fast_tree.specs.meaning.AsWritten.{Declared, scalar, by_parts, group, sequence, reference, DeclaredList, no_more, more}
+use Rattle.fast_tree.specs.meaning.AsWritten.{DeclaredTemplate, whole, Use, scalar_use, exponent_use, mantissa_use, length_use, uses}
+use Rattle.fast_tree.specs.meaning.AsWritten.{all_uses, references, all_references}
+use Rattle.fast_tree.specs.meaning.Entries.{Place, global, of_template, named, Entry, Scope, IsPlace, IsUnderKey, IsEntry, keeps_value}
+use Rattle.fast_tree.specs.meaning.Entries.{scope_of, in_scope, uses_from}
 use Rattle.fast_tree.specs.meaning.Tree.{FieldData, Body, end}
 use Rattle.fast_notation.specs.meaning.Uses.{IsField}
 use Rattle.fast_notation.specs.device.Sound.{IsSound}
@@ -28,12 +32,15 @@ other_text s t apart = elim (cases_Bool (bytes_eq s t)) [ inl same ↦ absurd (a
 is_the_place : (s : Scope) (name : List ℕ) → IsPlace s name (the_place s name)
 unfolding the_place
 is_the_place s name = record {
-  is_global = λ is. ap (λ b. if b then global else (if bytes_eq name (codes "template") then of_template s.template else named name)) (ap (bytes_eq name) (sym is) ∙ text_same name);
+  is_global = λ is. ap (λ b. if b then global else (if bytes_eq name (codes "template") then of_template s.template else named name))
+      (ap (bytes_eq name) (sym is) ∙ text_same name);
   is_template = λ is.
-      ap (λ b. if b then global else (if bytes_eq name (codes "template") then of_template s.template else named name)) (ap (λ n. bytes_eq n (codes "global")) is)
+      ap (λ b. if b then global else (if bytes_eq name (codes "template") then of_template s.template else named name))
+      (ap (λ n. bytes_eq n (codes "global")) is)
       ∙ ap (λ b. if b then of_template s.template else named name) (ap (bytes_eq name) (sym is) ∙ text_same name);
   is_named = λ not_global not_template.
-      ap (λ b. if b then global else (if bytes_eq name (codes "template") then of_template s.template else named name)) (other_text name (codes "global") not_global)
+      ap (λ b. if b then global else (if bytes_eq name (codes "template") then of_template s.template else named name))
+      (other_text name (codes "global") not_global)
       ∙ ap (λ b. if b then of_template s.template else named name) (other_text name (codes "template") not_template);
 }
 
@@ -81,7 +88,8 @@ scope_has s (v ∷ us) u (suc k, inside, at) =
     let (j, within, is) = scope_has s us u (k, omega (arith, inside), at) in
     (suc j, omega (arith, within), is)
 
-uses_have : (ts : List DeclaredTemplate) (n k : ℕ) (t : DeclaredTemplate) (u : Use) → slice_get ts k ≡ Some t → Contains (all_uses t.fields) u → Contains (uses_from n ts) (scope_of (n + k) t, u)
+uses_have : (ts : List DeclaredTemplate) (n k : ℕ) (t : DeclaredTemplate) (u : Use) → slice_get ts k ≡ Some t
+    → Contains (all_uses t.fields) u → Contains (uses_from n ts) (scope_of (n + k) t, u)
 uses_have [] n k t u at here = absurd (cc)
 uses_have (x ∷ ts) n zero t u at here =
     let is : x ≡ t = some_is at in
@@ -96,13 +104,16 @@ uses_have (x ∷ ts) n zero t u at here =
 uses_have (x ∷ ts) n (suc k) t u at here =
     let same : suc n + k ≡ n + suc k = omega arith in
     subst (λ m. Contains (uses_from n (x ∷ ts)) (scope_of m t, u)) same
-    (Contains-append_right (in_scope (scope_of n x) (all_uses x.fields)) (uses_from (suc n) ts) (scope_of (suc n + k) t, u) (uses_have ts (suc n) k t u at here))
+    (Contains-append_right (in_scope (scope_of n x) (all_uses x.fields)) (uses_from (suc n) ts) (scope_of (suc n + k) t, u)
+    (uses_have ts (suc n) k t u at here))
 
-pub entry_there : (ts : List DeclaredTemplate) (k : ℕ) (t : DeclaredTemplate) (u : Use) → slice_get ts k ≡ Some t → Contains (all_uses t.fields) u → Contains (all_entries ts) (the_entry (scope_of k t) u)
+pub entry_there : (ts : List DeclaredTemplate) (k : ℕ) (t : DeclaredTemplate) (u : Use) → slice_get ts k ≡ Some t
+    → Contains (all_uses t.fields) u → Contains (all_entries ts) (the_entry (scope_of k t) u)
 unfolding all_entries
 entry_there ts k t u at here =
     let same : 0 + k ≡ k = omega arith in
-    subst (λ m. Contains (entries_of (uses_from 0 ts)) (the_entry (scope_of m t) u)) same (entries_have (uses_from 0 ts) (scope_of (0 + k) t, u) (uses_have ts 0 k t u at here))
+    subst (λ m. Contains (entries_of (uses_from 0 ts)) (the_entry (scope_of m t) u)) same
+    (entries_have (uses_from 0 ts) (scope_of (0 + k) t, u) (uses_have ts 0 k t u at here))
 
 -- a field for each sound use
 pub field_there : (entries : List Entry) (s : Scope) (u : Use) → IsSound u → Contains entries (the_entry s u) → (f : FieldData) × IsField entries s u f
@@ -132,7 +143,8 @@ HasBody ts entries chain s ds n = (body : Body) × (m : ℕ) × InPlace ts entri
 -- a reference can be put in place, with nodes from any number on
 abbrev CanRefer : List DeclaredTemplate → List Entry → ℕ → List ℕ → Type 0
 CanRefer ts entries zero name = ⊥
-CanRefer ts entries (suc chain) name = (number : ℕ) × (t : DeclaredTemplate) × (slice_get ts number ≡ Some t) × (t.name ≡ name) × ((n : ℕ) → HasBody ts entries chain (scope_of number t) t.fields n)
+CanRefer ts entries (suc chain) name = (number : ℕ) × (t : DeclaredTemplate) × (slice_get ts number ≡ Some t) × (t.name ≡ name)
+    × ((n : ℕ) → HasBody ts entries chain (scope_of number t) t.fields n)
 
 -- each use has a field
 abbrev HaveFields : List Entry → Scope → List Use → Type 0
@@ -157,18 +169,22 @@ mutual
       → ((name : List ℕ) → Contains (all_references ds) name → CanRefer ts entries chain name) → (n : ℕ) → HasBody ts entries chain s ds n
   put ts entries chain s no_more fields refers n = (end, n, nothing)
   put ts entries chain s (more d ds) fields refers n =
-      put_one ts entries chain s d ds (λ u here. fields u (Contains-append_left (uses d) (all_uses ds) u here)) (λ name here. refers name (Contains-append_left (references d) (all_references ds) name here))
-      (put ts entries chain s ds (λ u here. fields u (Contains-append_right (uses d) (all_uses ds) u here)) (λ name here. refers name (Contains-append_right (references d) (all_references ds) name here))) n
+      put_one ts entries chain s d ds (λ u here. fields u (Contains-append_left (uses d) (all_uses ds) u here))
+      (λ name here. refers name (Contains-append_left (references d) (all_references ds) name here))
+      (put ts entries chain s ds (λ u here. fields u (Contains-append_right (uses d) (all_uses ds) u here))
+      (λ name here. refers name (Contains-append_right (references d) (all_references ds) name here))) n
 
   put_one : (ts : List DeclaredTemplate) (entries : List Entry) (chain : ℕ) (s : Scope) (d : Declared) (ds : DeclaredList) → HaveFields entries s (uses d)
-      → ((name : List ℕ) → Contains (references d) name → CanRefer ts entries chain name) → ((k : ℕ) → HasBody ts entries chain s ds k) → (n : ℕ) → HasBody ts entries chain s (more d ds) n
+      → ((name : List ℕ) → Contains (references d) name → CanRefer ts entries chain name) → ((k : ℕ) → HasBody ts entries chain s ds k)
+      → (n : ℕ) → HasBody ts entries chain s (more d ds) n
   put_one ts entries chain s (scalar name optional kind w) ds fields refers rest n =
       let (f, is_field) = fields (scalar_use name optional kind w) (first_of_two _ []) in
       let (is, m, outer) = rest (suc n) in
       (_, m, a_field is_field outer)
   put_one ts entries chain s (by_parts name optional v w) ds fields refers rest n =
       let (e, is_exponent) = fields (exponent_use name optional v) (first_of_two _ (mantissa_use name w ∷ [])) in
-      let (f, is_mantissa) = fields (mantissa_use name w) (later (exponent_use name optional v) (mantissa_use name w) (mantissa_use name w ∷ []) (first_of_two _ [])) in
+      let (f, is_mantissa) = fields (mantissa_use name w) (later (exponent_use name optional v) (mantissa_use name w)
+      (mantissa_use name w ∷ []) (first_of_two _ [])) in
       let (is, m, outer) = rest (suc n) in
       (_, m, some_parts is_exponent is_mantissa outer)
   put_one ts entries chain s (group name optional inner) ds fields refers rest n =
@@ -177,7 +193,8 @@ mutual
       (_, m, a_group within outer)
   put_one ts entries chain s (sequence name optional own w inner) ds fields refers rest n =
       let (f, is_field) = fields (length_use name optional own w) (first_of_two _ (all_uses inner)) in
-      let (body, k, within) = put ts entries chain s inner (λ u here. fields u (later (length_use name optional own w) u (all_uses inner) here)) refers (suc n) in
+      let (body, k, within) = put ts entries chain s inner (λ u here. fields u
+      (later (length_use name optional own w) u (all_uses inner) here)) refers (suc n) in
       let (is, m, outer) = rest k in
       (_, m, a_sequence is_field within outer)
   put_one ts entries chain s (reference name) ds fields refers rest n = refer ts entries chain s name ds n (refers name (0, omega arith, refl)) rest
@@ -187,7 +204,8 @@ abbrev pub AllHaveFields : List DeclaredTemplate → List Entry → Type 0
 AllHaveFields ts entries = (k : ℕ) (t : DeclaredTemplate) → slice_get ts k ≡ Some t → HaveFields entries (scope_of k t) (all_uses t.fields)
 
 -- What fits has a body.
-pub put_in_place : (ts : List DeclaredTemplate) (entries : List Entry) → AllHaveFields ts entries → KnowsReferences ts → (chain k : ℕ) (t : DeclaredTemplate) → slice_get ts k ≡ Some t → Fits ts chain t.fields
+pub put_in_place : (ts : List DeclaredTemplate) (entries : List Entry) → AllHaveFields ts entries → KnowsReferences ts
+    → (chain k : ℕ) (t : DeclaredTemplate) → slice_get ts k ≡ Some t → Fits ts chain t.fields
     → (n : ℕ) → HasBody ts entries chain (scope_of k t) t.fields n
 unfolding Fits
 put_in_place ts entries fields knows zero k t at fits n =
@@ -208,7 +226,8 @@ put_in_place ts entries fields knows (suc chain) k t at fits n =
     n
   where
     at_known : All (λ q. IsSome (place_of_name q ts)) (all_references t.fields)
-    at_known = subst (λ (x : DeclaredTemplate). All (λ q. IsSome (place_of_name q ts)) (all_references x.fields)) (get_or_from_slice_get ts k t t at) (knows k t (slice_get_within ts k t at))
+    at_known = subst (λ (x : DeclaredTemplate). All (λ q. IsSome (place_of_name q ts)) (all_references x.fields))
+        (get_or_from_slice_get ts k t t at) (knows k t (slice_get_within ts k t at))
 
     is_some_of : (o : Option ℕ) → IsSome o → (j : ℕ) × (o ≡ Some j)
     is_some_of None h = absurd (false≢true h)
@@ -217,5 +236,6 @@ put_in_place ts entries fields knows (suc chain) k t at fits n =
 -- Where all uses are sound, the entries of all uses serve.
 pub sound_fields : (ts : List DeclaredTemplate) → All (λ t. All IsSound (all_uses t.fields)) ts → AllHaveFields ts (all_entries ts)
 sound_fields ts sound k t at u here =
-    let at_t : All IsSound (all_uses t.fields) = subst (λ (x : DeclaredTemplate). All IsSound (all_uses x.fields)) (get_or_from_slice_get ts k t t at) (sound k t (slice_get_within ts k t at)) in
+    let at_t : All IsSound (all_uses t.fields) = subst (λ (x : DeclaredTemplate). All IsSound (all_uses x.fields))
+    (get_or_from_slice_get ts k t t at) (sound k t (slice_get_within ts k t at)) in
     field_there (all_entries ts) (scope_of k t) u (All-contains IsSound (all_uses t.fields) u at_t here) (entry_there ts k t u at here)

@@ -10,7 +10,8 @@ use Rattle.fast_notation.specs.device.Chains.{nodes_in, nodes_by, depth_in, dept
 use Rattle.fast_notation.proofs.references.ChainSizes.{nodes_named, depth_named, nodes_in-by, depth_in-by, nodes_named-suc, depth_named-suc, fields_of_name}
 
 -- the nodes, by those of what each reference names
-numbers_by : {ts : List DeclaredTemplate} {entries : List Entry} {chain : ℕ} {s : Scope} {ds : DeclaredList} {n m : ℕ} {body : Body} → AllPairs (λ a b. a.name ≢ b.name) ts
+numbers_by : {ts : List DeclaredTemplate} {entries : List Entry} {chain : ℕ} {s : Scope} {ds : DeclaredList} {n m : ℕ} {body : Body}
+    → AllPairs (λ a b. a.name ≢ b.name) ts
     → InPlace ts entries chain s ds n body m → m ≡ n + nodes_by (nodes_named ts chain) ds
 numbers_by apart (nothing {n = n}) = omega arith
 numbers_by apart (a_field f rest) = let r = numbers_by apart rest in omega (arith, r)
@@ -38,7 +39,8 @@ depth-then (step i is) js =
     omega (arith, e)
 
 -- the depth, by that of what each reference names
-depths_by : {ts : List DeclaredTemplate} {entries : List Entry} {chain : ℕ} {s : Scope} {ds : DeclaredList} {n m : ℕ} {body : Body} → AllPairs (λ a b. a.name ≢ b.name) ts
+depths_by : {ts : List DeclaredTemplate} {entries : List Entry} {chain : ℕ} {s : Scope} {ds : DeclaredList} {n m : ℕ} {body : Body}
+    → AllPairs (λ a b. a.name ≢ b.name) ts
     → InPlace ts entries chain s ds n body m → body_depth body ≡ depth_by (depth_named ts chain) ds
 depths_by apart nothing = refl
 depths_by apart (a_field f rest) = ap (max 0) (depths_by apart rest)
@@ -59,11 +61,13 @@ depths_by {ts = ts} apart (a_reference {chain = chain} {name = name} {body = bod
     depth-then body is ∙ rw (i, r, named) refl
 
 -- A body in place has as many nodes as the chains of references come to.
-pub in_place-nodes : (ts : List DeclaredTemplate) (entries : List Entry) (chain : ℕ) (s : Scope) (ds : DeclaredList) (n m : ℕ) (body : Body) → AllPairs (λ a b. a.name ≢ b.name) ts
+pub in_place-nodes : (ts : List DeclaredTemplate) (entries : List Entry) (chain : ℕ) (s : Scope) (ds : DeclaredList) (n m : ℕ)
+    (body : Body) → AllPairs (λ a b. a.name ≢ b.name) ts
     → InPlace ts entries chain s ds n body m → m ≡ n + nodes_in ts chain ds
 in_place-nodes ts entries chain s ds n m body apart h = numbers_by apart h ∙ ap (λ c. n + c) (sym (nodes_in-by ts chain ds))
 
 -- It is as deep as they are.
-pub in_place-depth : (ts : List DeclaredTemplate) (entries : List Entry) (chain : ℕ) (s : Scope) (ds : DeclaredList) (n m : ℕ) (body : Body) → AllPairs (λ a b. a.name ≢ b.name) ts
+pub in_place-depth : (ts : List DeclaredTemplate) (entries : List Entry) (chain : ℕ) (s : Scope) (ds : DeclaredList) (n m : ℕ)
+    (body : Body) → AllPairs (λ a b. a.name ≢ b.name) ts
     → InPlace ts entries chain s ds n body m → body_depth body ≡ depth_in ts chain ds
 in_place-depth ts entries chain s ds n m body apart h = depths_by apart h ∙ sym (depth_in-by ts chain ds)

@@ -8,17 +8,21 @@ use Rattle.fast_notation.specs.declared.written.WrittenInstruction.TheVariants a
 use Rattle.fast_tree.specs.meaning.AsWritten.{scalar, by_parts, group, sequence, reference}
 use Rattle.fast_notation.specs.device.WrittenSets.{operator_data, instruction_data, fields_data}
 
-pub scalar_form : (name : String Global) (optional : Bool) (kind : Kind) (w : WrittenOperator) → instruction_data (V.Scalar name optional kind w) ≡ scalar (string_bytes name) optional kind (operator_data w)
+pub scalar_form : (name : String Global) (optional : Bool) (kind : Kind) (w : WrittenOperator)
+    → instruction_data (V.Scalar name optional kind w) ≡ scalar (string_bytes name) optional kind (operator_data w)
 scalar_form name optional kind w = search (rules, the_lemmas)
 
-pub parts_form : (name : String Global) (optional : Bool) (e m : WrittenOperator) → instruction_data (V.Parts name optional e m) ≡ by_parts (string_bytes name) optional (operator_data e) (operator_data m)
+pub parts_form : (name : String Global) (optional : Bool) (e m : WrittenOperator)
+    → instruction_data (V.Parts name optional e m) ≡ by_parts (string_bytes name) optional (operator_data e) (operator_data m)
 parts_form name optional e m = search (rules, the_lemmas)
 
-pub group_form : (name : String Global) (optional : Bool) (fs : Vec WrittenInstruction Global) → instruction_data (V.Group name optional fs) ≡ group (string_bytes name) optional (fields_data fs.items)
+pub group_form : (name : String Global) (optional : Bool) (fs : Vec WrittenInstruction Global)
+    → instruction_data (V.Group name optional fs) ≡ group (string_bytes name) optional (fields_data fs.items)
 group_form name optional fs = search (rules, the_lemmas)
 
 pub sequence_form : (name : String Global) (optional : Bool) (own : Option (String Global)) (w : WrittenOperator) (fs : Vec WrittenInstruction Global)
-    → instruction_data (V.Sequence name optional own w fs) ≡ sequence (string_bytes name) optional (option_map string_bytes own) (operator_data w) (fields_data fs.items)
+    → instruction_data (V.Sequence name optional own w fs) ≡ sequence (string_bytes name) optional (option_map string_bytes own)
+    (operator_data w) (fields_data fs.items)
 sequence_form name optional own w fs = search (rules, the_lemmas)
 
 pub reference_form : (name : String Global) → instruction_data (V.Reference name) ≡ reference (string_bytes name)

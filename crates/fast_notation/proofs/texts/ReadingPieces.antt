@@ -1,5 +1,6 @@
 -- What stands at single keys: as it is computed, and as the notation defines it.
-use Rattle.std.proofs.Common.{◌≡◌, ℕ, ◌⊎◌, inl, inr, List, [], ◌∷◌, refl, ap, sym, ◌∙◌, subst, arith, suc, zero, Option, Some, None, Bool, true, false, ◌&&◌, ◌||◌, codes, not}
+use Rattle.std.proofs.Common.{◌≡◌, ℕ, ◌⊎◌, inl, inr, List, [], ◌∷◌, refl, ap, sym, ◌∙◌, subst, arith, suc, zero, Option, Some, None, Bool}
+use Rattle.std.proofs.Common.{true, false, ◌&&◌, ◌||◌, codes, not}
 use Rattle.std.specs.Prelude.{Contains, if◌then◌else◌, IfSome, IsNone, is_none}
 use Rattle.std.specs.Str.{bytes_eq}
 use Rattle.std.proofs.lemmas.Slice.Eq.{bytes_eq-Decides}
@@ -10,8 +11,11 @@ use Rattle.fast_value.specs.declared.kinds.Kind.TheVariants.{UInt32, Int32, UInt
 use Rattle.fast_tree.specs.declared.operators.Operator.{Operator}
 use Rattle.fast_tree.specs.declared.operators.Operator.TheVariants.{None as no_operator, Constant, Default, Copy, Increment, Delta, Tail}
 use Rattle.fast_tree.specs.meaning.AsWritten.{Written, IsName}
-use Rattle.fast_notation.specs.meaning.Notation.{kind_name, operator_name, HasOnly, TextAt, NameAt, FlagAt, ItemsAt, IsDictionary, IsInUseUnder, WritesOperator, WritesPart}
-use Rattle.fast_notation.specs.device.Reading.{◌>>=◌, is_name, is_dictionary, is_one_of, has_only, text_of, flag_of, items_of, name_of, kind_named, operator_named, operator_or_none, operator_of, name_or_none, dictionary_or_none, takes, written_of, part_of}
+use Rattle.fast_notation.specs.meaning.Notation.{kind_name, operator_name, HasOnly, TextAt, NameAt, FlagAt, ItemsAt, IsDictionary}
+use Rattle.fast_notation.specs.meaning.Notation.{IsInUseUnder, WritesOperator, WritesPart}
+use Rattle.fast_notation.specs.device.Reading.{◌>>=◌, is_name, is_dictionary, is_one_of, has_only, text_of, flag_of, items_of, name_of}
+use Rattle.fast_notation.specs.device.Reading.{kind_named, operator_named, operator_or_none, operator_of, name_or_none, dictionary_or_none}
+use Rattle.fast_notation.specs.device.Reading.{takes, written_of, part_of}
 use Rattle.fast_notation.proofs.texts.NameTests.{name_passes, passed_name}
 
 -- what a step that gave a value shows
@@ -236,16 +240,19 @@ taken Delta w h = named_two w h
 taken Tail w h = named_two w h
 
 -- the operator at its key
-operator_there : (ms : Members) (o : Operator) → operator_of (get_member (codes "op") ms) ≡ Some o → TextAt (codes "op") ms (Some (operator_name o)) ⊎ TextAt (codes "op") ms None × (o ≡ no_operator)
+operator_there : (ms : Members) (o : Operator) → operator_of (get_member (codes "op") ms) ≡ Some o
+    → TextAt (codes "op") ms (Some (operator_name o)) ⊎ TextAt (codes "op") ms None × (o ≡ no_operator)
 operator_there ms o e =
     let t = some_after (text_of (get_member (codes "op") ms)) operator_or_none o e in
     at t.0 (text_there (codes "op") ms t.0 t.1) t.2
   where
-    at : (t : Option (List ℕ)) → TextAt (codes "op") ms t → operator_or_none t ≡ Some o → TextAt (codes "op") ms (Some (operator_name o)) ⊎ TextAt (codes "op") ms None × (o ≡ no_operator)
+    at : (t : Option (List ℕ)) → TextAt (codes "op") ms t → operator_or_none t ≡ Some o
+        → TextAt (codes "op") ms (Some (operator_name o)) ⊎ TextAt (codes "op") ms None × (o ≡ no_operator)
     at None h e = inr (h, sym (some_is e))
     at (Some s) h e = inl (h ∙ ap (λ x. Some (string x)) (operator_is s o e))
 
-there_operator : (ms : Members) (o : Operator) → TextAt (codes "op") ms (Some (operator_name o)) ⊎ TextAt (codes "op") ms None × (o ≡ no_operator) → operator_of (get_member (codes "op") ms) ≡ Some o
+there_operator : (ms : Members) (o : Operator) → TextAt (codes "op") ms (Some (operator_name o)) ⊎ TextAt (codes "op") ms None
+    × (o ≡ no_operator) → operator_of (get_member (codes "op") ms) ≡ Some o
 there_operator ms o (inl h) = rw (there_text (codes "op") ms (Some (operator_name o)) h) (is_operator o)
 there_operator ms o (inr h) = rw (there_text (codes "op") ms None h.0) (ap Some (sym h.1))
 
@@ -268,10 +275,17 @@ operator_written ms w e =
 
 pub written_operator : (ms : Members) (w : Written) → WritesOperator ms w → written_of ms ≡ Some w
 written_operator ms w h =
-    rw (there_operator ms w.operator h.operator, there_text (codes "value") ms w.value h.value, there_text (codes "key") ms w.key h.key, there_text (codes "dictionary") ms w.dictionary h.dictionary, taken w.operator w h.in_use) refl
+    rw (
+      there_operator ms w.operator h.operator,
+      there_text (codes "value") ms w.value h.value,
+      there_text (codes "key") ms w.key h.key,
+      there_text (codes "dictionary") ms w.dictionary h.dictionary,
+      taken w.operator w h.in_use,
+    ) refl
 
 -- a part's table
-pub part_written : (key : List ℕ) (keys : List (List ℕ)) (ms : Members) (w : Written) → part_of keys (get_member key ms) ≡ Some w → (os : Members) × WritesPart key keys ms w os
+pub part_written : (key : List ℕ) (keys : List (List ℕ)) (ms : Members) (w : Written) → part_of keys (get_member key ms) ≡ Some w
+    → (os : Members) × WritesPart key keys ms w os
 part_written key keys ms w e = at (get_member key ms) e refl
   where
     at : (o : Option Data) → part_of keys o ≡ Some w → get_member key ms ≡ o → (os : Members) × WritesPart key keys ms w os
@@ -284,6 +298,7 @@ part_written key keys ms w e = at (get_member key ms) e refl
     at (Some (datetime x)) e g = absurd (cc)
     at (Some (array x)) e g = absurd (cc)
 
-pub written_part : (key : List ℕ) (keys : List (List ℕ)) (ms os : Members) (w : Written) → WritesPart key keys ms w os → part_of keys (get_member key ms) ≡ Some w
+pub written_part : (key : List ℕ) (keys : List (List ℕ)) (ms os : Members) (w : Written) → WritesPart key keys ms w os
+    → part_of keys (get_member key ms) ≡ Some w
 written_part key keys ms os w (inl h) = rw (h.0, keys_only keys os h.1) (written_operator os w h.2)
 written_part key keys ms os w (inr h) = rw h.0 (ap Some (sym h.2))

@@ -1,22 +1,28 @@
 -- The templates and the sets that documents write: as they are computed, and as the notation defines them.
-use Rattle.std.proofs.Common.{◌≡◌, ℕ, ◌<◌, ◌≤◌, ◌^◌, ◌⊎◌, inl, inr, List, [], ◌∷◌, length, refl, ap, sym, ◌∙◌, subst, arith, suc, zero, Option, Some, None, true, ◌&&◌, codes, Ordering, Less, Equal, Greater, nat_cmp, nat_lt, nat_le, le-leb}
+use Rattle.std.proofs.Common.{◌≡◌, ℕ, ◌<◌, ◌≤◌, ◌^◌, ◌⊎◌, inl, inr, List, [], ◌∷◌, length, refl, ap, sym, ◌∙◌, subst, arith, suc, zero}
+use Rattle.std.proofs.Common.{Option, Some, None, true, ◌&&◌, codes, Ordering, Less, Equal, Greater, nat_cmp, nat_lt, nat_le, le-leb}
 use Rattle.std.specs.Prelude.{nat_eq, pos, negsuc, IfSome, IsSome}
 use Rattle.std.specs.Ordering.{match_ordering, is_eq}
 use Rattle.std.specs.Cmp.Lexicographic.{slice_cmp}
 use Rattle.std.proofs.lemmas.Map.Text.{is_eq-slice_cmp}
 use Rattle.std.proofs.lemmas.Bool.{and_parts, false≢true}
 use Rattle.std.proofs.lemmas.Bool.Decides.{nat_tests}
-use Rattle.toml.specs.Data.{Data, string, integer, float, boolean, datetime, array, table, Items, no_items, item, Members, no_members, member, get_member, get_item, as_array}
+use Rattle.toml.specs.Data.{Data, string, integer, float, boolean, datetime, array, table, Items, no_items, item, Members, no_members}
+use Rattle.toml.specs.Data.{member, get_member, get_item, as_array}
 use Rattle.fast_notation.specs.declared.codes.StaticCode.{StaticCode}
 use Rattle.fast_tree.specs.meaning.AsWritten.{DeclaredTemplate}
 use Rattle.fast_notation.specs.meaning.Firsts.{IsFirstUnwritten}
 use Rattle.fast_notation.specs.meaning.Notation.{TextAt, IsDictionary, IdAt, WritesTemplate, WritesTemplates, WritesSet}
-use Rattle.fast_notation.specs.device.Reading.{◌>>=◌, has_only, text_of, flag_of, name_of, id_of, is_dictionary, dictionary_named, dictionary_of, fields_of, template_of, template_in, all_templates, are_tables, are_templates, items_count, members_count, tables_of}
+use Rattle.fast_notation.specs.device.Reading.{◌>>=◌, has_only, text_of, flag_of, name_of, id_of, is_dictionary, dictionary_named}
+use Rattle.fast_notation.specs.device.Reading.{dictionary_of, fields_of, template_of, template_in, all_templates, are_tables, are_templates}
+use Rattle.fast_notation.specs.device.Reading.{items_count, members_count, tables_of}
 use Rattle.fast_notation.specs.declared.codes.StaticCode.TheVariants.{S1, S2, S3, S4, S5, D8, C1, C2, C3, C4, C5, C6, Memory}
 use Rattle.fast_notation.specs.meaning.Unwritten.{AreTables, HasTables, IsUnwritten}
 use Rattle.fast_notation.specs.device.WrittenReading.{IsUnread}
 use Rattle.fast_notation.proofs.lists.FieldLists.{fields_of_items}
-use Rattle.fast_notation.proofs.texts.ReadingPieces.{some_after, some_if, some_is, same_text, keys_only, only_keys, text_there, there_text, name_there, there_name, flag_there, there_flag, there_items, dictionary_passes, passed_dictionary}
+use Rattle.fast_notation.proofs.texts.ReadingPieces.{some_after, some_if, some_is, same_text, keys_only, only_keys, text_there, there_text}
+use Rattle.fast_notation.proofs.texts.ReadingPieces.{name_there, there_name, flag_there, there_flag, there_items, dictionary_passes}
+use Rattle.fast_notation.proofs.texts.ReadingPieces.{passed_dictionary}
 use Rattle.fast_notation.proofs.texts.ReadingLaws.{fields_write}
 use Rattle.fast_notation.proofs.texts.WrittenLaws.{written_all}
 
@@ -70,7 +76,8 @@ dictionary_there ms s e =
         let same : r ≡ s = some_is b.1 in
         inl (h ∙ ap (λ x. Some (string x)) same, subst IsDictionary same (passed_dictionary r b.0))
 
-there_dictionary : (ms : Members) (s : List ℕ) → TextAt (codes "dictionary") ms (Some s) × IsDictionary s ⊎ TextAt (codes "dictionary") ms None × (s ≡ codes "global")
+there_dictionary : (ms : Members) (s : List ℕ) → TextAt (codes "dictionary") ms (Some s) × IsDictionary s
+    ⊎ TextAt (codes "dictionary") ms None × (s ≡ codes "global")
     → dictionary_of (get_member (codes "dictionary") ms) ≡ Some s
 there_dictionary ms s (inl h) = rw (there_text (codes "dictionary") ms (Some s) h.0, dictionary_passes s h.1) refl
 there_dictionary ms s (inr h) = rw (there_text (codes "dictionary") ms None h.0) (ap Some (sym h.1))
@@ -160,8 +167,12 @@ tables_there document xs e =
     let same : a.0 ≡ xs = some_is c.1 in
     let (counts, tables) = and_parts (nat_le 1 (items_count a.0) && nat_le (items_count a.0) 4294967295) (are_tables a.0) c.0 in
     let (some, few) = and_parts (nat_le 1 (items_count a.0)) (nat_le (items_count a.0) 4294967295) counts in
-    subst (HasTables document) same
-    (one_member document d.0 a.0 (one_is (members_count document) b.0) d.1 d.2, tables_are a.0 tables, at_least (items_count a.0) some, at_most (items_count a.0) few)
+    subst (HasTables document) same (
+      one_member document d.0 a.0 (one_is (members_count document) b.0) d.1 d.2,
+      tables_are a.0 tables,
+      at_least (items_count a.0) some,
+      at_most (items_count a.0) few,
+    )
   where
     one_is : (n : ℕ) → nat_eq n 1 ≡ true → n ≡ 1
     one_is n h = grind (arith, nat_tests)
@@ -186,7 +197,8 @@ tables_there document xs e =
     equal_at Equal e d h = (refl, some_is h)
     equal_at Greater e d h = absurd (cc)
 
-    one_member : (ms : Members) (d : Data) (xs : Items) → members_count ms ≡ 1 → get_member (codes "template") ms ≡ Some d → as_array d ≡ Some xs → ms ≡ member (codes "template") (array xs) no_members
+    one_member : (ms : Members) (d : Data) (xs : Items) → members_count ms ≡ 1 → get_member (codes "template") ms ≡ Some d
+        → as_array d ≡ Some xs → ms ≡ member (codes "template") (array xs) no_members
     one_member no_members d xs one found is_array = absurd (omega (arith, one))
     one_member (member k e no_members) d xs one found is_array =
         let h = equal_at (slice_cmp nat_cmp (codes "template") k) e d found in
@@ -209,7 +221,8 @@ set_written document xs ts h e =
     (xs, h.0, w.0, (let s = h.2 in omega (arith, s, l)), (let s = h.3 in omega (arith, s, l)))
 
 -- an item that is no template's table
-pub unwritten_at : (read : Option Members) (document : Members) (xs : Items) → read ≡ Some document → HasTables document xs → (code : StaticCode) (template : Option ℕ)
+pub unwritten_at : (read : Option Members) (document : Members) (xs : Items) → read ≡ Some document → HasTables document xs
+    → (code : StaticCode) (template : Option ℕ)
     → IsUnread xs code template → IsUnwritten read code template
 unwritten_at read document xs is h S1 (Some k) u =
     let t = table_at xs k u.0 h.1 u.1 in
@@ -246,8 +259,10 @@ no_tables read document is none other xs found h =
     none_is_some e = cc
 
 -- the tables before it write templates
-pub written_before : (read : Option Members) (document : Members) (xs : Items) → read ≡ Some document → HasTables document xs → (code : StaticCode) (template : Option ℕ)
-    → IfSome template (λ k. (code ≡ S1) × ((j : ℕ) (d : Data) → j < k → get_item j xs ≡ Some d → IsSome (template_in d))) → IfSome template (λ k. (code ≡ S1) × IsFirstUnwritten read k)
+pub written_before : (read : Option Members) (document : Members) (xs : Items) → read ≡ Some document → HasTables document xs
+    → (code : StaticCode) (template : Option ℕ)
+    → IfSome template (λ k. (code ≡ S1) × ((j : ℕ) (d : Data) → j < k → get_item j xs ≡ Some d → IsSome (template_in d)))
+    → IfSome template (λ k. (code ≡ S1) × IsFirstUnwritten read k)
 written_before read document xs is h code None first = tt
 written_before read document xs is h code (Some k) (is_code, first) = (
   is_code,

@@ -1,5 +1,6 @@
 -- What the notation writes is what is computed.
-use Rattle.std.proofs.Common.{◌≡◌, ◌≢◌, ℕ, ◌⊎◌, inl, inr, List, [], ◌∷◌, refl, ap, sym, ◌∙◌, subst, Option, Some, None, Bool, true, false, ◌||◌, codes, Ordering, Less, Equal, Greater, nat_cmp}
+use Rattle.std.proofs.Common.{◌≡◌, ◌≢◌, ℕ, ◌⊎◌, inl, inr, List, [], ◌∷◌, refl, ap, sym, ◌∙◌, subst, Option, Some, None, Bool, true, false}
+use Rattle.std.proofs.Common.{◌||◌, codes, Ordering, Less, Equal, Greater, nat_cmp}
 use Rattle.std.specs.Prelude.{if◌then◌else◌, IfSome, is_some}
 use Rattle.std.specs.Ordering.{match_ordering, is_eq}
 use Rattle.std.specs.Cmp.Lexicographic.{slice_cmp}
@@ -11,9 +12,11 @@ use Rattle.fast_value.specs.declared.kinds.Kind.{Kind}
 use Rattle.fast_value.specs.declared.kinds.Kind.TheVariants.{UInt32, Int32, UInt64, Int64, Decimal, Ascii, Unicode, Bytes}
 use Rattle.fast_tree.specs.meaning.AsWritten.{Written, IsName, Declared, scalar, by_parts, group, sequence, reference, DeclaredList, no_more, more}
 use Rattle.fast_notation.specs.meaning.Notation.{kind_name, HasOnly, TextAt, WritesPart, Writes, WritesAll, operator_keys as written_keys}
-use Rattle.fast_notation.specs.device.Reading.{◌>>=◌, is_one_of, operator_keys, length_of, scalar_of, parts_of, group_of, sequence_of, has_part, of_kind, of_table, declared_of, fields_of, all_fields}
+use Rattle.fast_notation.specs.device.Reading.{◌>>=◌, is_one_of, operator_keys, length_of, scalar_of, parts_of, group_of, sequence_of}
+use Rattle.fast_notation.specs.device.Reading.{has_part, of_kind, of_table, declared_of, fields_of, all_fields}
 use Rattle.fast_notation.proofs.lists.FieldLists.{fields_of_items}
-use Rattle.fast_notation.proofs.texts.ReadingPieces.{same_text, keys_only, known_key, there_text, there_name, there_flag, there_items, text_named, written_operator, written_part}
+use Rattle.fast_notation.proofs.texts.ReadingPieces.{same_text, keys_only, known_key, there_text, there_name, there_flag, there_items}
+use Rattle.fast_notation.proofs.texts.ReadingPieces.{text_named, written_operator, written_part}
 
 -- ---- keys that a table doesn't have
 
@@ -34,7 +37,8 @@ key_missing keys k (member l d ms) other only =
     ])
     (key_missing keys k ms other only.1)
 
-no_part : (keys : List (List ℕ)) (ms : Members) → is_one_of keys (codes "exponent") ≡ false → is_one_of keys (codes "mantissa") ≡ false → HasOnly keys ms → has_part ms ≡ false
+no_part : (keys : List (List ℕ)) (ms : Members) → is_one_of keys (codes "exponent") ≡ false → is_one_of keys (codes "mantissa") ≡ false
+    → HasOnly keys ms → has_part ms ≡ false
 no_part keys ms e m only = rw (key_missing keys (codes "exponent") ms e only, key_missing keys (codes "mantissa") ms m only) refl
 
 some_there : (o : Option Data) → o ≢ None → is_some o ≡ true
@@ -43,7 +47,8 @@ some_there (Some d) h = refl
 
 some_part : (ms : Members) → (get_member (codes "exponent") ms ≢ None) ⊎ (get_member (codes "mantissa") ms ≢ None) → has_part ms ≡ true
 some_part ms (inl h) = rw (some_there (get_member (codes "exponent") ms) h) refl
-some_part ms (inr h) = right (is_some (get_member (codes "exponent") ms)) (is_some (get_member (codes "mantissa") ms)) (some_there (get_member (codes "mantissa") ms) h)
+some_part ms (inr h) = right (is_some (get_member (codes "exponent") ms)) (is_some (get_member (codes "mantissa") ms))
+    (some_there (get_member (codes "mantissa") ms) h)
   where
     right : (a b : Bool) → b ≡ true → (a || b) ≡ true
     right true b e = refl
@@ -66,7 +71,8 @@ of_kind_at : (ms : Members) (kind : List ℕ) (inner : Option DeclaredList) → 
 of_kind_at ms kind inner h = ap (λ o. o >>= (λ t. t >>= (λ k. of_kind k ms inner))) (there_text (codes "kind") ms (Some kind) h)
 
 -- a length
-written_length : (ms os : Members) (own : Option (List ℕ)) (w : Written) → WritesPart (codes "length") (codes "name" ∷ written_keys) ms w os → TextAt (codes "name") os own → IfSome own IsName
+written_length : (ms os : Members) (own : Option (List ℕ)) (w : Written)
+    → WritesPart (codes "length") (codes "name" ∷ written_keys) ms w os → TextAt (codes "name") os own → IfSome own IsName
     → length_of (get_member (codes "length") ms) ≡ Some (own, w)
 written_length ms os own w (inl h) name is_name =
     rw (h.0, keys_only (codes "name" ∷ operator_keys) os h.1, there_text (codes "name") os own name, text_named own is_name, written_operator os w h.2) refl
@@ -83,10 +89,16 @@ mutual
   written_declared (scalar name optional kind w) d (ms, is_table, only, key, named, flag, operator) =
       let keys = codes "kind" ∷ codes "name" ∷ codes "optional" ∷ operator_keys in
       ap declared_of is_table ∙ of_kind_at ms (kind_name kind) (fields_of ms) key ∙ kind_of_scalar kind ms (fields_of ms) (no_part keys ms refl refl only)
-      ∙ rw (keys_only keys ms only, there_name (codes "name") ms name named, there_flag (codes "optional") ms optional flag, written_operator ms w operator) refl
+      ∙ rw (
+        keys_only keys ms only,
+        there_name (codes "name") ms name named,
+        there_flag (codes "optional") ms optional flag,
+        written_operator ms w operator,
+      ) refl
   written_declared (by_parts name optional e m) d (ms, es, os, is_table, only, key, named, flag, exponent, mantissa, some) =
       let keys = codes "kind" ∷ codes "name" ∷ codes "optional" ∷ codes "exponent" ∷ codes "mantissa" ∷ [] in
-      ap declared_of is_table ∙ of_kind_at ms (codes "decimal") (fields_of ms) key ∙ ap (λ b. if b then parts_of ms else scalar_of Decimal ms) (some_part ms some)
+      ap declared_of is_table ∙ of_kind_at ms (codes "decimal") (fields_of ms) key
+      ∙ ap (λ b. if b then parts_of ms else scalar_of Decimal ms) (some_part ms some)
       ∙ rw (
         keys_only keys ms only,
         there_name (codes "name") ms name named,
@@ -103,7 +115,12 @@ mutual
       let keys = codes "kind" ∷ codes "name" ∷ codes "optional" ∷ codes "fields" ∷ codes "length" ∷ [] in
       ap declared_of is_table ∙ of_kind_at ms (codes "sequence") (fields_of ms) key
       ∙ ap (sequence_of ms) (fields_of_items ms xs (there_items (codes "fields") ms xs items) ∙ written_all ds xs all)
-      ∙ rw (keys_only keys ms only, there_name (codes "name") ms name named, there_flag (codes "optional") ms optional flag, written_length ms os own w part length_name is_name) refl
+      ∙ rw (
+        keys_only keys ms only,
+        there_name (codes "name") ms name named,
+        there_flag (codes "optional") ms optional flag,
+        written_length ms os own w part length_name is_name,
+      ) refl
   written_declared (reference name) d (ms, is_table, only, key, named) =
       ap declared_of is_table ∙ of_kind_at ms (codes "ref") (fields_of ms) key
       ∙ rw (keys_only (codes "kind" ∷ codes "name" ∷ []) ms only, there_name (codes "name") ms name named) refl

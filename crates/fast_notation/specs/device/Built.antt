@@ -70,7 +70,8 @@ pub record CanBuild (ts : List DeclaredTemplate) (entries : List Entry) (chain :
   pub few : n + nodes_in ts chain ds ≤ node_limit
 
 -- The instructions with references expanded are a body, whose nodes follow the old ones, and whose numbers follow those that were there.
-pub record IsBuilt (ts : List DeclaredTemplate) (entries : List Entry) (chain : ℕ) (s : Scope) (ds : DeclaredList) (old new : List NodeData) (before after : List ℕ) : Type 0 where
+pub record IsBuilt (ts : List DeclaredTemplate) (entries : List Entry) (chain : ℕ) (s : Scope) (ds : DeclaredList)
+    (old new : List NodeData) (before after : List ℕ) : Type 0 where
   pub body : Body
   pub in_place : InPlace ts entries chain s ds (length old) body (length new)
   pub nodes : new ≡ old ++ spread_all body
@@ -81,7 +82,8 @@ abbrev pub outline_of : TemplateData → TemplateOutline
 outline_of u = record { name = u.name; id = u.id; reset = u.reset; body = top_numbers u.body }
 
 -- The first templates of a set with references expanded, their nodes, and how they name these.
-pub record AreBuilt (all : List DeclaredTemplate) (entries : List Entry) (ts : List DeclaredTemplate) (nodes : List NodeData) (outlines : List TemplateOutline) : Type 0 where
+pub record AreBuilt (all : List DeclaredTemplate) (entries : List Entry) (ts : List DeclaredTemplate) (nodes : List NodeData)
+    (outlines : List TemplateOutline) : Type 0 where
   pub templates : List TemplateData
   pub in_place : AreInPlace all entries 0 ts 0 templates (length nodes)
   pub spread_into : nodes ≡ flat_map (λ u. spread_all u.body) templates

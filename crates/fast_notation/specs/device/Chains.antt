@@ -1,12 +1,14 @@
 -- Chains of references: whether they end, and the number and the depth of the nodes to which they expand.
 use Rattle.std.specs.Prelude.{◌≡◌, ℕ, zero, suc, ◌+◌, max, if◌then◌else◌, List, [], ◌∷◌, Contains, slice_get, Some}
 use Rattle.std.specs.Str.{bytes_eq}
-use Rattle.fast_tree.specs.meaning.AsWritten.{Declared, scalar, by_parts, group, sequence, reference, DeclaredList, no_more, more, DeclaredTemplate, all_references}
+use Rattle.fast_tree.specs.meaning.AsWritten.{Declared, scalar, by_parts, group, sequence, reference, DeclaredList, no_more, more}
+use Rattle.fast_tree.specs.meaning.AsWritten.{DeclaredTemplate, all_references}
 
 -- All references of the instructions can be expanded in a chain of at most the given length.
 unfoldable pub Fits : List DeclaredTemplate → ℕ → DeclaredList → Type 0
 Fits ts zero ds = all_references ds ≡ []
-Fits ts (suc n) ds = (name : List ℕ) (k : ℕ) (t : DeclaredTemplate) → Contains (all_references ds) name → slice_get ts k ≡ Some t → t.name ≡ name → Fits ts n t.fields
+Fits ts (suc n) ds = (name : List ℕ) (k : ℕ) (t : DeclaredTemplate) → Contains (all_references ds) name → slice_get ts k ≡ Some t
+    → t.name ≡ name → Fits ts n t.fields
 
 -- the number of nodes of instructions, by that of the templates to which references lead
 abbrev mutual

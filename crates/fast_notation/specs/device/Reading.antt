@@ -1,5 +1,6 @@
 -- The contents of the tables of a template file, key by key, as functions: None if they are not of the stated shape.
-use Rattle.std.specs.Prelude.{ℕ, suc, ◌&&◌, ◌||◌, nat_le, nat_lt, nat_eq, if◌then◌else◌, Bool, true, false, not, List, [], ◌∷◌, length, codes, pos, Option, Some, None, is_some, is_none}
+use Rattle.std.specs.Prelude.{ℕ, suc, ◌&&◌, ◌||◌, nat_le, nat_lt, nat_eq, if◌then◌else◌, Bool, true, false, not, List, [], ◌∷◌, length}
+use Rattle.std.specs.Prelude.{codes, pos, Option, Some, None, is_some, is_none}
 use Rattle.std.specs.List.{list_all}
 use Rattle.std.specs.Str.{bytes_eq}
 use Rattle.std.specs.Cmp.Lexicographic.{slice_cmp}
@@ -9,7 +10,8 @@ use Rattle.fast_value.specs.declared.kinds.Kind.{Kind}
 use Rattle.fast_value.specs.declared.kinds.Kind.TheVariants.{UInt32, Int32, UInt64, Int64, Decimal, Ascii, Unicode, Bytes}
 use Rattle.fast_tree.specs.declared.operators.Operator.{Operator}
 use Rattle.fast_tree.specs.declared.operators.Operator.TheVariants.{None as no_operator, Constant, Default, Copy, Increment, Delta, Tail}
-use Rattle.fast_tree.specs.meaning.AsWritten.{Written, plain, Declared, scalar, by_parts, group, sequence, reference, DeclaredList, no_more, more, DeclaredTemplate}
+use Rattle.fast_tree.specs.meaning.AsWritten.{Written, plain, Declared, scalar, by_parts, group, sequence, reference, DeclaredList, no_more}
+use Rattle.fast_tree.specs.meaning.AsWritten.{more, DeclaredTemplate}
 
 -- the second step, if the first gave a value
 infixl 10 ◌>>=◌
@@ -23,7 +25,8 @@ checked b x = if b then Some x else None
 
 -- the byte may occur in a name
 abbrev pub is_name_byte : ℕ → Bool
-is_name_byte c = (nat_le 0x41 c && nat_le c 0x5A) || (nat_le 0x61 c && nat_le c 0x7A) || (nat_le 0x30 c && nat_le c 0x39) || nat_eq c 0x5F || nat_eq c 0x2D || nat_eq c 0x2E
+is_name_byte c = (nat_le 0x41 c && nat_le c 0x5A) || (nat_le 0x61 c && nat_le c 0x7A) ||
+    (nat_le 0x30 c && nat_le c 0x39) || nat_eq c 0x5F || nat_eq c 0x2D || nat_eq c 0x2E
 
 -- the string is a name
 abbrev pub is_name : List ℕ → Bool

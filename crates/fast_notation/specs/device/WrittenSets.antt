@@ -9,7 +9,12 @@ use Rattle.fast_tree.specs.meaning.AsWritten.{Written, Declared, scalar, by_part
 
 -- a written operator
 abbrev pub operator_data : WrittenOperator → Written
-operator_data w = record { operator = w.operator; value = option_map string_bytes w.value; key = option_map string_bytes w.key; dictionary = option_map string_bytes w.dictionary }
+operator_data w = record {
+  operator = w.operator;
+  value = option_map string_bytes w.value;
+  key = option_map string_bytes w.key;
+  dictionary = option_map string_bytes w.dictionary;
+}
 
 -- a list as one of instructions
 abbrev pub list_of : List Declared → DeclaredList
@@ -21,7 +26,8 @@ abbrev pub instruction_step : WrittenInstruction-F Declared → Declared
 instruction_step (Scalar name optional kind w) = scalar (string_bytes name) optional kind (operator_data w)
 instruction_step (Parts name optional e m) = by_parts (string_bytes name) optional (operator_data e) (operator_data m)
 instruction_step (Group name optional fields) = group (string_bytes name) optional (list_of fields.items)
-instruction_step (Sequence name optional own w fields) = sequence (string_bytes name) optional (option_map string_bytes own) (operator_data w) (list_of fields.items)
+instruction_step (Sequence name optional own w fields) =
+    sequence (string_bytes name) optional (option_map string_bytes own) (operator_data w) (list_of fields.items)
 instruction_step (Reference name) = reference (string_bytes name)
 
 -- the data of an instruction

@@ -42,7 +42,8 @@ IsFirst ts code k = (c : StaticCode) (j : ℕ) → IsToldBefore c j code k → �
 
 -- The templates that are written before the one at fault are written as they should be.
 abbrev pub IsFirstUnwritten : Option Members → ℕ → Type 0
-IsFirstUnwritten read k = (document ms : Members) (xs : Items) (j : ℕ) → read ≡ Some document → HasTables document xs → j < k → get_item j xs ≡ Some (table ms) → (t : DeclaredTemplate) × WritesTemplate ms t
+IsFirstUnwritten read k = (document ms : Members) (xs : Items) (j : ℕ) → read ≡ Some document → HasTables document xs → j < k
+    → get_item j xs ≡ Some (table ms) → (t : DeclaredTemplate) × WritesTemplate ms t
 
 -- The first fault of a file.
 abbrev pub IsFirstFault : Option Members → StaticCode → Option ℕ → Type 0

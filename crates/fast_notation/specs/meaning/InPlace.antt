@@ -3,7 +3,9 @@ use Rattle.std.specs.Prelude.{◌≡◌, ℕ, suc, Bool, List, [], ◌∷◌, sl
 use Rattle.fast_value.specs.declared.kinds.Kind.{Kind}
 use Rattle.fast_tree.specs.meaning.Tree.{FieldData, Label, field, parts, group, sequence, Body, end, step, TemplateData}
 use Rattle.fast_tree.specs.meaning.Sizes.{nesting_limit}
-use Rattle.fast_tree.specs.meaning.AsWritten.{Written, scalar, by_parts, group as group_declared, sequence as sequence_declared, reference, DeclaredList, no_more, more, DeclaredTemplate, scalar_use, exponent_use, mantissa_use, length_use}
+use Rattle.fast_tree.specs.meaning.AsWritten.{Written, scalar, by_parts, group as group_declared, sequence as sequence_declared, reference}
+use Rattle.fast_tree.specs.meaning.AsWritten.{DeclaredList, no_more, more, DeclaredTemplate, scalar_use, exponent_use, mantissa_use}
+use Rattle.fast_tree.specs.meaning.AsWritten.{length_use}
 use Rattle.fast_tree.specs.meaning.Entries.{Entry, Scope, scope_of}
 use Rattle.fast_notation.specs.meaning.Uses.{IsField}
 
@@ -35,7 +37,8 @@ pub data InPlace (ts : List DeclaredTemplate) (entries : List Entry) : ℕ → S
       → InPlace ts entries chain s inner (suc n) body k
       → InPlace ts entries chain s ds k is m
       → InPlace ts entries chain s (more (group_declared name optional inner) ds) n (step (group (label n name) optional body) is) m
-  a_sequence : {chain : ℕ} {s : Scope} {n k m : ℕ} {name : List ℕ} {optional : Bool} {own : Option (List ℕ)} {w : Written} {inner ds : DeclaredList} {f : FieldData} {body is : Body}
+  a_sequence : {chain : ℕ} {s : Scope} {n k m : ℕ} {name : List ℕ} {optional : Bool} {own : Option (List ℕ)} {w : Written}
+      {inner ds : DeclaredList} {f : FieldData} {body is : Body}
       → IsField entries s (length_use name optional own w) f
       → InPlace ts entries chain s inner (suc n) body k
       → InPlace ts entries chain s ds k is m

@@ -5,7 +5,8 @@ use Rattle.fast_value.specs.declared.kinds.Kind.{Kind}
 use Rattle.fast_value.specs.declared.kinds.Kind.TheVariants.{UInt32, Int32, UInt64, Int64, Decimal, Ascii, Unicode, Bytes}
 use Rattle.fast_tree.specs.declared.operators.Operator.{Operator}
 use Rattle.fast_tree.specs.declared.operators.Operator.TheVariants.{None as no_operator, Constant, Default, Copy, Increment, Delta, Tail}
-use Rattle.fast_tree.specs.meaning.AsWritten.{Written, plain, Declared, scalar, by_parts, group, sequence, reference, DeclaredList, no_more, more, DeclaredTemplate, IsName}
+use Rattle.fast_tree.specs.meaning.AsWritten.{Written, plain, Declared, scalar, by_parts, group, sequence, reference, DeclaredList, no_more}
+use Rattle.fast_tree.specs.meaning.AsWritten.{more, DeclaredTemplate, IsName}
 
 -- the name of a type in the notation
 abbrev pub kind_name : Kind → List ℕ
@@ -79,7 +80,8 @@ pub record WritesOperator (ms : Members) (w : Written) : Type 0 where
 
 -- A part's table; without one the part has no operator.
 abbrev pub WritesPart : List ℕ → List (List ℕ) → Members → Written → Members → Type 0
-WritesPart key keys ms w os = (get_member key ms ≡ Some (table os)) × HasOnly keys os × WritesOperator os w ⊎ (get_member key ms ≡ None) × (os ≡ no_members) × (w ≡ plain)
+WritesPart key keys ms w os = (get_member key ms ≡ Some (table os)) × HasOnly keys os × WritesOperator os w ⊎ (get_member key ms ≡ None)
+    × (os ≡ no_members) × (w ≡ plain)
 
 -- the type of a table
 abbrev pub kind_key : Members → List ℕ → Type 0
@@ -90,16 +92,21 @@ abbrev mutual
   pub Writes : Data → Declared → Type 0
   Writes d (scalar name optional kind w) = (ms : Members) × (d ≡ table ms) × HasOnly (codes "kind" ∷ codes "name" ∷ codes "optional" ∷ operator_keys) ms
       × kind_key ms (kind_name kind) × NameAt (codes "name") ms name × FlagAt (codes "optional") ms optional × WritesOperator ms w
-  Writes d (by_parts name optional e m) = (ms es os : Members) × (d ≡ table ms) × HasOnly (codes "kind" ∷ codes "name" ∷ codes "optional" ∷ codes "exponent" ∷ codes "mantissa" ∷ []) ms
+  Writes d (by_parts name optional e m) = (ms es os : Members) × (d ≡ table ms)
+      × HasOnly (codes "kind" ∷ codes "name" ∷ codes "optional" ∷ codes "exponent" ∷ codes "mantissa" ∷ []) ms
       × kind_key ms (codes "decimal") × NameAt (codes "name") ms name × FlagAt (codes "optional") ms optional
       × WritesPart (codes "exponent") operator_keys ms e es × WritesPart (codes "mantissa") operator_keys ms m os
       × ((get_member (codes "exponent") ms ≢ None) ⊎ (get_member (codes "mantissa") ms ≢ None))
-  Writes d (group name optional ds) = (ms : Members) × (xs : Items) × (d ≡ table ms) × HasOnly (codes "kind" ∷ codes "name" ∷ codes "optional" ∷ codes "fields" ∷ []) ms
+  Writes d (group name optional ds) = (ms : Members) × (xs : Items) × (d ≡ table ms)
+      × HasOnly (codes "kind" ∷ codes "name" ∷ codes "optional" ∷ codes "fields" ∷ []) ms
       × kind_key ms (codes "group") × NameAt (codes "name") ms name × FlagAt (codes "optional") ms optional × ItemsAt (codes "fields") ms xs × WritesAll xs ds
-  Writes d (sequence name optional own w ds) = (ms os : Members) × (xs : Items) × (d ≡ table ms) × HasOnly (codes "kind" ∷ codes "name" ∷ codes "optional" ∷ codes "fields" ∷ codes "length" ∷ []) ms
-      × kind_key ms (codes "sequence") × NameAt (codes "name") ms name × FlagAt (codes "optional") ms optional × ItemsAt (codes "fields") ms xs × WritesAll xs ds
+  Writes d (sequence name optional own w ds) = (ms os : Members) × (xs : Items) × (d ≡ table ms)
+      × HasOnly (codes "kind" ∷ codes "name" ∷ codes "optional" ∷ codes "fields" ∷ codes "length" ∷ []) ms
+      × kind_key ms (codes "sequence") × NameAt (codes "name") ms name × FlagAt (codes "optional") ms optional
+      × ItemsAt (codes "fields") ms xs × WritesAll xs ds
       × WritesPart (codes "length") (codes "name" ∷ operator_keys) ms w os × TextAt (codes "name") os own × IfSome own IsName
-  Writes d (reference name) = (ms : Members) × (d ≡ table ms) × HasOnly (codes "kind" ∷ codes "name" ∷ []) ms × kind_key ms (codes "ref") × NameAt (codes "name") ms name
+  Writes d (reference name) = (ms : Members) × (d ≡ table ms) × HasOnly (codes "kind" ∷ codes "name" ∷ []) ms × kind_key ms (codes "ref")
+      × NameAt (codes "name") ms name
 
   pub WritesAll : Items → DeclaredList → Type 0
   WritesAll xs no_more = xs ≡ no_items
@@ -117,7 +124,8 @@ pub record WritesTemplate (ms : Members) (t : DeclaredTemplate) : Type 0 where
   pub name : NameAt (codes "name") ms t.name
   pub id : IdAt ms t.id
   pub reset : FlagAt (codes "reset") ms t.reset
-  pub dictionary : TextAt (codes "dictionary") ms (Some t.dictionary) × IsDictionary t.dictionary ⊎ TextAt (codes "dictionary") ms None × (t.dictionary ≡ codes "global")
+  pub dictionary : TextAt (codes "dictionary") ms (Some t.dictionary) × IsDictionary t.dictionary ⊎ TextAt (codes "dictionary") ms None
+      × (t.dictionary ≡ codes "global")
   pub fields_at : ItemsAt (codes "fields") ms items
   pub fields : WritesAll items t.fields
 
@@ -128,4 +136,5 @@ WritesTemplates xs (t ∷ ts) = (ms : Members) × (rest : Items) × (xs ≡ item
 
 -- The document has the one key `template`, whose tables write the templates, in order.
 abbrev pub WritesSet : Members → List DeclaredTemplate → Type 0
-WritesSet document ts = (xs : Items) × (document ≡ member (codes "template") (array xs) no_members) × WritesTemplates xs ts × (1 ≤ length ts) × (length ts < 2 ^ 32)
+WritesSet document ts = (xs : Items) × (document ≡ member (codes "template") (array xs) no_members) × WritesTemplates xs ts
+    × (1 ≤ length ts) × (length ts < 2 ^ 32)

@@ -14,12 +14,14 @@ use Rattle.fast_notation.specs.meaning.Checked.{AreNarrowInside}
 -- FAST 1.1: Template Definition, Template Reference Instruction.
 abbrev pub Reaches : List DeclaredTemplate → ℕ → ℕ → ℕ → Type 0
 Reaches ts zero a b = a ≡ b
-Reaches ts (suc n) a b = (mid : ℕ) × (t u : DeclaredTemplate) × (slice_get ts a ≡ Some t) × (slice_get ts mid ≡ Some u) × Contains (all_references t.fields) u.name × Reaches ts n mid b
+Reaches ts (suc n) a b = (mid : ℕ) × (t u : DeclaredTemplate) × (slice_get ts a ≡ Some t) × (slice_get ts mid ≡ Some u)
+    × Contains (all_references t.fields) u.name × Reaches ts n mid b
 
 -- The template's instructions with references expanded.
 -- FAST 1.1: Template Definition, Template Reference Instruction.
 abbrev pub IsBodyOf : List DeclaredTemplate → ℕ → Body → Type 0
-IsBodyOf ts k body = (entries : List Entry) × (t : DeclaredTemplate) × (n m : ℕ) × (slice_get ts k ≡ Some t) × InPlace ts entries nesting_limit (scope_of k t) t.fields n body m
+IsBodyOf ts k body = (entries : List Entry) × (t : DeclaredTemplate) × (n m : ℕ) × (slice_get ts k ≡ Some t)
+    × InPlace ts entries nesting_limit (scope_of k t) t.fields n body m
 
 -- The condition of a code holds in the written set, at the template of this number. (S1 is that no set is written.)
 -- FAST 1.1: Error Codes, S1 to S5 and D8.

@@ -19,6 +19,7 @@ HasTables document xs = (document ≡ member (codes "template") (array xs) no_me
 -- The fault of a file that `toml` reads as a document, or does not read, and the template at which it is.
 abbrev pub IsUnwritten : Option Members → StaticCode → Option ℕ → Type 0
 IsUnwritten read S1 None = (document : Members) (xs : Items) → read ≡ Some document → ¬ (HasTables document xs)
-IsUnwritten read S1 (Some k) = (document ms : Members) × (xs : Items) × (read ≡ Some document) × HasTables document xs × (get_item k xs ≡ Some (table ms)) × ((t : DeclaredTemplate) → ¬ (WritesTemplate ms t))
+IsUnwritten read S1 (Some k) = (document ms : Members) × (xs : Items) × (read ≡ Some document) × HasTables document xs
+    × (get_item k xs ≡ Some (table ms)) × ((t : DeclaredTemplate) → ¬ (WritesTemplate ms t))
 IsUnwritten read Memory None = Unit {0}
 IsUnwritten read code template = ⊥

@@ -10,20 +10,33 @@ use Rattle.fast_tree.specs.declared.instructions.Shape.{Shape}
 use Rattle.fast_tree.specs.declared.instructions.Shape.TheVariants.{Field, Decimal as by_parts, Group as a_group, Sequence as a_sequence}
 use Rattle.fast_tree.specs.meaning.Entries.{keeps_value}
 use Rattle.fast_program.specs.declared.codes.Code.{Code}
-use Rattle.fast_program.specs.declared.codes.Code.TheVariants.{General, End, Constant, Parts, PartsDefault, PartsNullableDefault, PartsCopy, PartsNullableCopy, Group, OptionalGroup, Sequence, OptionalSequence}
-use Rattle.fast_program.specs.declared.codes.Code.TheVariants.{UInt32Plain, UInt32NullablePlain, UInt32Default, UInt32NullableDefault, UInt32Copy, UInt32NullableCopy, UInt32Increment, UInt32NullableIncrement, UInt32Delta, UInt32NullableDelta}
-use Rattle.fast_program.specs.declared.codes.Code.TheVariants.{Int32Plain, Int32NullablePlain, Int32Default, Int32NullableDefault, Int32Copy, Int32NullableCopy, Int32Increment, Int32NullableIncrement, Int32Delta, Int32NullableDelta}
-use Rattle.fast_program.specs.declared.codes.Code.TheVariants.{UInt64Plain, UInt64NullablePlain, UInt64Default, UInt64NullableDefault, UInt64Copy, UInt64NullableCopy, UInt64Increment, UInt64NullableIncrement, UInt64Delta, UInt64NullableDelta}
-use Rattle.fast_program.specs.declared.codes.Code.TheVariants.{Int64Plain, Int64NullablePlain, Int64Default, Int64NullableDefault, Int64Copy, Int64NullableCopy, Int64Increment, Int64NullableIncrement, Int64Delta, Int64NullableDelta}
-use Rattle.fast_program.specs.declared.codes.Code.TheVariants.{DecimalPlain, DecimalNullablePlain, DecimalCopy, DecimalNullableCopy, DecimalDelta, DecimalNullableDelta}
-use Rattle.fast_program.specs.declared.codes.Code.TheVariants.{AsciiPlain, AsciiNullablePlain, AsciiDefault, AsciiNullableDefault, AsciiCopy, AsciiNullableCopy, AsciiTail, AsciiNullableTail, AsciiDelta, AsciiNullableDelta}
+use Rattle.fast_program.specs.declared.codes.Code.TheVariants.{General, End, Constant, Parts, PartsDefault, PartsNullableDefault, PartsCopy}
+use Rattle.fast_program.specs.declared.codes.Code.TheVariants.{PartsNullableCopy, Group, OptionalGroup, Sequence, OptionalSequence}
+use Rattle.fast_program.specs.declared.codes.Code.TheVariants.{UInt32Plain, UInt32NullablePlain, UInt32Default, UInt32NullableDefault}
+use Rattle.fast_program.specs.declared.codes.Code.TheVariants.{UInt32Copy, UInt32NullableCopy, UInt32Increment, UInt32NullableIncrement}
+use Rattle.fast_program.specs.declared.codes.Code.TheVariants.{UInt32Delta, UInt32NullableDelta}
+use Rattle.fast_program.specs.declared.codes.Code.TheVariants.{Int32Plain, Int32NullablePlain, Int32Default, Int32NullableDefault}
+use Rattle.fast_program.specs.declared.codes.Code.TheVariants.{Int32Copy, Int32NullableCopy, Int32Increment, Int32NullableIncrement}
+use Rattle.fast_program.specs.declared.codes.Code.TheVariants.{Int32Delta, Int32NullableDelta}
+use Rattle.fast_program.specs.declared.codes.Code.TheVariants.{UInt64Plain, UInt64NullablePlain, UInt64Default, UInt64NullableDefault}
+use Rattle.fast_program.specs.declared.codes.Code.TheVariants.{UInt64Copy, UInt64NullableCopy, UInt64Increment, UInt64NullableIncrement}
+use Rattle.fast_program.specs.declared.codes.Code.TheVariants.{UInt64Delta, UInt64NullableDelta}
+use Rattle.fast_program.specs.declared.codes.Code.TheVariants.{Int64Plain, Int64NullablePlain, Int64Default, Int64NullableDefault}
+use Rattle.fast_program.specs.declared.codes.Code.TheVariants.{Int64Copy, Int64NullableCopy, Int64Increment, Int64NullableIncrement}
+use Rattle.fast_program.specs.declared.codes.Code.TheVariants.{Int64Delta, Int64NullableDelta}
+use Rattle.fast_program.specs.declared.codes.Code.TheVariants.{DecimalPlain, DecimalNullablePlain, DecimalCopy, DecimalNullableCopy}
+use Rattle.fast_program.specs.declared.codes.Code.TheVariants.{DecimalDelta, DecimalNullableDelta}
+use Rattle.fast_program.specs.declared.codes.Code.TheVariants.{AsciiPlain, AsciiNullablePlain, AsciiDefault, AsciiNullableDefault}
+use Rattle.fast_program.specs.declared.codes.Code.TheVariants.{AsciiCopy, AsciiNullableCopy, AsciiTail, AsciiNullableTail, AsciiDelta}
+use Rattle.fast_program.specs.declared.codes.Code.TheVariants.{AsciiNullableDelta}
 use Rattle.fast_program.specs.declared.codes.Code.TheVariants.{UnicodePlain, UnicodeNullablePlain, UnicodeDelta, UnicodeNullableDelta}
 use Rattle.fast_program.specs.declared.codes.Code.TheVariants.{BytesPlain, BytesNullablePlain, BytesTail, BytesNullableTail}
 
 -- The shape is a field of the type under the operator, optional or mandatory; if the operator keeps a value, it has this entry.
 abbrev pub IsFieldCoded : Kind → Operator → Bool → ℕ → Shape → Type 0
 IsFieldCoded kind operator optional entry shape =
-    (f : FieldInstruction) × (shape ≡ Field f) × (f.kind ≡ kind) × (f.operator ≡ operator) × (f.optional ≡ optional) × (keeps_value operator ≡ true → f.entry ≡ Some entry)
+    (f : FieldInstruction) × (shape ≡ Field f) × (f.kind ≡ kind) × (f.operator ≡ operator) × (f.optional ≡ optional)
+    × (keeps_value operator ≡ true → f.entry ≡ Some entry)
 
 -- The shape is a mandatory constant.
 abbrev pub IsConstantCoded : Shape → Type 0
@@ -37,7 +50,8 @@ IsPartsCoded shape = (e m : FieldInstruction) × (shape ≡ by_parts e m)
 -- this entry.
 abbrev pub IsChangedPartsCoded : Operator → Bool → ℕ → Shape → Type 0
 IsChangedPartsCoded operator optional entry shape =
-    (e m : FieldInstruction) × (shape ≡ by_parts e m) × (e.operator ≡ operator) × (e.optional ≡ optional) × (m.operator ≡ Delta) × (m.optional ≡ false) × (m.entry ≡ Some entry)
+    (e m : FieldInstruction) × (shape ≡ by_parts e m) × (e.operator ≡ operator) × (e.optional ≡ optional) × (m.operator ≡ Delta)
+    × (m.optional ≡ false) × (m.entry ≡ Some entry)
 
 -- The shape is a group, optional or mandatory.
 abbrev pub IsGroupCoded : Bool → Shape → Type 0

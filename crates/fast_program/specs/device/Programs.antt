@@ -11,7 +11,8 @@ use Rattle.fast_program.specs.device.Starts.{IsStartOf, AreInOrder}
 
 -- Each op but an End is of its node.
 abbrev pub SuitNodes : List Op → List Node → Type 0
-SuitNodes ops ns = (i : ℕ) (op : Op) → slice_get ops i ≡ Some op → is_end op.code ≡ false → (x : Node) × (slice_get ns op.node ≡ Some x) × IsOpOf op op.node x.shape
+SuitNodes ops ns = (i : ℕ) (op : Op) → slice_get ops i ≡ Some op → is_end op.code ≡ false
+    → (x : Node) × (slice_get ns op.node ≡ Some x) × IsOpOf op op.node x.shape
 
 -- Ops to which others were appended: runs are unchanged, and ops that suit the nodes, or hold their own indexes, still do.
 pub record Extends (ns : List Node) (old new : List Op) : Type 0 where

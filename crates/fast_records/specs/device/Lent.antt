@@ -2,7 +2,8 @@
 use Rattle.std.specs.Prelude.{◌≡◌, ℕ, ℤ, if◌then◌else◌, nat_eq, List, []}
 use Rattle.std.specs.Int.{w64, cast_signed}
 use Rattle.fast_value.specs.meaning.Kinds.{U, I, Dec, AsciiText, UnicodeText, ByteVector}
-use Rattle.fast_stream.specs.meaning.Events.{EventData, MessageStart, FieldValue, GroupStart, GroupEnd, SequenceStart, ElementStart, ElementEnd, SequenceEnd, MessageEnd}
+use Rattle.fast_stream.specs.meaning.Events.{EventData, MessageStart, FieldValue, GroupStart, GroupEnd, SequenceStart, ElementStart}
+use Rattle.fast_stream.specs.meaning.Events.{ElementEnd, SequenceEnd, MessageEnd}
 use Rattle.fast_records.specs.declared.records.Record.{Record}
 use Rattle.fast_records.specs.meaning.Records.{text_record, record_of, unplaced, event_text}
 use Rattle.fast_records.specs.meaning.Lent.{IsHeld}

@@ -42,7 +42,8 @@ OnStream (Err f) A = OnStreamCode f.code A
 -- No byte is fed before all that waited was given, so that what waits then is of the bytes of this call.
 -- Without a fault, and at one of the stream, what was fed leads to the decoder, so that the same can be said of the next call. The rest is
 -- what `feed` says of a sink that is a list.
-pub record Delivers (t : Tree) (l : Limits) (w : List ℕ) (es : List EventData) (piece : List ℕ) (waited : List EventData) (new : DecoderData) (records : List Record) (texts : List ℕ) (waits : List EventData) : Type 0 where
+pub record Delivers (t : Tree) (l : Limits) (w : List ℕ) (es : List EventData) (piece : List ℕ) (waited : List EventData)
+    (new : DecoderData) (records : List Record) (texts : List ℕ) (waits : List EventData) : Type 0 where
   pub count : ℕ
   pub within : count ≤ length piece
   pub more : List EventData

@@ -9,7 +9,16 @@ use Rattle.fast_records.specs.meaning.Waiting.{pending}
 
 -- the buffers of a sink, and how much of them is filled
 abbrev pub room_of : RecordSink → Room
-room_of s = record { records = s.records; texts = s.texts; filled = s.filled; limit = s.limit; used = s.used; filled_within = s.filled_within; limit_within = s.limit_within; used_within = s.used_within }
+room_of s = record {
+  records = s.records;
+  texts = s.texts;
+  filled = s.filled;
+  limit = s.limit;
+  used = s.used;
+  filled_within = s.filled_within;
+  limit_within = s.limit_within;
+  used_within = s.used_within;
+}
 
 -- These are the events whose records are in the buffers, and then those that wait. One waits only where it had no room, and no later one
 -- overtakes it.

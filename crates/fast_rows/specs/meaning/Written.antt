@@ -11,7 +11,8 @@ pub record IsWritten (held holds : Option (List ℕ)) (had_failed has_failed : B
   pub part : OnErr r (AppendsFront held holds text × IsTrue has_failed)
 
 -- Rows with these bytes and these lines of show were written so, from this offset on.
-pub record AreWritten (t : Tree) (at : ℕ) (bytes lines : List ℕ) (held holds : Option (List ℕ)) (had_failed has_failed : Bool) (r : Result (Unit {0}) Failed) : Type 0 where
+pub record AreWritten (t : Tree) (at : ℕ) (bytes lines : List ℕ) (held holds : Option (List ℕ)) (had_failed has_failed : Bool)
+    (r : Result (Unit {0}) Failed) : Type 0 where
   pub rows : List Row
   pub bytes_are : bytes_in rows ≡ bytes
   pub lines_are : lines_in rows ≡ lines

@@ -28,7 +28,8 @@ pub record Progress (t : Tree) (l : Limits) (hex : Bool) (s : Run) (text b : Lis
   pub taken : IsTaken s.unhexer text b
 
 -- A piece of the text was fed after what had been read: it stands for more bytes.
-pub record Fed {S : Type 0} (takes stops : S → EventData → S → Type 0) (old : Run) (text b : List ℕ) (es : List EventData) (piece : List ℕ) (s : Selected S) (r : Result (Unit {0}) Fault) (new : Run) (s' : Selected S) : Type 0 where
+pub record Fed {S : Type 0} (takes stops : S → EventData → S → Type 0) (old : Run) (text b : List ℕ) (es : List EventData) (piece : List ℕ)
+    (s : Selected S) (r : Result (Unit {0}) Fault) (new : Run) (s' : Selected S) : Type 0 where
   pub bytes : List ℕ
   pub taken : IsTaken new.unhexer (text ++ piece) (b ++ bytes)
   pub few : length bytes ≤ length piece

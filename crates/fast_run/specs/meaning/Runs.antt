@@ -25,7 +25,8 @@ Puts faults cuts (Ok Good) s s' = s' ≡ s
 Puts faults cuts (Err e) s s' = s' ≡ s
 
 -- An output took the events, what closes the stream was put after them, and then it was flushed.
-pub record Shows {S : Type 0} (takes : S → EventData → S → Type 0) (flushes : S → S → Type 0) (faults : S → Fault → S → Type 0) (cuts : S → ℕ → S → Type 0) (r : Result ShowEnd RunFault) (s : S) (es : List EventData) (s' : S) : Type 0 where
+pub record Shows {S : Type 0} (takes : S → EventData → S → Type 0) (flushes : S → S → Type 0) (faults : S → Fault → S → Type 0)
+    (cuts : S → ℕ → S → Type 0) (r : Result ShowEnd RunFault) (s : S) (es : List EventData) (s' : S) : Type 0 where
   pub mid : S
   pub put : S
   pub gives : Gives takes flushes s es mid
@@ -77,7 +78,8 @@ pub record IsSoFar (t : Tree) (l : Limits) (hex : Bool) (c : Chooser) (G : List 
 
 -- What a run has read and shown that ended so: `G es` says that the events were given to the output. The run can say for which cause no
 -- decoder is made, that the input is at its end, that it reads no more, and that the output has failed.
-abbrev pub Ran : Tree → Limits → Bool → Chooser → (Refuses : MakeError → Type 0) → (AtEnd ReadsNoMore HasFailed : Type 0) → (G : List EventData → Type 0) → List ℕ → Result ShowEnd RunFault → Type 0
+abbrev pub Ran : Tree → Limits → Bool → Chooser → (Refuses : MakeError → Type 0) → (AtEnd ReadsNoMore HasFailed : Type 0)
+    → (G : List EventData → Type 0) → List ℕ → Result ShowEnd RunFault → Type 0
 Ran t l hex c Refuses AtEnd ReadsNoMore HasFailed G text (Ok Good) = IsWhole t l hex c AtEnd G text between ⊎ IsEnough t l hex c G text
 Ran t l hex c Refuses AtEnd ReadsNoMore HasFailed G text (Ok (Faulted f)) = IsAtFault t l hex c G text f
 Ran t l hex c Refuses AtEnd ReadsNoMore HasFailed G text (Ok (Truncated n)) = (w : IsWhole t l hex c AtEnd G text inside) × (n ≡ length w.bytes)

@@ -14,7 +14,8 @@ is_of_all c = c.from == 0 && is_none c.limit && is_none c.only
 
 -- the word is a number of 32 bits in decimal digits, which a plus sign may lead
 abbrev pub IsId : List ℕ → ℕ → Type 0
-IsId word id = IsNumeral 10 (without_leading_plus word) × (digits_value 10 (without_leading_plus word) < 2 ^ 32) × (digits_value 10 (without_leading_plus word) ≡ id)
+IsId word id = IsNumeral 10 (without_leading_plus word) × (digits_value 10 (without_leading_plus word) < 2 ^ 32)
+    × (digits_value 10 (without_leading_plus word) ≡ id)
 
 -- no template has the name
 abbrev pub IsNoName : Templates → List ℕ → Type 0

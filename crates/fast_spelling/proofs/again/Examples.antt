@@ -34,18 +34,30 @@ small (b ∷ w) h = by (nat_le b 255) refl h (small w)
     by true e h next = let i : b ≤ 255 = leb-true b 255 e in All-cons (λ b. b < 256) b w (omega (arith, i)) (next h)
     by false e h next = absurd (cc h)
 
-delta_read : Stream (set_of (ascii_field Delta false None)) wide (0xC0 ∷ 0x81 ∷ 0x80 ∷ 0x41 ∷ 0xC3 ∷ 0x80 ∷ 0x82 ∷ 0x41 ∷ 0x00 ∷ 0xC2 ∷ []) (text_events (0x41 ∷ 0x43 ∷ []) ++ text_events (0x41 ∷ 0x00 ∷ 0x42 ∷ [])) between
+delta_read : Stream (set_of (ascii_field Delta false None)) wide (0xC0 ∷ 0x81 ∷ 0x80 ∷ 0x41 ∷ 0xC3 ∷ 0x80 ∷ 0x82 ∷ 0x41 ∷ 0x00 ∷ 0xC2 ∷ [])
+    (text_events (0x41 ∷ 0x43 ∷ []) ++ text_events (0x41 ∷ 0x00 ∷ 0x42 ∷ [])) between
 unfolding message_begun message_then message_of_then body_then field_term integer_reader ascii_text_reader presence_map_reader judged judged_map is_utf8 chars
-delta_read = reading-sound (set_of (ascii_field Delta false None)) wide (0xC0 ∷ 0x81 ∷ 0x80 ∷ 0x41 ∷ 0xC3 ∷ 0x80 ∷ 0x82 ∷ 0x41 ∷ 0x00 ∷ 0xC2 ∷ []) (small (0xC0 ∷ 0x81 ∷ 0x80 ∷ 0x41 ∷ 0xC3 ∷ 0x80 ∷ 0x82 ∷ 0x41 ∷ 0x00 ∷ 0xC2 ∷ []) refl)
+delta_read = reading-sound (set_of (ascii_field Delta false None)) wide
+    (0xC0 ∷ 0x81 ∷ 0x80 ∷ 0x41 ∷ 0xC3 ∷ 0x80 ∷ 0x82 ∷ 0x41 ∷ 0x00 ∷ 0xC2 ∷ [])
+    (small (0xC0 ∷ 0x81 ∷ 0x80 ∷ 0x41 ∷ 0xC3 ∷ 0x80 ∷ 0x82 ∷ 0x41 ∷ 0x00 ∷ 0xC2 ∷ []) refl)
 
-delta_refused : (p : PreviousData) → RefusesField (ascii_field Delta false None) (p ∷ assigned Ascii (AsciiText (0x41 ∷ 0x43 ∷ [])) ∷ []) (Some (AsciiText (0x41 ∷ 0x00 ∷ 0x42 ∷ []))) R9
-delta_refused p = (true, text_delta (pos 1) (0x00 ∷ 0x42 ∷ []), ((λ (next, u, _). absurd (cc u)), (AsciiText (0x41 ∷ 0x43 ∷ []), refl, inl (omega arith, refl))), (0x42 ∷ [], refl))
+delta_refused : (p : PreviousData) → RefusesField (ascii_field Delta false None) (p ∷ assigned Ascii (AsciiText (0x41 ∷ 0x43 ∷ [])) ∷ [])
+    (Some (AsciiText (0x41 ∷ 0x00 ∷ 0x42 ∷ []))) R9
+delta_refused p = (
+  true,
+  text_delta (pos 1) (0x00 ∷ 0x42 ∷ []),
+  ((λ (next, u, _). absurd (cc u)), (AsciiText (0x41 ∷ 0x43 ∷ []), refl, inl (omega arith, refl))),
+  (0x42 ∷ [], refl),
+)
 
-tail_read : Stream (set_of (ascii_field Tail false None)) wide (0xE0 ∷ 0x81 ∷ 0x41 ∷ 0x41 ∷ 0xC3 ∷ 0xA0 ∷ 0x41 ∷ 0x00 ∷ 0xC2 ∷ []) (text_events (0x41 ∷ 0x41 ∷ 0x43 ∷ []) ++ text_events (0x41 ∷ 0x00 ∷ 0x42 ∷ [])) between
+tail_read : Stream (set_of (ascii_field Tail false None)) wide (0xE0 ∷ 0x81 ∷ 0x41 ∷ 0x41 ∷ 0xC3 ∷ 0xA0 ∷ 0x41 ∷ 0x00 ∷ 0xC2 ∷ [])
+    (text_events (0x41 ∷ 0x41 ∷ 0x43 ∷ []) ++ text_events (0x41 ∷ 0x00 ∷ 0x42 ∷ [])) between
 unfolding message_begun message_then message_of_then body_then field_term integer_reader ascii_text_reader presence_map_reader judged judged_map is_utf8 chars
-tail_read = reading-sound (set_of (ascii_field Tail false None)) wide (0xE0 ∷ 0x81 ∷ 0x41 ∷ 0x41 ∷ 0xC3 ∷ 0xA0 ∷ 0x41 ∷ 0x00 ∷ 0xC2 ∷ []) (small (0xE0 ∷ 0x81 ∷ 0x41 ∷ 0x41 ∷ 0xC3 ∷ 0xA0 ∷ 0x41 ∷ 0x00 ∷ 0xC2 ∷ []) refl)
+tail_read = reading-sound (set_of (ascii_field Tail false None)) wide (0xE0 ∷ 0x81 ∷ 0x41 ∷ 0x41 ∷ 0xC3 ∷ 0xA0 ∷ 0x41 ∷ 0x00 ∷ 0xC2 ∷ [])
+    (small (0xE0 ∷ 0x81 ∷ 0x41 ∷ 0x41 ∷ 0xC3 ∷ 0xA0 ∷ 0x41 ∷ 0x00 ∷ 0xC2 ∷ []) refl)
 
-tail_refused : (p : PreviousData) → RefusesField (ascii_field Tail false None) (p ∷ assigned Ascii (AsciiText (0x41 ∷ 0x41 ∷ 0x43 ∷ [])) ∷ []) (Some (AsciiText (0x41 ∷ 0x00 ∷ 0x42 ∷ []))) R9
+tail_refused : (p : PreviousData) → RefusesField (ascii_field Tail false None)
+    (p ∷ assigned Ascii (AsciiText (0x41 ∷ 0x41 ∷ 0x43 ∷ [])) ∷ []) (Some (AsciiText (0x41 ∷ 0x00 ∷ 0x42 ∷ []))) R9
 tail_refused p = (
   true,
   value (AsciiText (0x00 ∷ 0x42 ∷ [])),
@@ -59,12 +71,19 @@ tail_refused p = (
     second : ScalarData
     second = AsciiText (0x41 ∷ 0x00 ∷ 0x42 ∷ [])
 
-    other : (next : PreviousData) → ◌≡◌ {A = Result Outcome Code} (Ok (record { value = Some first; next = assigned Ascii first })) (Ok (record { value = Some second; next = next })) → ⊥
+    other : (next : PreviousData) → ◌≡◌ {A = Result Outcome Code} (Ok (record {
+      value = Some first;
+      next = assigned Ascii first;
+    })) (Ok (record { value = Some second; next = next })) → ⊥
     other next e =
-        let same : Some first ≡ Some second = ap (λ (o : Outcome). o.value) (same_ok (record { value = Some first; next = assigned Ascii first }) (record { value = Some second; next = next }) e) in
+        let same : Some first ≡ Some second = ap (λ (o : Outcome). o.value) (same_ok (record {
+          value = Some first;
+          next = assigned Ascii first;
+        }) (record { value = Some second; next = next }) e) in
         absurd (cc same)
 
-pub delta_example : IsReadButRefused Delta (0xC0 ∷ 0x81 ∷ 0x80 ∷ 0x41 ∷ 0xC3 ∷ 0x80 ∷ 0x82 ∷ 0x41 ∷ 0x00 ∷ 0xC2 ∷ []) (0x41 ∷ 0x43 ∷ []) (0x41 ∷ 0x00 ∷ 0x42 ∷ [])
+pub delta_example : IsReadButRefused Delta (0xC0 ∷ 0x81 ∷ 0x80 ∷ 0x41 ∷ 0xC3 ∷ 0x80 ∷ 0x82 ∷ 0x41 ∷ 0x00 ∷ 0xC2 ∷ []) (0x41 ∷ 0x43 ∷ [])
+    (0x41 ∷ 0x00 ∷ 0x42 ∷ [])
 delta_example = (delta_read, delta_refused)
 
 pub tail_example : IsReadButRefused Tail (0xE0 ∷ 0x81 ∷ 0x41 ∷ 0x41 ∷ 0xC3 ∷ 0xA0 ∷ 0x41 ∷ 0x00 ∷ 0xC2 ∷ []) (0x41 ∷ 0x41 ∷ 0x43 ∷ []) (0x41 ∷ 0x00 ∷ 0x42 ∷ [])

@@ -65,9 +65,23 @@ goes_unsent f p v = by (uses_bit f) refl (decide f p false nothing) refl
     one_way : (o n : Outcome) → o ≡ n → n.value ≡ v → o.value ≡ v
     one_way o n e h = ap (λ (z : Outcome). z.value) e ∙ h
 
-    told : (out : Outcome) → uses_bit f ≡ true → decide f p false nothing ≡ Ok out → (out.value ≡ v) ⊎ (out.value ≡ v → ⊥) → GoesUnsent f p v ⊎ (GoesUnsent f p v → ⊥)
-    told out u e (inl same) = inl (out.next, u, (clear_item f.operator f u, e ∙ ap (λ (z : Option ScalarData). Ok (record { value = z; next = out.next })) same))
-    told out u e (inr other) = inr (λ (next, _, (_, d)). other (one_way out (record { value = v; next = next }) (same_ok out (record { value = v; next = next }) (sym e ∙ d)) refl))
+    told : (out : Outcome) → uses_bit f ≡ true → decide f p false nothing ≡ Ok out → (out.value ≡ v) ⊎ (out.value ≡ v → ⊥)
+        → GoesUnsent f p v ⊎ (GoesUnsent f p v → ⊥)
+    told out u e (inl same) = inl (
+      out.next,
+      u,
+      (
+        clear_item f.operator f u,
+        e ∙ ap (λ (z : Option ScalarData). Ok (record {
+          value = z;
+          next = out.next;
+        })) same,
+      ),
+    )
+    told out u e (inr other) = inr (λ (next, _, (_, d)). other (one_way out (record {
+      value = v;
+      next = next;
+    }) (same_ok out (record { value = v; next = next }) (sym e ∙ d)) refl))
 
     by : (u : Bool) → uses_bit f ≡ u → (r : Result Outcome Code) → decide f p false nothing ≡ r → GoesUnsent f p v ⊎ (GoesUnsent f p v → ⊥)
     by false h r e = inr (λ (_, u, _). absurd (cc (h, u)))
@@ -87,7 +101,8 @@ module _ (l : Limits) where
       by true h = h
       by false h = absurd (g.default o h e)
 
-  clear_right : (o : Operator) (f : FieldData) (p : PreviousData) (out : Outcome) → f.operator ≡ o → operator_uses_bit o f.optional ≡ true → IsSoundEntry l p → IsGranted l f → decide_by o false f p nothing ≡ Ok out → IsSoundValue l f out.value
+  clear_right : (o : Operator) (f : FieldData) (p : PreviousData) (out : Outcome) → f.operator ≡ o → operator_uses_bit o f.optional ≡ true
+      → IsSoundEntry l p → IsGranted l f → decide_by o false f p nothing ≡ Ok out → IsSoundValue l f out.value
   clear_right no_operator f p out q u h g e = absurd (cc u)
   clear_right Delta f p out q u h g e = absurd (cc u)
   clear_right Constant f p out q u h g e = subst (λ (z : Outcome). IsSoundValue l f z.value) (same_ok (record { value = None; next = p }) out e) u
@@ -112,15 +127,19 @@ module _ (l : Limits) where
   pub record FieldBack (f : FieldData) (d : Dictionary) (bit : Bool) (w : List ℕ) (out : Outcome) : Type 0 where
     pub right : IsSoundValue l f out.value
     pub sound : IsSoundEntry l out.next
-    pub again : ((b : Bool) × (u : List ℕ) × EncodesField l f d out.value (if uses_bit f then b ∷ [] else []) u (write_at f.entry out.next d) × (b ≡ true → bit ≡ true) × (HasPlainLength f → length u ≤ length w))
+    pub again : ((b : Bool) × (u : List ℕ) × EncodesField l f d out.value (if uses_bit f then b ∷ [] else []) u
+        (write_at f.entry out.next d) × (b ≡ true → bit ≡ true) × (HasPlainLength f → length u ≤ length w))
         ⊎ RefusesField f d out.value R9
 
-  unsent_back : (f : FieldData) (d : Dictionary) (bit : Bool) (w : List ℕ) (v : Option ScalarData) (next : PreviousData) → GoesUnsent f (previous_at f.entry d) v → Op f (previous_at f.entry d) false nothing v next
-      → (b : Bool) × (u : List ℕ) × EncodesField l f d v (if uses_bit f then b ∷ [] else []) u (write_at f.entry next d) × (b ≡ true → bit ≡ true) × (HasPlainLength f → length u ≤ length w)
+  unsent_back : (f : FieldData) (d : Dictionary) (bit : Bool) (w : List ℕ) (v : Option ScalarData) (next : PreviousData)
+      → GoesUnsent f (previous_at f.entry d) v → Op f (previous_at f.entry d) false nothing v next
+      → (b : Bool) × (u : List ℕ) × EncodesField l f d v (if uses_bit f then b ∷ [] else []) u (write_at f.entry next d)
+      × (b ≡ true → bit ≡ true) × (HasPlainLength f → length u ≤ length w)
   unsent_back f d bit w v next goes op = (false, [], (false, nothing, next, (goes, refl), refl, op, refl, refl), (λ e. absurd (cc e)), λ _. omega arith)
 
   -- where the bit is set
-  set_back : (f : FieldData) (d : Dictionary) (w : List ℕ) (out : Outcome) (x : Sent) (u : List ℕ) → IsSound l d → IsGranted l f → IsItemBy f.operator true f x → decide f (previous_at f.entry d) true x ≡ Ok out
+  set_back : (f : FieldData) (d : Dictionary) (w : List ℕ) (out : Outcome) (x : Sent) (u : List ℕ) → IsSound l d → IsGranted l f
+      → IsItemBy f.operator true f x → decide f (previous_at f.entry d) true x ≡ Ok out
       → SpellsSentBy f.operator l f (previous_at f.entry d) x u → length u ≤ length w → FieldBack f d true w out
   set_back f d w out x u sound granted suited decided spelled short = record {
     right = h.right;
@@ -135,22 +154,34 @@ module _ (l : Limits) where
       h = resends l f.operator f p refl (sound_previous l f.entry d sound) granted x u out suited spelled decided
 
       gives : Rule f p out.value true h.item → Op f p true h.item out.value out.next
-      gives r = subst (λ (z : PreviousData). Op f p true h.item out.value z) (sym h.next) (rule_gives f p out.value true h.item (tail_texts f granted.suited) (fit_of f out.value h.right) r)
+      gives r = subst (λ (z : PreviousData). Op f p true h.item out.value z) (sym h.next)
+          (rule_gives f p out.value true h.item (tail_texts f granted.suited) (fit_of f out.value h.right) r)
 
       by : GoesUnsent f p out.value ⊎ (GoesUnsent f p out.value → ⊥)
-          → ((b : Bool) × (u : List ℕ) × EncodesField l f d out.value (if uses_bit f then b ∷ [] else []) u (write_at f.entry out.next d) × (b ≡ true → true ≡ true) × (HasPlainLength f → length u ≤ length w)) ⊎ RefusesField f d out.value R9
+          → ((b : Bool) × (u : List ℕ) × EncodesField l f d out.value (if uses_bit f then b ∷ [] else []) u (write_at f.entry out.next d)
+          × (b ≡ true → true ≡ true) × (HasPlainLength f → length u ≤ length w)) ⊎ RefusesField f d out.value R9
       by (inl goes) =
           let (n, uses, op) = goes in
           let same : n ≡ out.next = unsent_next f.operator f p out.value n uses op.1 ∙ sym h.next in
           inl (unsent_back f d true w out.value out.next goes (subst (λ (z : PreviousData). Op f p false nothing out.value z) same op))
       by (inr must) = on h.sent
         where
-          on : BytesOf f.operator l f p h.item u ⊎ HasZeroInFront f.kind h.item → ((b : Bool) × (u : List ℕ) × EncodesField l f d out.value (if uses_bit f then b ∷ [] else []) u (write_at f.entry out.next d) × (b ≡ true → true ≡ true) × (HasPlainLength f → length u ≤ length w)) ⊎ RefusesField f d out.value R9
+          on : BytesOf f.operator l f p h.item u ⊎ HasZeroInFront f.kind h.item
+              → ((b : Bool) × (u : List ℕ) × EncodesField l f d out.value (if uses_bit f then b ∷ [] else []) u
+              (write_at f.entry out.next d) × (b ≡ true → true ≡ true) × (HasPlainLength f → length u ≤ length w))
+              ⊎ RefusesField f d out.value R9
           on (inr z) = inr (true, h.item, (must, h.ruled), z)
-          on (inl (v, s, i)) = inl (true, v, (true, h.item, out.next, (must, h.ruled), s, gives (must, h.ruled), refl, refl), (λ _. refl), λ plain. omega (arith, i plain, short))
+          on (inl (v, s, i)) = inl (
+            true,
+            v,
+            (true, h.item, out.next, (must, h.ruled), s, gives (must, h.ruled), refl, refl),
+            (λ _. refl),
+            λ plain. omega (arith, i plain, short),
+          )
 
   -- where it is clear
-  clear_back : (f : FieldData) (d : Dictionary) (w : List ℕ) (out : Outcome) (x : Sent) → IsSound l d → IsGranted l f → uses_bit f ≡ true → IsItemBy f.operator false f x → decide f (previous_at f.entry d) false x ≡ Ok out → FieldBack f d false w out
+  clear_back : (f : FieldData) (d : Dictionary) (w : List ℕ) (out : Outcome) (x : Sent) → IsSound l d → IsGranted l f → uses_bit f ≡ true
+      → IsItemBy f.operator false f x → decide f (previous_at f.entry d) false x ≡ Ok out → FieldBack f d false w out
   clear_back f d w out x sound granted uses suited decided =
       let p = previous_at f.entry d in
       let none = clear_nothing f.operator f x uses suited in
@@ -164,7 +195,8 @@ module _ (l : Limits) where
         again = inl (unsent_back f d false w out.value out.next (out.next, uses, op) op);
       }
 
-  field_back : (s : Bool) (f : FieldData) (d : Dictionary) (bit : Bool) (w : List ℕ) (out : Outcome) → IsSound l d → IsGranted l f → (uses_bit f ≡ false → bit ≡ true) → Says s (field_term B f (previous_at f.entry d) bit) w out → FieldBack f d bit w out
+  field_back : (s : Bool) (f : FieldData) (d : Dictionary) (bit : Bool) (w : List ℕ) (out : Outcome) → IsSound l d → IsGranted l f
+      → (uses_bit f ≡ false → bit ≡ true) → Says s (field_term B f (previous_at f.entry d) bit) w out → FieldBack f d bit w out
   field_back s f d bit w out sound granted clear h = by bit clear (field_read s l f (previous_at f.entry d) bit w out h)
     where
       on_use : (u : Bool) → uses_bit f ≡ u → (uses_bit f ≡ false → false ≡ true) → uses_bit f ≡ true
@@ -180,9 +212,11 @@ module _ (l : Limits) where
     pub right : IsSoundValue l f r.0
     pub sound : IsSound l r.1.context.dictionary
     pub counted : r.1.context.counted ≡ st.context.counted
-    pub again : Again (λ b u. EncodesField l f st.context.dictionary r.0 b u r.1.context.dictionary) (RefusesField f st.context.dictionary r.0 R9) (HasPlainLength f) st.bits r.1.bits w
+    pub again : Again (λ b u. EncodesField l f st.context.dictionary r.0 b u r.1.context.dictionary)
+        (RefusesField f st.context.dictionary r.0 R9) (HasPlainLength f) st.bits r.1.bits w
 
-  pub found_back : (s : Bool) (f : FieldData) (st : State) (w : List ℕ) (r : Found) → IsSound l st.context.dictionary → IsGranted l f → Says s (field_in B f st) w r → FoundBack f st w r
+  pub found_back : (s : Bool) (f : FieldData) (st : State) (w : List ℕ) (r : Found) → IsSound l st.context.dictionary → IsGranted l f
+      → Says s (field_in B f st) w r → FoundBack f st w r
   found_back s f st w r sound granted h =
       let bit = if uses_bit f then first_bit st.bits else true in
       let (u, v, out, i, j, e) = in_turn s (field_term B f (previous_at f.entry st.context.dictionary) bit) (λ o. give (found f st o)) w r h in
@@ -200,13 +234,23 @@ module _ (l : Limits) where
       set_without true e = absurd (cc e)
       set_without false e = refl
 
-      used : (u b : Bool) → (b ≡ true → (if u then first_bit st.bits else true) ≡ true) → Uses (if u then b ∷ [] else []) st.bits (if u then later_bits st.bits else st.bits)
+      used : (u b : Bool) → (b ≡ true → (if u then first_bit st.bits else true) ≡ true)
+          → Uses (if u then b ∷ [] else []) st.bits (if u then later_bits st.bits else st.bits)
       used true b h = (h, refl)
       used false b h = refl
 
       by : (n : ℕ) → length w ≡ n → (out : Outcome)
-          → ((b : Bool) × (u : List ℕ) × EncodesField l f st.context.dictionary out.value (if uses_bit f then b ∷ [] else []) u (write_at f.entry out.next st.context.dictionary)
-          × (b ≡ true → (if uses_bit f then first_bit st.bits else true) ≡ true) × (HasPlainLength f → length u ≤ n)) ⊎ RefusesField f st.context.dictionary out.value R9
-          → Again (λ b u. EncodesField l f st.context.dictionary out.value b u (write_at f.entry out.next st.context.dictionary)) (RefusesField f st.context.dictionary out.value R9) (HasPlainLength f) st.bits (found f st out).1.bits w
+          → ((b : Bool) × (u : List ℕ) × EncodesField l f st.context.dictionary out.value (if uses_bit f then b ∷ [] else []) u
+          (write_at f.entry out.next st.context.dictionary)
+          × (b ≡ true → (if uses_bit f then first_bit st.bits else true) ≡ true) × (HasPlainLength f → length u ≤ n))
+          ⊎ RefusesField f st.context.dictionary out.value R9
+          → Again (λ b u. EncodesField l f st.context.dictionary out.value b u (write_at f.entry out.next st.context.dictionary))
+          (RefusesField f st.context.dictionary out.value R9) (HasPlainLength f) st.bits (found f st out).1.bits w
       by n all out (inr z) = inr z
-      by n all out (inl (b, u, enc, set, short)) = inl (if uses_bit f then b ∷ [] else [], u, enc, used (uses_bit f) b set, λ plain. omega (arith, all, short plain))
+      by n all out (inl (b, u, enc, set, short)) = inl (
+        if uses_bit f then b ∷ [] else [],
+        u,
+        enc,
+        used (uses_bit f) b set,
+        λ plain. omega (arith, all, short plain),
+      )

@@ -41,7 +41,8 @@ module _ (l : Limits) where
   initial_right Unicode text v (a, e) s = subst (IsOfKind l Unicode) (sym e) (subst (λ (z : ScalarData). length (text_of z) ≤ l.max_text) e s, a)
   initial_right Bytes text v (w, a, e) s = subst (IsOfKind l Bytes) (sym e) (subst (λ (z : ScalarData). length (text_of z) ≤ l.max_text) e s)
 
-  of_initial : (u : Use) (text : Option (List ℕ)) (i : Option ScalarData) → IsInitialOf u text i → IfSome i (λ v. length (text_of v) ≤ l.max_text) → IfSome i (IsOfKind l u.kind)
+  of_initial : (u : Use) (text : Option (List ℕ)) (i : Option ScalarData) → IsInitialOf u text i
+      → IfSome i (λ v. length (text_of v) ≤ l.max_text) → IfSome i (IsOfKind l u.kind)
   of_initial u text None h s = tt
   of_initial u None (Some v) h s = absurd h
   of_initial u (Some text) (Some v) h s = initial_right u.kind text v h.0 s
@@ -53,7 +54,8 @@ module _ (l : Limits) where
 
   granted_field : {entries : List Entry} {s : Scope} {u : Use} {f : FieldData} → IsFaultless u → IsField entries s u f → HasShortInitial l f → IsGranted l f
   granted_field {entries = entries} {s = s} {u = u} {f = f} (suited, constant, default) h short = record {
-    suited = ap (λ o. suits o (family f.kind)) h.operator ∙ ap (λ k. suits u.written.operator (family k)) h.kind ∙ true_from_ne_false (suits u.written.operator (family u.kind)) suited;
+    suited = ap (λ o. suits o (family f.kind)) h.operator ∙ ap (λ k. suits u.written.operator (family k)) h.kind
+        ∙ true_from_ne_false (suits u.written.operator (family u.kind)) suited;
     initial = subst (λ (k : Kind). IfSome f.initial (IsOfKind l k)) (sym h.kind) (of_initial u u.written.value f.initial h.initial short);
     constant = λ o e. constant (sym h.operator ∙ o, no_text u u.written.value f.initial h.initial e);
     default = λ o b e. default (sym h.operator ∙ o, sym h.optional ∙ b, no_text u u.written.value f.initial h.initial e);
@@ -71,12 +73,15 @@ module _ (l : Limits) where
   short_then end b h = (tt, h)
   short_then (step k ks) b h = let r = short_then ks b h.1 in ((h.0, r.0), r.1)
 
-  granted_body : {ts : List DeclaredTemplate} {entries : List Entry} {chain : ℕ} {s : Scope} {ds : DeclaredList} {n m : ℕ} {b : Body} → All (λ t. All IsFaultless (all_uses t.fields)) ts → All IsFaultless (all_uses ds)
+  granted_body : {ts : List DeclaredTemplate} {entries : List Entry} {chain : ℕ} {s : Scope} {ds : DeclaredList} {n m : ℕ} {b : Body}
+      → All (λ t. All IsFaultless (all_uses t.fields)) ts → All IsFaultless (all_uses ds)
       → InPlace ts entries chain s ds n b m → HaveShortInitialsIn l b → GrantsBody l b
   granted_body all here nothing short = tt
   granted_body all here (a_field {name = name} {optional = optional} {kind = kind} {w = w} {ds = ds} is_field rest) short =
-      let u = scalar_use name optional kind w in
-      (granted_field (all_first IsFaultless u (all_uses ds) here) is_field short.0, granted_body all (all_but_first IsFaultless u (all_uses ds) here) rest short.1)
+      let u = scalar_use name optional kind w in (
+        granted_field (all_first IsFaultless u (all_uses ds) here) is_field short.0,
+        granted_body all (all_but_first IsFaultless u (all_uses ds) here) rest short.1,
+      )
   granted_body all here (some_parts {name = name} {optional = optional} {v = v} {w = w} {ds = ds} is_exponent is_mantissa rest) short =
       let u = exponent_use name optional v in
       let m = mantissa_use name w in
@@ -90,8 +95,10 @@ module _ (l : Limits) where
         ),
         granted_body all (all_but_first IsFaultless m (all_uses ds) later) rest short.1,
       )
-  granted_body all here (a_group {inner = inner} {ds = ds} within rest) short =
-      (granted_body all (all_left IsFaultless (all_uses inner) (all_uses ds) here) within short.0, granted_body all (all_right IsFaultless (all_uses inner) (all_uses ds) here) rest short.1)
+  granted_body all here (a_group {inner = inner} {ds = ds} within rest) short = (
+    granted_body all (all_left IsFaultless (all_uses inner) (all_uses ds) here) within short.0,
+    granted_body all (all_right IsFaultless (all_uses inner) (all_uses ds) here) rest short.1,
+  )
   granted_body all here (a_sequence {name = name} {optional = optional} {own = own} {w = w} {inner = inner} {ds = ds} is_length within rest) short =
       let u = length_use name optional own w in
       let later = all_but_first IsFaultless u (all_uses inner ++ all_uses ds) here in (
@@ -106,28 +113,35 @@ module _ (l : Limits) where
       let parts = short_then body is short in
       granted_then body is (granted_body all (at ts number t found all) within parts.0) (granted_body all here rest parts.1)
     where
-      at : (ts : List DeclaredTemplate) (k : ℕ) (t : DeclaredTemplate) → slice_get ts k ≡ Some t → All (λ t. All IsFaultless (all_uses t.fields)) ts → All IsFaultless (all_uses t.fields)
-      at ts k t found h = subst (λ (x : DeclaredTemplate). All IsFaultless (all_uses x.fields)) (get_or_from_slice_get ts k t t found) (All-get_or (λ x. All IsFaultless (all_uses x.fields)) ts k t (slice_get_within ts k t found) h)
+      at : (ts : List DeclaredTemplate) (k : ℕ) (t : DeclaredTemplate) → slice_get ts k ≡ Some t
+          → All (λ t. All IsFaultless (all_uses t.fields)) ts → All IsFaultless (all_uses t.fields)
+      at ts k t found h = subst (λ (x : DeclaredTemplate). All IsFaultless (all_uses x.fields)) (get_or_from_slice_get ts k t t found)
+          (All-get_or (λ x. All IsFaultless (all_uses x.fields)) ts k t (slice_get_within ts k t found) h)
 
-  granted_templates : (all : List DeclaredTemplate) (entries : List Entry) (k : ℕ) (ts : List DeclaredTemplate) (n m : ℕ) (us : List TemplateData) → All (λ t. All IsFaultless (all_uses t.fields)) all → All (λ t. All IsFaultless (all_uses t.fields)) ts
+  granted_templates : (all : List DeclaredTemplate) (entries : List Entry) (k : ℕ) (ts : List DeclaredTemplate) (n m : ℕ)
+      (us : List TemplateData) → All (λ t. All IsFaultless (all_uses t.fields)) all → All (λ t. All IsFaultless (all_uses t.fields)) ts
       → AreInPlace all entries k ts n us m → All (λ u. HaveShortInitialsIn l u.body) us → All (λ u. GrantsBody l u.body) us
   granted_templates all entries k [] n m [] sound here h short = All-nil (λ u. GrantsBody l u.body)
   granted_templates all entries k [] n m (u ∷ us) sound here h short = absurd h
   granted_templates all entries k (t ∷ ts) n m [] sound here h short = absurd h
   granted_templates all entries k (t ∷ ts) n m (u ∷ us) sound here (mid, name, id, reset, body, rest) short =
-      All-cons (λ u. GrantsBody l u.body) u us (granted_body sound (all_first (λ t. All IsFaultless (all_uses t.fields)) t ts here) body (all_first (λ u. HaveShortInitialsIn l u.body) u us short))
-      (granted_templates all entries (suc k) ts mid m us sound (all_but_first (λ t. All IsFaultless (all_uses t.fields)) t ts here) rest (all_but_first (λ u. HaveShortInitialsIn l u.body) u us short))
+      All-cons (λ u. GrantsBody l u.body) u us (granted_body sound (all_first (λ t. All IsFaultless (all_uses t.fields)) t ts here) body
+      (all_first (λ u. HaveShortInitialsIn l u.body) u us short))
+      (granted_templates all entries (suc k) ts mid m us sound (all_but_first (λ t. All IsFaultless (all_uses t.fields)) t ts here) rest
+      (all_but_first (λ u. HaveShortInitialsIn l u.body) u us short))
 
 -- uses out of their scopes
 faultless_in : (s : Scope) (us : List Use) → All (λ u. IsFaultless u.1) (in_scope s us) → All IsFaultless us
 faultless_in s [] h = All-nil IsFaultless
-faultless_in s (u ∷ us) h = All-cons IsFaultless u us (all_first (λ u. IsFaultless u.1) (s, u) (in_scope s us) h) (faultless_in s us (all_but_first (λ u. IsFaultless u.1) (s, u) (in_scope s us) h))
+faultless_in s (u ∷ us) h = All-cons IsFaultless u us (all_first (λ u. IsFaultless u.1) (s, u) (in_scope s us) h)
+    (faultless_in s us (all_but_first (λ u. IsFaultless u.1) (s, u) (in_scope s us) h))
 
 faultless_from : (k : ℕ) (ts : List DeclaredTemplate) → All (λ u. IsFaultless u.1) (uses_from k ts) → All (λ t. All IsFaultless (all_uses t.fields)) ts
 faultless_from k [] h = All-nil (λ t. All IsFaultless (all_uses t.fields))
 faultless_from k (t ∷ ts) h =
     let here = in_scope (scope_of k t) (all_uses t.fields) in
-    All-cons (λ t. All IsFaultless (all_uses t.fields)) t ts (faultless_in (scope_of k t) (all_uses t.fields) (all_left (λ u. IsFaultless u.1) here (uses_from (suc k) ts) h))
+    All-cons (λ t. All IsFaultless (all_uses t.fields)) t ts
+    (faultless_in (scope_of k t) (all_uses t.fields) (all_left (λ u. IsFaultless u.1) here (uses_from (suc k) ts) h))
     (faultless_from (suc k) ts (all_right (λ u. IsFaultless u.1) here (uses_from (suc k) ts) h))
 
 pub read_is_granted : (document : Members) (t : Tree) (l : Limits) → IsTree document t → IsShortTree l t → IsGrantedTree l t

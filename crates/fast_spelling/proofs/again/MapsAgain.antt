@@ -1,5 +1,6 @@
 -- Bits of which none was clear in a map have a map, which is no longer.
-use Rattle.std.proofs.Common.{◌≡◌, ◌⊎◌, inl, inr, ℕ, zero, suc, ◌+◌, ◌*◌, ◌-◌, ◌/◌, ◌%◌, ◌<◌, ◌≤◌, ◌^◌, List, [], ◌∷◌, length, get_or, refl, ap, sym, ◌∙◌, arith}
+use Rattle.std.proofs.Common.{◌≡◌, ◌⊎◌, inl, inr, ℕ, zero, suc, ◌+◌, ◌*◌, ◌-◌, ◌/◌, ◌%◌, ◌<◌, ◌≤◌, ◌^◌, List, [], ◌∷◌, length, get_or, refl}
+use Rattle.std.proofs.Common.{ap, sym, ◌∙◌, arith}
 use Rattle.std.specs.Prelude.{Bool, true, false, max, bit_or, replicate, slice_index_or, slice_set}
 use Rattle.std.proofs.Math.Nat.{zero-div}
 use Rattle.std.proofs.lemmas.Bool.{cases_lt, cases_eq, cases_Bool, false_from_ne_true}
@@ -45,13 +46,18 @@ no_bits : (n i : ℕ) → slice_index_or (bits (replicate {A = ℕ} n 0)) i fals
 no_bits n i = bit-at (replicate {A = ℕ} n 0) i ∙ ap (λ (c : ℕ). bit_of c (6 - i % 7)) (blank_at n (i / 7)) ∙ rw (zero-div (2 ^ (6 - i % 7))) refl
 
 module _ (b : List Bool) (few : (i : ℕ) → slice_index_or b i false ≡ true → i < 1022) where
-  same_clear : (n : ℕ) (h : Holds b n) → slice_index_or b n false ≡ false → (i : ℕ) → (i < n) ⊎ (n ≤ i) → i < suc n → slice_index_or (bits h.cells) i false ≡ slice_index_or b i false
+  same_clear : (n : ℕ) (h : Holds b n) → slice_index_or b n false ≡ false → (i : ℕ) → (i < n) ⊎ (n ≤ i) → i < suc n
+      → slice_index_or (bits h.cells) i false ≡ slice_index_or b i false
   same_clear n h e i (inl l) m = h.same i l
   same_clear n h e i (inr g) m = let k : i ≡ n = omega (arith, g, m) in h.clear i g ∙ sym e ∙ ap (λ (j : ℕ). slice_index_or b j false) (sym k)
 
-  same_set : (n : ℕ) (h : Holds b n) (v : List Bool) → v ≡ slice_set (bits h.cells) n true → n < length (bits h.cells) → slice_index_or b n false ≡ true → (i : ℕ) → (i ≡ n) ⊎ (i ≡ n → ⊥) → i < suc n → slice_index_or v i false ≡ slice_index_or b i false
-  same_set n h v is long e i (inl k) m = ap (λ (z : List Bool). slice_index_or z i false) is ∙ ap (λ (j : ℕ). slice_index_or (slice_set (bits h.cells) n true) j false) k ∙ get_or-set_same (bits h.cells) n true false long ∙ sym e ∙ ap (λ (j : ℕ). slice_index_or b j false) (sym k)
-  same_set n h v is long e i (inr other) m = ap (λ (z : List Bool). slice_index_or z i false) is ∙ get_or-set_other (bits h.cells) n i true false other ∙ h.same i (omega (arith, m, below i other m))
+  same_set : (n : ℕ) (h : Holds b n) (v : List Bool) → v ≡ slice_set (bits h.cells) n true → n < length (bits h.cells)
+      → slice_index_or b n false ≡ true → (i : ℕ) → (i ≡ n) ⊎ (i ≡ n → ⊥) → i < suc n → slice_index_or v i false ≡ slice_index_or b i false
+  same_set n h v is long e i (inl k) m = ap (λ (z : List Bool). slice_index_or z i false) is
+      ∙ ap (λ (j : ℕ). slice_index_or (slice_set (bits h.cells) n true) j false) k ∙ get_or-set_same (bits h.cells) n true false long
+      ∙ sym e ∙ ap (λ (j : ℕ). slice_index_or b j false) (sym k)
+  same_set n h v is long e i (inr other) m = ap (λ (z : List Bool). slice_index_or z i false) is
+      ∙ get_or-set_other (bits h.cells) n i true false other ∙ h.same i (omega (arith, m, below i other m))
     where
       below : (i : ℕ) → (i ≡ n → ⊥) → i < suc n → i < n
       below i o l = on (cases_lt i n)
@@ -61,7 +67,13 @@ module _ (b : List Bool) (few : (i : ℕ) → slice_index_or b i false ≡ true 
           on (inr g) = absurd (o (omega (arith, g, l)))
 
   holds_more : (n : ℕ) → Holds b n → (slice_index_or b n false ≡ true) ⊎ (slice_index_or b n false ≡ false) → Holds b (suc n)
-  holds_more n h (inr e) = record { cells = h.cells; len = h.len; built = h.built; same = λ i l. same_clear n h e i (cases_lt i n) l; clear = λ i g. h.clear i (omega (arith, g)) }
+  holds_more n h (inr e) = record {
+    cells = h.cells;
+    len = h.len;
+    built = h.built;
+    same = λ i l. same_clear n h e i (cases_lt i n) l;
+    clear = λ i g. h.clear i (omega (arith, g));
+  }
   holds_more n h (inl e) =
       let inside : n < 1022 = few n e in
       let cell : n / 7 < 146 = omega (arith, inside) in
@@ -74,7 +86,8 @@ module _ (b : List Bool) (few : (i : ℕ) → slice_index_or b i false ≡ true 
         len = max h.len (n / 7 + 1);
         built = built_more h.cells h.len (n / 7) (64 / 2 ^ (n % 7)) h.built cell mask.0 mask.1;
         same = λ i l. same_set n h (bits (slice_set h.cells (n / 7) (bit_or (get_or h.cells (n / 7) 0) (64 / 2 ^ (n % 7))))) is long e i (cases_eq i n) l;
-        clear = λ i g. ap (λ (z : List Bool). slice_index_or z i false) is ∙ get_or-set_other (bits h.cells) n i true false (λ k. absurd (omega (arith, g, k))) ∙ h.clear i (omega (arith, g));
+        clear = λ i g. ap (λ (z : List Bool). slice_index_or z i false) is
+            ∙ get_or-set_other (bits h.cells) n i true false (λ k. absurd (omega (arith, g, k))) ∙ h.clear i (omega (arith, g));
       }
 
   holds : (n : ℕ) → Holds b n
@@ -92,9 +105,11 @@ module _ (b : List Bool) (few : (i : ℕ) → slice_index_or b i false ≡ true 
       by h i (inr g) = h.clear i g ∙ sym (get_or_past b i false g)
 
 -- Bits that are used of a map have a map.
-pub map_again : (strict : Bool) (m : List ℕ) (b left' : List Bool) → IsMap strict m → Uses b (bits m) left' → (v : List ℕ) × IsMap true v × SameBits (bits v) b × (length v ≤ length m)
+pub map_again : (strict : Bool) (m : List ℕ) (b left' : List Bool) → IsMap strict m → Uses b (bits m) left'
+    → (v : List ℕ) × IsMap true v × SameBits (bits v) b × (length v ≤ length m)
 map_again strict m b left' h uses =
-    let set : (i : ℕ) → slice_index_or b i false ≡ true → i < 7 * length m = λ i e. inside i (set_before b (bits m) left' uses i e) (cases_lt i (7 * length m)) in
+    let set : (i : ℕ) → slice_index_or b i false ≡ true → i < 7 * length m =
+    λ i e. inside i (set_before b (bits m) left' uses i e) (cases_lt i (7 * length m)) in
     let some = entity_is_long m h.entity in
     let (v, is_map, same) = mapped b (λ i e. omega (arith, set i e, h.short)) in
     let narrow = map_is_narrow (7 * length m) v is_map (λ i g. same i ∙ unset i g set) in
@@ -102,7 +117,8 @@ map_again strict m b left' h uses =
   where
     inside : (i : ℕ) → slice_index_or (bits m) i false ≡ true → (i < 7 * length m) ⊎ (7 * length m ≤ i) → i < 7 * length m
     inside i e (inl l) = l
-    inside i e (inr g) = let none : slice_index_or (bits m) i false ≡ false = get_or_past (bits m) i false (omega (arith, length_bits m, g)) in absurd (cc (e, none))
+    inside i e (inr g) = let none : slice_index_or (bits m) i false ≡ false =
+        get_or_past (bits m) i false (omega (arith, length_bits m, g)) in absurd (cc (e, none))
 
     unset : (i : ℕ) → 7 * length m ≤ i → ((i : ℕ) → slice_index_or b i false ≡ true → i < 7 * length m) → slice_index_or b i false ≡ false
     unset i g set = false_from_ne_true (slice_index_or b i false) (λ e. absurd (omega (arith, g, set i e)))

@@ -6,7 +6,8 @@ use Rattle.fast_value.specs.declared.kinds.Kind.{Kind}
 use Rattle.fast_value.specs.declared.kinds.Kind.TheVariants.{Ascii}
 use Rattle.fast_value.specs.declared.settings.Limits.{Limits}
 use Rattle.fast_value.specs.meaning.Kinds.{ScalarData, U, I, Dec, AsciiText, Family, integers, decimals, texts, family, text_of}
-use Rattle.fast_value.specs.meaning.Messages.{ItemData, one, group as group_item, sequence as sequence_item, Slots, Elements, no_elements, element, count, MessageData}
+use Rattle.fast_value.specs.meaning.Messages.{ItemData, one, group as group_item, sequence as sequence_item, Slots, Elements, no_elements}
+use Rattle.fast_value.specs.meaning.Messages.{element, count, MessageData}
 use Rattle.fast_tree.specs.declared.operators.Operator.{Operator}
 use Rattle.fast_tree.specs.declared.operators.Operator.TheVariants.{None as no_operator, Constant, Default, Copy, Increment, Delta, Tail}
 use Rattle.fast_tree.specs.meaning.Tree.{FieldData, Instruction, field, parts, group, sequence, Body, end, step, TemplateData, Tree}
@@ -16,7 +17,8 @@ use Rattle.fast_dict.specs.meaning.Rule.{common_front, common_back, IsDelta, IsT
 use Rattle.fast_stream.specs.meaning.Messages.{with_slot}
 use Rattle.fast_spelling.specs.meaning.Again.{HasNoZero, HasNoZeroIn, HaveNoZero, RowsHaveNoZero}
 use Rattle.fast_spelling.specs.meaning.Encoding.{EncodesSegment, EncodesBody}
-use Rattle.fast_spelling.specs.meaning.Refusals.{HasZeroInFront, RefusesField, RefusesScalar, RefusesDecimal, RefusesSegment, RefusesElements, Refuses, RefusesBody, RefusesMessage}
+use Rattle.fast_spelling.specs.meaning.Refusals.{HasZeroInFront, RefusesField, RefusesScalar, RefusesDecimal, RefusesSegment}
+use Rattle.fast_spelling.specs.meaning.Refusals.{RefusesElements, Refuses, RefusesBody, RefusesMessage}
 use Rattle.fast_spelling.specs.meaning.Suiting.{IsRight, AreRight, IsRightScalar, Suits, SuitsBody, SuitsTemplate}
 use Rattle.fast_spelling.specs.declared.faults.EncodeFault.TheVariants.{R9}
 use Rattle.fast_spelling.proofs.rules.OneItem.{text_kept}
@@ -41,8 +43,10 @@ begins t h rest e = All-head (λ c. c ≢ 0) 0 rest (subst HasNone e h) refl
 delta_none : (k : Family) (base v : ScalarData) (x : Sent) → HasNone (text_of v) → IsDelta k base v x → BeginsWithZero x → ⊥
 delta_none (integers range) base v x h e z = subst BeginsWithZero e z
 delta_none decimals base v x h e z = subst BeginsWithZero e z
-delta_none texts base v x h (inl (_, e)) z = let r = subst BeginsWithZero e z in begins _ (All-drop (λ c. c ≢ 0) (common_front (text_of base) (text_of v)) (text_of v) h) r.0 r.1
-delta_none texts base v x h (inr (_, e)) z = let r = subst BeginsWithZero e z in begins _ (All-take (λ c. c ≢ 0) (length (text_of v) - common_back (text_of base) (text_of v)) (text_of v) h) r.0 r.1
+delta_none texts base v x h (inl (_, e)) z = let r = subst BeginsWithZero e z in
+    begins _ (All-drop (λ c. c ≢ 0) (common_front (text_of base) (text_of v)) (text_of v) h) r.0 r.1
+delta_none texts base v x h (inr (_, e)) z = let r = subst BeginsWithZero e z in
+    begins _ (All-take (λ c. c ≢ 0) (length (text_of v) - common_back (text_of base) (text_of v)) (text_of v) h) r.0 r.1
 
 tail_none : (b t part : List ℕ) → HasNone t → IsTail b t part → HasNone part
 tail_none b t part h (inl (_, e)) = subst HasNone (sym e) (All-drop (λ c. c ≢ 0) (common_front b t) t h)
@@ -65,7 +69,8 @@ sent_none Default f p (Some v) x h e z = let r = subst BeginsWithZero e z in beg
 sent_none Copy f p (Some v) x h e z = let r = subst BeginsWithZero e z in begins (text_of v) h r.0 r.1
 sent_none Increment f p (Some v) x h e z = let r = subst BeginsWithZero e z in begins (text_of v) h r.0 r.1
 sent_none Delta f p (Some v) x h (base, b, e) z = delta_none (family f.kind) base v x h e z
-sent_none Tail f p (Some v) x h (base, part, b, e, g) z = let r = subst BeginsWithZero g z in begins part (tail_none (text_of base) (text_of v) part h e) r.0 (sym (text_kept f.kind part) ∙ r.1)
+sent_none Tail f p (Some v) x h (base, part, b, e, g) z = let r = subst BeginsWithZero g z in
+    begins part (tail_none (text_of base) (text_of v) part h e) r.0 (sym (text_kept f.kind part) ∙ r.1)
 
 rule_none : (f : FieldData) (p : PreviousData) (v : Option ScalarData) (bit : Bool) (x : Sent) → NoneIn v → Rule f p v bit x → BeginsWithZero x → ⊥
 rule_none f p v true x h (_, s) z = sent_none f.operator f p v x h s z
@@ -106,7 +111,8 @@ neither f g (inr b) = g b
 
 module _ (l : Limits) where
   abbrev SegmentNone : Body → Type 0
-  SegmentNone body = (d : Dictionary) (vs : Slots) → SuitsBody body vs → HaveNoZero vs → RefusesSegment body (EncodesBody l body) (RefusesBody l body) d vs R9 → ⊥
+  SegmentNone body = (d : Dictionary) (vs : Slots) → SuitsBody body vs → HaveNoZero vs
+      → RefusesSegment body (EncodesBody l body) (RefusesBody l body) d vs R9 → ⊥
 
   segment_none : (body : Body) → ((d : Dictionary) (vs : Slots) → SuitsBody body vs → HaveNoZero vs → RefusesBody l body d vs R9 → ⊥) → SegmentNone body
   segment_none body f d vs r h (inl z) = f d vs r h z
@@ -138,7 +144,8 @@ module _ (l : Limits) where
     instruction_none (group at optional body) d (Some (sequence_item rows)) r h z = absurd z
     instruction_none (sequence at f body) d None r h z = field_none f d None (λ _. tt) z
     instruction_none (sequence at f body) d (Some (sequence_item rows)) r h (inl z) = field_none f d (Some (U (count rows))) (λ _. no_text) z
-    instruction_none (sequence at f body) d (Some (sequence_item rows)) r h (inr (b, u, mid, enc, z)) = rows_none body (segment_none body (body_none body)) rows mid r.0 h z
+    instruction_none (sequence at f body) d (Some (sequence_item rows)) r h (inr (b, u, mid, enc, z)) =
+        rows_none body (segment_none body (body_none body)) rows mid r.0 h z
     instruction_none (sequence at f body) d (Some (one v)) r h z = absurd z
     instruction_none (sequence at f body) d (Some (group_item vs)) r h z = absurd z
 

@@ -1,6 +1,7 @@
 -- What operators make of values that are right is right.
 use Rattle.std.proofs.Common.{◌≡◌, ℕ, zero, suc, ◌<◌, ◌≤◌, List, [], ◌∷◌, length, refl, ap, sym, subst, ◌∙◌, arith}
-use Rattle.std.specs.Prelude.{Bool, true, false, All, int_lt, if◌then◌else◌, ℤ, pos, negsuc, ◌+ℤ◌, Option, Some, None, Result, Ok, Err, IfSome, unwrap_or, slice_set}
+use Rattle.std.specs.Prelude.{Bool, true, false, All, int_lt, if◌then◌else◌, ℤ, pos, negsuc, ◌+ℤ◌, Option, Some, None, Result, Ok, Err}
+use Rattle.std.specs.Prelude.{IfSome, unwrap_or, slice_set}
 use Rattle.std.specs.Str.{is_utf8}
 use Rattle.std.proofs.lemmas.Str.{IsUtf8-from_is_utf8, IsUtf8-nil}
 use Rattle.std.proofs.lemmas.Int.{ints}
@@ -10,13 +11,16 @@ use Rattle.fast_value.specs.declared.kinds.Kind.TheVariants.{UInt32, Int32, UInt
 use Rattle.fast_value.specs.declared.codes.Code.{Code}
 use Rattle.fast_value.specs.declared.codes.Code.TheVariants.{D4, D5, D6, R2}
 use Rattle.fast_value.specs.declared.settings.Limits.{Limits}
-use Rattle.fast_value.specs.meaning.Kinds.{Range, IsWithin, unsigned_range, signed_range, exponent_range, ScalarData, U, I, Dec, AsciiText, UnicodeText, ByteVector, Family, integers, decimals, texts, family, value_of_integer, value_of_text, integer_of, text_of, IsOfKind, same_kind}
+use Rattle.fast_value.specs.meaning.Kinds.{Range, IsWithin, unsigned_range, signed_range, exponent_range, ScalarData, U, I, Dec, AsciiText}
+use Rattle.fast_value.specs.meaning.Kinds.{UnicodeText, ByteVector, Family, integers, decimals, texts, family, value_of_integer}
+use Rattle.fast_value.specs.meaning.Kinds.{value_of_text, integer_of, text_of, IsOfKind, same_kind}
 use Rattle.fast_tree.specs.declared.operators.Operator.{Operator}
 use Rattle.fast_tree.specs.declared.operators.Operator.TheVariants.{None as no_operator, Constant, Default, Copy, Increment, Delta, Tail}
 use Rattle.fast_tree.specs.meaning.Tree.{FieldData}
 use Rattle.fast_notation.specs.meaning.Uses.{suits}
 use Rattle.fast_dict.specs.meaning.Dictionary.{Dictionary, PreviousData, undefined, empty, assigned, previous_at, write_at}
-use Rattle.fast_dict.specs.meaning.Operators.{◌>>=◌, Outcome, of_kind, checked_in, checked_text, range_in, range_of, from_initial, incremented, next_value, unsent, zero_in, start_value, delta_base, tail_base, IsValueIn}
+use Rattle.fast_dict.specs.meaning.Operators.{◌>>=◌, Outcome, of_kind, checked_in, checked_text, range_in, range_of, from_initial}
+use Rattle.fast_dict.specs.meaning.Operators.{incremented, next_value, unsent, zero_in, start_value, delta_base, tail_base, IsValueIn}
 use Rattle.fast_spelling.specs.meaning.Again.{IsSoundEntry, IsSound}
 use Rattle.fast_spelling.specs.meaning.Encoding.{ShortestText, ShortestValue}
 use Rattle.fast_spelling.specs.device.Fields.{next_by}
@@ -78,7 +82,8 @@ module _ (l : Limits) where
       by v h = absurd h
 
   -- texts
-  pub text_right : (kind : Kind) → family kind ≡ texts → (t : List ℕ) (v : ScalarData) → checked_text kind t ≡ Ok v → length t ≤ l.max_text → (kind ≡ Ascii → All (λ c. c < 128) t) → IsOfKind l kind v × (v ≡ value_of_text kind t)
+  pub text_right : (kind : Kind) → family kind ≡ texts → (t : List ℕ) (v : ScalarData) → checked_text kind t ≡ Ok v → length t ≤ l.max_text
+      → (kind ≡ Ascii → All (λ c. c < 128) t) → IsOfKind l kind v × (v ≡ value_of_text kind t)
   text_right UInt32 q t v e h a = absurd (cc q)
   text_right Int32 q t v e h a = absurd (cc q)
   text_right UInt64 q t v e h a = absurd (cc q)
@@ -96,7 +101,8 @@ module _ (l : Limits) where
   ascii_read nullable room [] w h = (omega arith, λ k d i. absurd (omega (arith, i)))
   ascii_read nullable room (c ∷ t) w h = (h.2, h.1)
 
-  pub text_spelled : (kind : Kind) (nullable : Bool) (room : ℕ) (t w : List ℕ) → ShortestText kind nullable room (Some t) w → (length t ≤ room) × (kind ≡ Ascii → All (λ c. c < 128) t)
+  pub text_spelled : (kind : Kind) (nullable : Bool) (room : ℕ) (t w : List ℕ) → ShortestText kind nullable room (Some t) w
+      → (length t ≤ room) × (kind ≡ Ascii → All (λ c. c < 128) t)
   text_spelled Ascii nullable room t w h = let k = ascii_read nullable room t w h in (k.0, λ e. k.1)
   text_spelled UInt32 nullable room t w h = (h.3, λ e. absurd (cc e))
   text_spelled Int32 nullable room t w h = (h.3, λ e. absurd (cc e))
@@ -126,8 +132,10 @@ module _ (l : Limits) where
   integer_right Bytes range q x h = absurd (cc q)
 
   pub integer_within : (kind : Kind) (range : Range) → family kind ≡ integers range → (v : ScalarData) → IsOfKind l kind v → IsWithin range (integer_of v)
-  integer_within UInt32 range q (U n) h = let r : unsigned_range 32 ≡ range = cc q in subst (λ (z : Range). IsWithin z (pos n)) r (omega (arith, ints), omega (arith, ints, h))
-  integer_within UInt64 range q (U n) h = let r : unsigned_range 64 ≡ range = cc q in subst (λ (z : Range). IsWithin z (pos n)) r (omega (arith, ints), omega (arith, ints, h))
+  integer_within UInt32 range q (U n) h = let r : unsigned_range 32 ≡ range = cc q in
+      subst (λ (z : Range). IsWithin z (pos n)) r (omega (arith, ints), omega (arith, ints, h))
+  integer_within UInt64 range q (U n) h = let r : unsigned_range 64 ≡ range = cc q in
+      subst (λ (z : Range). IsWithin z (pos n)) r (omega (arith, ints), omega (arith, ints, h))
   integer_within Int32 range q (I x) h = let r : signed_range 31 ≡ range = cc q in subst (λ (z : Range). IsWithin z x) r h
   integer_within Int64 range q (I x) h = let r : signed_range 63 ≡ range = cc q in subst (λ (z : Range). IsWithin z x) r h
   integer_within Decimal range q v h = absurd (cc q)
@@ -147,7 +155,8 @@ module _ (l : Limits) where
   decimal_right Bytes q e m h i = absurd (cc q)
 
   -- A value that stands in the stream as it is.
-  pub plain_right : (k : Family) (f : FieldData) → family f.kind ≡ k → (x y : ScalarData) (w : List ℕ) → IsValueIn k f.kind x → ShortestValue l f k x w → checked_in k f.kind x ≡ Ok y → IsOfKind l f.kind y × (y ≡ x)
+  pub plain_right : (k : Family) (f : FieldData) → family f.kind ≡ k → (x y : ScalarData) (w : List ℕ) → IsValueIn k f.kind x
+      → ShortestValue l f k x w → checked_in k f.kind x ≡ Ok y → IsOfKind l f.kind y × (y ≡ x)
   plain_right (integers range) f q x y w (n, h, e) s c =
       let k = same_ok x y c in
       (subst (IsOfKind l f.kind) (sym e ∙ k) (integer_right f.kind range q n h), sym k)
@@ -182,12 +191,14 @@ module _ (l : Limits) where
   start_right None kind h = zero_right kind
   start_right (Some v) kind h = h
 
-  pub delta_base_right : (f : FieldData) (p : PreviousData) (base : ScalarData) → IsSoundEntry l p → IfSome f.initial (IsOfKind l f.kind) → delta_base f p ≡ Ok base → IsOfKind l f.kind base
+  pub delta_base_right : (f : FieldData) (p : PreviousData) (base : ScalarData) → IsSoundEntry l p → IfSome f.initial (IsOfKind l f.kind)
+      → delta_base f p ≡ Ok base → IsOfKind l f.kind base
   delta_base_right f undefined base h i e = subst (IsOfKind l f.kind) (same_ok (start_value f) base e) (start_right f.initial f.kind i)
   delta_base_right f empty base h i e = absurd (cc e)
   delta_base_right f (assigned kind v) base h i e = kind_right f.kind kind v base e h
 
-  pub tail_base_right : (f : FieldData) (p : PreviousData) (base : ScalarData) → IsSoundEntry l p → IfSome f.initial (IsOfKind l f.kind) → tail_base f p ≡ Ok base → IsOfKind l f.kind base
+  pub tail_base_right : (f : FieldData) (p : PreviousData) (base : ScalarData) → IsSoundEntry l p → IfSome f.initial (IsOfKind l f.kind)
+      → tail_base f p ≡ Ok base → IsOfKind l f.kind base
   tail_base_right f undefined base h i e = subst (IsOfKind l f.kind) (same_ok (start_value f) base e) (start_right f.initial f.kind i)
   tail_base_right f empty base h i e = subst (IsOfKind l f.kind) (same_ok (start_value f) base e) (start_right f.initial f.kind i)
   tail_base_right f (assigned kind v) base h i e = kind_right f.kind kind v base e h
@@ -197,7 +208,8 @@ module _ (l : Limits) where
   SoundBy kind optional None = optional ≡ true
   SoundBy kind optional (Some v) = IsOfKind l kind v
 
-  initial_right : (i : Option ScalarData) (kind : Kind) (b : Bool) (c : Code) (o : Outcome) → IfSome i (IsOfKind l kind) → from_initial kind b c i ≡ Ok o → SoundBy kind b o.value
+  initial_right : (i : Option ScalarData) (kind : Kind) (b : Bool) (c : Code) (o : Outcome) → IfSome i (IsOfKind l kind)
+      → from_initial kind b c i ≡ Ok o → SoundBy kind b o.value
   initial_right (Some v) kind b c o h e = subst (λ (z : Outcome). SoundBy kind b z.value) (same_ok _ o e) h
   initial_right None kind true c o h e = subst (λ (z : Outcome). SoundBy kind true z.value) (same_ok _ o e) refl
   initial_right None kind false c o h e = absurd (cc e)
@@ -215,7 +227,9 @@ module _ (l : Limits) where
       by : (k : Family) → family kind ≡ k → suits Increment k ≡ true → IsOfKind l kind (next_value Increment kind v)
       by (integers range) q s =
           let r : range_of kind ≡ range = ap range_in q in
-          integer_right kind range q (incremented (range_of kind) (integer_of v)) (subst (λ (z : Range). IsWithin range (incremented z (integer_of v))) (sym r) (incremented_within range (integer_of v) (integer_within kind range q v h)))
+          integer_right kind range q (incremented (range_of kind) (integer_of v))
+          (subst (λ (z : Range). IsWithin range (incremented z (integer_of v))) (sym r)
+          (incremented_within range (integer_of v) (integer_within kind range q v h)))
       by decimals q s = absurd (cc s)
       by texts q s = absurd (cc s)
   next_right no_operator kind v s h = h
@@ -225,7 +239,8 @@ module _ (l : Limits) where
   next_right Delta kind v s h = h
   next_right Tail kind v s h = h
 
-  pub unsent_right : (f : FieldData) (p : PreviousData) (o : Outcome) → suits f.operator (family f.kind) ≡ true → IsSoundEntry l p → IfSome f.initial (IsOfKind l f.kind) → unsent f p ≡ Ok o → IsSoundValue l f o.value
+  pub unsent_right : (f : FieldData) (p : PreviousData) (o : Outcome) → suits f.operator (family f.kind) ≡ true → IsSoundEntry l p
+      → IfSome f.initial (IsOfKind l f.kind) → unsent f p ≡ Ok o → IsSoundValue l f o.value
   unsent_right f undefined o s h i e = told f.optional o (initial_right f.initial f.kind f.optional D5 o i e) refl
     where
       told : (b : Bool) (o : Outcome) → SoundBy f.kind b o.value → f.optional ≡ b → IsSoundValue l f o.value
@@ -247,7 +262,8 @@ module _ (l : Limits) where
       subst (λ (z : Outcome). IsSoundValue l f z.value) (same_ok _ o k) (next_right f.operator f.kind w s (kind_right f.kind kind v w g h))
 
   -- dictionaries
-  pub next_sound : (o : Operator) (f : FieldData) (p : PreviousData) (v : Option ScalarData) → IsSoundEntry l p → IsSoundValue l f v → IsSoundEntry l (next_by o f.kind p v)
+  pub next_sound : (o : Operator) (f : FieldData) (p : PreviousData) (v : Option ScalarData) → IsSoundEntry l p → IsSoundValue l f v
+      → IsSoundEntry l (next_by o f.kind p v)
   next_sound no_operator f p v h i = h
   next_sound Constant f p v h i = h
   next_sound Default f p v h i = h

@@ -27,7 +27,13 @@ two n h = record {
 
 pub three : (n : ℕ) → n < 2 ^ 21 → IsGroups n 3 (n / 16384 % 128 ∷ n / 128 % 128 ∷ (n % 128 + 128) ∷ [])
 three n h = record {
-  entity = (n / 16384 % 128 ∷ n / 128 % 128 ∷ [], n % 128 + 128, refl, more_stop (n / 16384 % 128) (n / 128 % 128 ∷ []) (omega arith) (more_stop (n / 128 % 128) [] (omega arith) none_stop), omega arith);
+  entity = (
+    n / 16384 % 128 ∷ n / 128 % 128 ∷ [],
+    n % 128 + 128,
+    refl,
+    more_stop (n / 16384 % 128) (n / 128 % 128 ∷ []) (omega arith) (more_stop (n / 128 % 128) [] (omega arith) none_stop),
+    omega arith,
+  );
   count = refl;
   value = omega (arith, h);
 }
@@ -38,7 +44,8 @@ four n h = record {
     n / 2097152 % 128 ∷ n / 16384 % 128 ∷ n / 128 % 128 ∷ [],
     n % 128 + 128,
     refl,
-    more_stop (n / 2097152 % 128) (n / 16384 % 128 ∷ n / 128 % 128 ∷ []) (omega arith) (more_stop (n / 16384 % 128) (n / 128 % 128 ∷ []) (omega arith) (more_stop (n / 128 % 128) [] (omega arith) none_stop)),
+    more_stop (n / 2097152 % 128) (n / 16384 % 128 ∷ n / 128 % 128 ∷ []) (omega arith)
+        (more_stop (n / 16384 % 128) (n / 128 % 128 ∷ []) (omega arith) (more_stop (n / 128 % 128) [] (omega arith) none_stop)),
     omega arith,
   );
   count = refl;
@@ -52,46 +59,66 @@ five n h = record {
     n % 128 + 128,
     refl,
     more_stop (n / 268435456 % 128) (n / 2097152 % 128 ∷ n / 16384 % 128 ∷ n / 128 % 128 ∷ []) (omega arith)
-        (more_stop (n / 2097152 % 128) (n / 16384 % 128 ∷ n / 128 % 128 ∷ []) (omega arith) (more_stop (n / 16384 % 128) (n / 128 % 128 ∷ []) (omega arith) (more_stop (n / 128 % 128) [] (omega arith) none_stop))),
+        (more_stop (n / 2097152 % 128) (n / 16384 % 128 ∷ n / 128 % 128 ∷ []) (omega arith)
+        (more_stop (n / 16384 % 128) (n / 128 % 128 ∷ []) (omega arith) (more_stop (n / 128 % 128) [] (omega arith) none_stop))),
     omega arith,
   );
   count = refl;
   value = omega (arith, h);
 }
 
-pub six : (n : ℕ) → n < 2 ^ 42 → IsGroups n 6 (n / 34359738368 % 128 ∷ n / 268435456 % 128 ∷ n / 2097152 % 128 ∷ n / 16384 % 128 ∷ n / 128 % 128 ∷ (n % 128 + 128) ∷ [])
+pub six : (n : ℕ) → n < 2 ^ 42 → IsGroups n 6 (n / 34359738368 % 128 ∷ n / 268435456 % 128 ∷ n / 2097152 % 128 ∷ n / 16384 % 128
+    ∷ n / 128 % 128 ∷ (n % 128 + 128) ∷ [])
 six n h = record {
   entity = (
     n / 34359738368 % 128 ∷ n / 268435456 % 128 ∷ n / 2097152 % 128 ∷ n / 16384 % 128 ∷ n / 128 % 128 ∷ [],
     n % 128 + 128,
     refl,
-    more_stop (n / 34359738368 % 128) (n / 268435456 % 128 ∷ n / 2097152 % 128 ∷ n / 16384 % 128 ∷ n / 128 % 128 ∷ []) (omega arith) (more_stop (n / 268435456 % 128) (n / 2097152 % 128 ∷ n / 16384 % 128 ∷ n / 128 % 128 ∷ []) (omega arith) (more_stop (n / 2097152 % 128) (n / 16384 % 128 ∷ n / 128 % 128 ∷ []) (omega arith) (more_stop (n / 16384 % 128) (n / 128 % 128 ∷ []) (omega arith) (more_stop (n / 128 % 128) [] (omega arith) none_stop)))),
+    more_stop (n / 34359738368 % 128) (n / 268435456 % 128 ∷ n / 2097152 % 128 ∷ n / 16384 % 128 ∷ n / 128 % 128 ∷ []) (omega arith)
+        (more_stop (n / 268435456 % 128) (n / 2097152 % 128 ∷ n / 16384 % 128 ∷ n / 128 % 128 ∷ []) (omega arith)
+        (more_stop (n / 2097152 % 128) (n / 16384 % 128 ∷ n / 128 % 128 ∷ []) (omega arith)
+        (more_stop (n / 16384 % 128) (n / 128 % 128 ∷ []) (omega arith) (more_stop (n / 128 % 128) [] (omega arith) none_stop)))),
     omega arith,
   );
   count = refl;
   value = omega (arith, h);
 }
 
-pub seven : (n : ℕ) → n < 2 ^ 49 → IsGroups n 7 (n / 4398046511104 % 128 ∷ n / 34359738368 % 128 ∷ n / 268435456 % 128 ∷ n / 2097152 % 128 ∷ n / 16384 % 128 ∷ n / 128 % 128 ∷ (n % 128 + 128) ∷ [])
+pub seven : (n : ℕ) → n < 2 ^ 49 → IsGroups n 7 (n / 4398046511104 % 128 ∷ n / 34359738368 % 128 ∷ n / 268435456 % 128 ∷ n / 2097152 % 128
+    ∷ n / 16384 % 128 ∷ n / 128 % 128 ∷ (n % 128 + 128) ∷ [])
 seven n h = record {
   entity = (
     n / 4398046511104 % 128 ∷ n / 34359738368 % 128 ∷ n / 268435456 % 128 ∷ n / 2097152 % 128 ∷ n / 16384 % 128 ∷ n / 128 % 128 ∷ [],
     n % 128 + 128,
     refl,
-    more_stop (n / 4398046511104 % 128) (n / 34359738368 % 128 ∷ n / 268435456 % 128 ∷ n / 2097152 % 128 ∷ n / 16384 % 128 ∷ n / 128 % 128 ∷ []) (omega arith) (more_stop (n / 34359738368 % 128) (n / 268435456 % 128 ∷ n / 2097152 % 128 ∷ n / 16384 % 128 ∷ n / 128 % 128 ∷ []) (omega arith) (more_stop (n / 268435456 % 128) (n / 2097152 % 128 ∷ n / 16384 % 128 ∷ n / 128 % 128 ∷ []) (omega arith) (more_stop (n / 2097152 % 128) (n / 16384 % 128 ∷ n / 128 % 128 ∷ []) (omega arith) (more_stop (n / 16384 % 128) (n / 128 % 128 ∷ []) (omega arith) (more_stop (n / 128 % 128) [] (omega arith) none_stop))))),
+    more_stop (n / 4398046511104 % 128) (n / 34359738368 % 128 ∷ n / 268435456 % 128 ∷ n / 2097152 % 128 ∷ n / 16384 % 128 ∷ n / 128 % 128
+        ∷ []) (omega arith) (more_stop (n / 34359738368 % 128)
+        (n / 268435456 % 128 ∷ n / 2097152 % 128 ∷ n / 16384 % 128 ∷ n / 128 % 128 ∷ []) (omega arith)
+        (more_stop (n / 268435456 % 128) (n / 2097152 % 128 ∷ n / 16384 % 128 ∷ n / 128 % 128 ∷ []) (omega arith)
+        (more_stop (n / 2097152 % 128) (n / 16384 % 128 ∷ n / 128 % 128 ∷ []) (omega arith)
+        (more_stop (n / 16384 % 128) (n / 128 % 128 ∷ []) (omega arith) (more_stop (n / 128 % 128) [] (omega arith) none_stop))))),
     omega arith,
   );
   count = refl;
   value = omega (arith, h);
 }
 
-pub eight : (n : ℕ) → n < 2 ^ 56 → IsGroups n 8 (n / 562949953421312 % 128 ∷ n / 4398046511104 % 128 ∷ n / 34359738368 % 128 ∷ n / 268435456 % 128 ∷ n / 2097152 % 128 ∷ n / 16384 % 128 ∷ n / 128 % 128 ∷ (n % 128 + 128) ∷ [])
+pub eight : (n : ℕ) → n < 2 ^ 56 → IsGroups n 8 (n / 562949953421312 % 128 ∷ n / 4398046511104 % 128 ∷ n / 34359738368 % 128
+    ∷ n / 268435456 % 128 ∷ n / 2097152 % 128 ∷ n / 16384 % 128 ∷ n / 128 % 128 ∷ (n % 128 + 128) ∷ [])
 eight n h = record {
   entity = (
-    n / 562949953421312 % 128 ∷ n / 4398046511104 % 128 ∷ n / 34359738368 % 128 ∷ n / 268435456 % 128 ∷ n / 2097152 % 128 ∷ n / 16384 % 128 ∷ n / 128 % 128 ∷ [],
+    n / 562949953421312 % 128 ∷ n / 4398046511104 % 128 ∷ n / 34359738368 % 128 ∷ n / 268435456 % 128 ∷ n / 2097152 % 128 ∷ n / 16384 % 128
+        ∷ n / 128 % 128 ∷ [],
     n % 128 + 128,
     refl,
-    more_stop (n / 562949953421312 % 128) (n / 4398046511104 % 128 ∷ n / 34359738368 % 128 ∷ n / 268435456 % 128 ∷ n / 2097152 % 128 ∷ n / 16384 % 128 ∷ n / 128 % 128 ∷ []) (omega arith) (more_stop (n / 4398046511104 % 128) (n / 34359738368 % 128 ∷ n / 268435456 % 128 ∷ n / 2097152 % 128 ∷ n / 16384 % 128 ∷ n / 128 % 128 ∷ []) (omega arith) (more_stop (n / 34359738368 % 128) (n / 268435456 % 128 ∷ n / 2097152 % 128 ∷ n / 16384 % 128 ∷ n / 128 % 128 ∷ []) (omega arith) (more_stop (n / 268435456 % 128) (n / 2097152 % 128 ∷ n / 16384 % 128 ∷ n / 128 % 128 ∷ []) (omega arith) (more_stop (n / 2097152 % 128) (n / 16384 % 128 ∷ n / 128 % 128 ∷ []) (omega arith) (more_stop (n / 16384 % 128) (n / 128 % 128 ∷ []) (omega arith) (more_stop (n / 128 % 128) [] (omega arith) none_stop)))))),
+    more_stop (n / 562949953421312 % 128) (n / 4398046511104 % 128 ∷ n / 34359738368 % 128 ∷ n / 268435456 % 128 ∷ n / 2097152 % 128
+        ∷ n / 16384 % 128 ∷ n / 128 % 128 ∷ []) (omega arith)
+        (more_stop (n / 4398046511104 % 128) (n / 34359738368 % 128 ∷ n / 268435456 % 128 ∷ n / 2097152 % 128 ∷ n / 16384 % 128
+        ∷ n / 128 % 128 ∷ []) (omega arith) (more_stop (n / 34359738368 % 128)
+        (n / 268435456 % 128 ∷ n / 2097152 % 128 ∷ n / 16384 % 128 ∷ n / 128 % 128 ∷ []) (omega arith)
+        (more_stop (n / 268435456 % 128) (n / 2097152 % 128 ∷ n / 16384 % 128 ∷ n / 128 % 128 ∷ []) (omega arith)
+        (more_stop (n / 2097152 % 128) (n / 16384 % 128 ∷ n / 128 % 128 ∷ []) (omega arith)
+        (more_stop (n / 16384 % 128) (n / 128 % 128 ∷ []) (omega arith) (more_stop (n / 128 % 128) [] (omega arith) none_stop)))))),
     omega arith,
   );
   count = refl;
@@ -99,7 +126,8 @@ eight n h = record {
 }
 
 -- An unsigned integer in as many groups as it takes.
-pub unsigned_means : (nullable : Bool) (n sent len : ℕ) (w : List ℕ) → IsGroups sent len w → len ≤ 8 → (1 < len → 2 ^ (7 * (len - 1)) ≤ sent) → Means nullable (pos sent) (Some (pos n)) → IsShortest false nullable (Some (pos n)) w
+pub unsigned_means : (nullable : Bool) (n sent len : ℕ) (w : List ℕ) → IsGroups sent len w → len ≤ 8
+    → (1 < len → 2 ^ (7 * (len - 1)) ≤ sent) → Means nullable (pos sent) (Some (pos n)) → IsShortest false nullable (Some (pos n)) w
 unsigned_means nullable n sent len w h few full means range is fits =
     let no : IsOverlong (λ v. pos (number v)) w → ⊥ = full_unsigned w (λ g. rw (h.count, h.value) (full (rw h.count at g))) in
     record {
@@ -109,15 +137,22 @@ unsigned_means nullable n sent len w h few full means range is fits =
     }
 
 -- so of a natural integer, and of a negative one, in two's complement
-pub natural_least : (sum len : ℕ) (w : List ℕ) → IsGroups sum len w → 1 ≤ len → len ≤ 5 → sum * 2 < 2 ^ (7 * len) → (1 < len → 2 ^ (7 * (len - 1)) ≤ sum * 2) → IsLeast (pos sum) w
+pub natural_least : (sum len : ℕ) (w : List ℕ) → IsGroups sum len w → 1 ≤ len → len ≤ 5 → sum * 2 < 2 ^ (7 * len)
+    → (1 < len → 2 ^ (7 * (len - 1)) ≤ sum * 2) → IsLeast (pos sum) w
 natural_least sum len w h some few enough full =
     let is : signed w ≡ pos sum = natural_at w len sum h.count h.value some enough in
     record { entity = h.entity; short = omega (arith, h.count, few); value = is; shortest = full_at w len (pos sum) h.count is full }
 
-pub negative_least : (c len : ℕ) (w : List ℕ) → IsGroups (2 ^ (7 * len) - 1 - c) len w → 1 ≤ len → len ≤ 5 → c * 2 < 2 ^ (7 * len) → (1 < len → 2 ^ (7 * (len - 1)) ≤ c * 2) → IsLeast (negsuc c) w
+pub negative_least : (c len : ℕ) (w : List ℕ) → IsGroups (2 ^ (7 * len) - 1 - c) len w → 1 ≤ len → len ≤ 5 → c * 2 < 2 ^ (7 * len)
+    → (1 < len → 2 ^ (7 * (len - 1)) ≤ c * 2) → IsLeast (negsuc c) w
 negative_least c len w h some few enough full =
     let is : signed w ≡ negsuc c = signed_negative w c (omega (arith, h.count, some)) (rw h.count enough) (rw h.count h.value) in
-    record { entity = h.entity; short = omega (arith, h.count, few); value = is; shortest = full_at w len (negsuc c) h.count is (λ g. let k = full g in omega (arith, k)) }
+    record {
+      entity = h.entity;
+      short = omega (arith, h.count, few);
+      value = is;
+      shortest = full_at w len (negsuc c) h.count is (λ g. let k = full g in omega (arith, k));
+    }
 
 pub signed_means : (nullable : Bool) (x n : ℤ) (w : List ℕ) → IsLeast n w → Means nullable n (Some x) → IsShortest true nullable (Some x) w
 signed_means nullable x n w h means range is fits =
@@ -133,6 +168,7 @@ negative_means true c = refl
 negative_means false c = refl
 
 -- what was appended at Ok
-pub added : {R E : Type 0} (P : List ℕ → Type 0) (old new w : List ℕ) (r : Result R E) → new ≡ (if is_ok r then old ++ w else old) → P w → OnOk r (Adds P old new)
+pub added : {R E : Type 0} (P : List ℕ → Type 0) (old new w : List ℕ) (r : Result R E) → new ≡ (if is_ok r then old ++ w else old) → P w
+    → OnOk r (Adds P old new)
 added P old new w (Ok x) e p = (w, e, p)
 added P old new w (Err x) e p = tt

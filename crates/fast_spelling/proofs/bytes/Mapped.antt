@@ -1,5 +1,6 @@
 -- Bits that are not too many have a map.
-use Rattle.std.proofs.Common.{◌≡◌, ◌≢◌, ◌⊎◌, inl, inr, ℕ, suc, ◌+◌, ◌/◌, ◌%◌, ◌^◌, ◌<◌, ◌≤◌, max, List, ◌++◌, length, get_or, set, replicate, refl, ap, sym, ◌∙◌, arith}
+use Rattle.std.proofs.Common.{◌≡◌, ◌≢◌, ◌⊎◌, inl, inr, ℕ, suc, ◌+◌, ◌/◌, ◌%◌, ◌^◌, ◌<◌, ◌≤◌, max, List, ◌++◌, length, get_or, set}
+use Rattle.std.proofs.Common.{replicate, refl, ap, sym, ◌∙◌, arith}
 use Rattle.std.specs.Prelude.{zero, Bool, true, false, bit_or, Some}
 use Rattle.std.proofs.lemmas.Bool.{cases_lt, cases_eq}
 use Rattle.std.proofs.lemmas.List.{get_or-set_same, get_or-set_other, get_or_past, length-append}
@@ -84,16 +85,19 @@ pub have_map : (b : List Bool) → length b ≤ 1022 → ¬ (HaveNoMap b)
 have_map b h none = of (built_up_to b (length b) h)
   where
     of : Built b (length b) → ⊥
-    of m = none (finished m.cells m.len m.built) (finished_map m.cells m.len m.built) (λ i. finished_bits m.cells m.len m.built i ∙ by i (cases_lt i (length b)))
+    of m = none (finished m.cells m.len m.built) (finished_map m.cells m.len m.built)
+        (λ i. finished_bits m.cells m.len m.built i ∙ by i (cases_lt i (length b)))
       where
         by : (i : ℕ) → (i < length b) ⊎ (length b ≤ i) → get_or (bits m.cells) i false ≡ get_or b i false
         by i (inl l) = m.same i l
         by i (inr g) = m.past i g ∙ sym (get_or_past b i false g)
 
-pub segment_has_map : (l : Limits) (body : Body) (d d' : Dictionary) (vs : Slots) (b : List Bool) (w : List ℕ) → EncodesBody l body d vs b w d' → bits_of body ≤ 1022 → ¬ (HaveNoMap b)
+pub segment_has_map : (l : Limits) (body : Body) (d d' : Dictionary) (vs : Slots) (b : List Bool) (w : List ℕ)
+    → EncodesBody l body d vs b w d' → bits_of body ≤ 1022 → ¬ (HaveNoMap b)
 segment_has_map l body d d' vs b w h few = have_map b (omega (arith, few, body-length l body d vs b w d' h))
 
-pub message_has_map : (l : Limits) (u : TemplateData) (id : ℕ) (d mid e d' : Dictionary) (vs : Slots) (b c : List Bool) (v w : List ℕ) → EncodesField l identifier d (Some (U id)) b v mid → EncodesBody l u.body e vs c w d' → message_bits u ≤ 1022
+pub message_has_map : (l : Limits) (u : TemplateData) (id : ℕ) (d mid e d' : Dictionary) (vs : Slots) (b c : List Bool) (v w : List ℕ)
+    → EncodesField l identifier d (Some (U id)) b v mid → EncodesBody l u.body e vs c w d' → message_bits u ≤ 1022
     → ¬ (HaveNoMap (b ++ c))
 message_has_map l u id d mid e d' vs b c v w h i few =
     let one : length b ≤ 1 = field-length l identifier d (Some (U id)) b v mid h in

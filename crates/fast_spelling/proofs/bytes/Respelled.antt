@@ -1,5 +1,6 @@
 -- Integers that are spelled have a spelling in strict mode, and smaller ones a spelling that is no longer.
-use Rattle.std.proofs.Common.{◌≡◌, ◌⊎◌, inl, inr, ℕ, zero, suc, ◌+◌, ◌*◌, ◌-◌, ◌/◌, ◌%◌, ◌^◌, ◌<◌, ◌≤◌, List, [], ◌∷◌, length, refl, ap, sym, subst, ◌∙◌, arith, lit<}
+use Rattle.std.proofs.Common.{◌≡◌, ◌⊎◌, inl, inr, ℕ, zero, suc, ◌+◌, ◌*◌, ◌-◌, ◌/◌, ◌%◌, ◌^◌, ◌<◌, ◌≤◌, List, [], ◌∷◌, length, refl, ap}
+use Rattle.std.proofs.Common.{sym, subst, ◌∙◌, arith, lit<}
 use Rattle.std.specs.Prelude.{Bool, true, false, if◌then◌else◌, ◌≤ℤ◌, ℤ, pos, negsuc, Option, Some}
 use Rattle.std.proofs.Math.Nat.{pow-suc, one-le-pow, div-add-mod, mod-lt, mod-eq_of_lt, div-lt_iff_lt-mul}
 use Rattle.std.proofs.lemmas.Bool.{cases_Bool}
@@ -18,7 +19,8 @@ use Rattle.fast_stream.proofs.readers.UnitReaders.{entity-nil, entity-one, entit
 one_byte : (value : List ℕ → ℤ) (a : ℕ) → IsOverlong value (a ∷ []) → ⊥
 one_byte value a (x, y, r, e, _) = absurd (let n : 1 ≡ suc (suc (length r)) = ap length e in omega (arith, n))
 
-is_overlong : (s : Bool) (w : List ℕ) → IsEntity w → 1 < length w → IsOverlong (λ u. if s then signed u else pos (number u)) w ⊎ (IsOverlong (λ u. if s then signed u else pos (number u)) w → ⊥)
+is_overlong : (s : Bool) (w : List ℕ) → IsEntity w → 1 < length w
+    → IsOverlong (λ u. if s then signed u else pos (number u)) w ⊎ (IsOverlong (λ u. if s then signed u else pos (number u)) w → ⊥)
 is_overlong false w entity long = by (cases_Bool _) (overlong_by_zero w entity long)
   where
     by : {b : Bool} {P : Type 0} → (b ≡ true) ⊎ (b ≡ false) → ((b ≡ true → P) × (P → b ≡ true)) → P ⊎ (P → ⊥)
@@ -38,7 +40,8 @@ tail_entity a b r (x ∷ front, last, e, none, h) =
     entity-rest a (b ∷ r) (rw k (below-head x front none)) (x ∷ front, last, e, none, h)
 
 -- The bytes that are too many can be left out.
-pub shortest : (range : Range) (nullable : Bool) (x : Option ℤ) (w : List ℕ) → SpellsInt false range nullable x w → (v : List ℕ) × SpellsInt true range nullable x v × (length v ≤ length w)
+pub shortest : (range : Range) (nullable : Bool) (x : Option ℤ) (w : List ℕ) → SpellsInt false range nullable x w
+    → (v : List ℕ) × SpellsInt true range nullable x v × (length v ≤ length w)
 shortest range nullable x [] p = absurd (entity-nil p.form.entity)
 shortest range nullable x (a ∷ []) p = (
   a ∷ [],
@@ -67,7 +70,8 @@ shortest range nullable x (a ∷ b ∷ r) p = by (is_overlong range.is_signed (a
         (v, h, omega (arith, i))
 
 -- the same from either mode
-pub respelled : (strict : Bool) (range : Range) (nullable : Bool) (x : Option ℤ) (w : List ℕ) → SpellsInt strict range nullable x w → (v : List ℕ) × SpellsInt true range nullable x v × (length v ≤ length w)
+pub respelled : (strict : Bool) (range : Range) (nullable : Bool) (x : Option ℤ) (w : List ℕ) → SpellsInt strict range nullable x w
+    → (v : List ℕ) × SpellsInt true range nullable x v × (length v ≤ length w)
 respelled strict range nullable x w p = shortest range nullable x w (record {
   form = record { entity = p.form.entity; short = p.form.short; shortest = λ t. absurd (cc t) };
   meaning = p.meaning;
@@ -91,7 +95,8 @@ first_small k n h = (div-lt_iff_lt-mul {k = 128 ^ suc k} {x = n} {y = 128} (posi
 
 digits_entity : (k n : ℕ) → n < 128 ^ suc k → IsEntity (digits k n)
 digits_entity zero n h = entity-one (n + 128) (omega arith)
-digits_entity (suc k) n h = entity-cons (n / 128 ^ suc k) (digits k (n % 128 ^ suc k)) (first_small k n h) (digits_entity k (n % 128 ^ suc k) (mod-lt n (positive (suc k))))
+digits_entity (suc k) n h = entity-cons (n / 128 ^ suc k) (digits k (n % 128 ^ suc k)) (first_small k n h)
+    (digits_entity k (n % 128 ^ suc k) (mod-lt n (positive (suc k))))
 
 digits_number : (k n : ℕ) → n < 128 ^ suc k → number (digits k n) ≡ n
 digits_number zero n h = let small : n < 128 = h in omega (arith, small)
@@ -134,8 +139,12 @@ twos_is : (k : ℕ) (x : ℤ) → mag x < 64 * 128 ^ k → IsEntity (twos k x) �
 twos_is k (pos n) h =
     let small : n < 128 ^ suc k = omega (arith, half k, h) in
     let long = digits_length k n in
-    let is = digits_number k n small in
-    (digits_entity k n small, long, signed_natural (digits k n) (omega (arith, long)) (rw (long, is, ← power_of_128 (suc k)) (omega (arith, half k, h))) ∙ ap pos is)
+    let is = digits_number k n small in (
+      digits_entity k n small,
+      long,
+      signed_natural (digits k n) (omega (arith, long))
+          (rw (long, is, ← power_of_128 (suc k)) (omega (arith, half k, h))) ∙ ap pos is,
+    )
 twos_is k (negsuc c) h =
     let n = 128 ^ suc k - 1 - c in
     let small : n < 128 ^ suc k = omega (arith, positive (suc k)) in
@@ -143,23 +152,40 @@ twos_is k (negsuc c) h =
     let is = digits_number k n small in (
       digits_entity k n small,
       long,
-      signed_negative (digits k n) c (omega (arith, long)) (rw (long, ← power_of_128 (suc k)) (omega (arith, half k, h))) (rw (long, ← power_of_128 (suc k)) is),
+      signed_negative (digits k n) c (omega (arith, long)) (rw (long, ← power_of_128 (suc k)) (omega (arith, half k, h)))
+          (rw (long, ← power_of_128 (suc k)) is),
     )
 
 -- A signed integer that so many bytes hold, and a number.
-long_signed : (k : ℕ) (low high : ℤ) (nullable : Bool) (x : ℤ) → k < 10 → IsWithin (record { is_signed = true; low = low; high = high }) x → mag (sent_for nullable x) < 64 * 128 ^ k
+long_signed : (k : ℕ) (low high : ℤ) (nullable : Bool) (x : ℤ) → k < 10 → IsWithin (record {
+  is_signed = true;
+  low = low;
+  high = high;
+}) x → mag (sent_for nullable x) < 64 * 128 ^ k
     → IsLong false (record { is_signed = true; low = low; high = high }) nullable x k
 long_signed k low high nullable x few fits h =
     let (entity, long, is) = twos_is k (sent_for nullable x) h in
     record {
       bytes = twos k (sent_for nullable x);
-      spelled = record { form = record { entity = entity; short = omega (arith, long, few); shortest = λ t. absurd (cc t) }; meaning = meant nullable (signed (twos k (sent_for nullable x))) x is; fits = fits };
+      spelled = record {
+        form = record { entity = entity; short = omega (arith, long, few); shortest = λ t. absurd (cc t) };
+        meaning = meant nullable (signed (twos k (sent_for nullable x))) x is;
+        fits = fits;
+      };
       long = long;
     }
 
 -- A signed integer whose sent form is no greater than that of one that is spelled.
-pub shorter_signed : (strict : Bool) (low high : ℤ) (nullable : Bool) (x y : ℤ) (w : List ℕ) → SpellsInt strict (record { is_signed = true; low = low; high = high }) nullable (Some y) w → IsWithin (record { is_signed = true; low = low; high = high }) x
-    → mag (sent_for nullable x) ≤ mag (sent_for nullable y) → (v : List ℕ) × SpellsInt true (record { is_signed = true; low = low; high = high }) nullable (Some x) v × (length v ≤ length w)
+pub shorter_signed : (strict : Bool) (low high : ℤ) (nullable : Bool) (x y : ℤ) (w : List ℕ) → SpellsInt strict (record {
+  is_signed = true;
+  low = low;
+  high = high;
+}) nullable (Some y) w → IsWithin (record { is_signed = true; low = low; high = high }) x
+    → mag (sent_for nullable x) ≤ mag (sent_for nullable y) → (v : List ℕ) × SpellsInt true (record {
+      is_signed = true;
+      low = low;
+      high = high;
+    }) nullable (Some x) v × (length v ≤ length w)
 shorter_signed strict low high nullable x y w p fits h =
     let k = length w - 1 in
     let some = entity_is_long w p.form.entity in
@@ -171,7 +197,11 @@ shorter_signed strict low high nullable x y w p fits h =
     (v, i, omega (arith, j, made.long, long))
 
 -- in strict mode no more bytes
-pub some_signed : (k : ℕ) (low high : ℤ) (nullable : Bool) (x : ℤ) → k < 10 → IsWithin (record { is_signed = true; low = low; high = high }) x → mag (sent_for nullable x) < 64 * 128 ^ k
+pub some_signed : (k : ℕ) (low high : ℤ) (nullable : Bool) (x : ℤ) → k < 10 → IsWithin (record {
+  is_signed = true;
+  low = low;
+  high = high;
+}) x → mag (sent_for nullable x) < 64 * 128 ^ k
     → (v : List ℕ) × SpellsInt true (record { is_signed = true; low = low; high = high }) nullable (Some x) v
 some_signed k low high nullable x few fits h =
     let made = long_signed k low high nullable x few fits h in
@@ -195,7 +225,11 @@ raised_less : (b : Bool) (i j : ℕ) → i ≤ j → raised_by b i ≤ raised_by
 raised_less false i j h = h
 raised_less true i j h = omega (arith, h)
 
-long_unsigned : (k : ℕ) (top : ℤ) (nullable : Bool) (n : ℕ) → k < 10 → pos n ≤ℤ top → raised_by nullable n < 128 ^ suc k → IsLong false (record { is_signed = false; low = pos 0; high = top }) nullable (pos n) k
+long_unsigned : (k : ℕ) (top : ℤ) (nullable : Bool) (n : ℕ) → k < 10 → pos n ≤ℤ top → raised_by nullable n < 128 ^ suc k → IsLong false (record {
+  is_signed = false;
+  low = pos 0;
+  high = top;
+}) nullable (pos n) k
 long_unsigned k top nullable n few below small =
     let sent = raised_by nullable n in
     let is = digits_number k sent small in
@@ -210,14 +244,23 @@ long_unsigned k top nullable n few below small =
       long = long;
     }
 
-pub some_unsigned : (k : ℕ) (top : ℤ) (nullable : Bool) (n : ℕ) → k < 10 → pos n ≤ℤ top → raised_by nullable n < 128 ^ suc k → (v : List ℕ) × SpellsInt true (record { is_signed = false; low = pos 0; high = top }) nullable (Some (pos n)) v
+pub some_unsigned : (k : ℕ) (top : ℤ) (nullable : Bool) (n : ℕ) → k < 10 → pos n ≤ℤ top → raised_by nullable n < 128 ^ suc k
+    → (v : List ℕ) × SpellsInt true (record {
+      is_signed = false;
+      low = pos 0;
+      high = top;
+    }) nullable (Some (pos n)) v
 some_unsigned k top nullable n few below small =
     let made = long_unsigned k top nullable n few below small in
     let (v, i, j) = respelled false (record { is_signed = false; low = pos 0; high = top }) nullable (Some (pos n)) made.bytes made.spelled in
     (v, i)
 
 -- A number that is no greater than one that is spelled.
-pub shorter_unsigned : (strict : Bool) (top : ℤ) (nullable : Bool) (n m : ℕ) (w : List ℕ) → SpellsInt strict (record { is_signed = false; low = pos 0; high = top }) nullable (Some (pos m)) w → n ≤ m
+pub shorter_unsigned : (strict : Bool) (top : ℤ) (nullable : Bool) (n m : ℕ) (w : List ℕ) → SpellsInt strict (record {
+  is_signed = false;
+  low = pos 0;
+  high = top;
+}) nullable (Some (pos m)) w → n ≤ m
     → (v : List ℕ) × SpellsInt true (record { is_signed = false; low = pos 0; high = top }) nullable (Some (pos n)) v × (length v ≤ length w)
 shorter_unsigned strict top nullable n m w p h =
     let k = length w - 1 in

@@ -1,5 +1,6 @@
 -- The bytes of texts and of items.
-use Rattle.std.proofs.Common.{◌≡◌, ◌≢◌, ℕ, suc, ◌+◌, ◌-◌, ◌<◌, ◌≤◌, ◌^◌, List, [], ◌∷◌, ◌++◌, take, length, get_or, refl, sym, subst, ◌∙◌, arith, FitsSigned, to_z, of_z}
+use Rattle.std.proofs.Common.{◌≡◌, ◌≢◌, ℕ, suc, ◌+◌, ◌-◌, ◌<◌, ◌≤◌, ◌^◌, List, [], ◌∷◌, ◌++◌, take, length, get_or, refl, sym, subst, ◌∙◌}
+use Rattle.std.proofs.Common.{arith, FitsSigned, to_z, of_z}
 use Rattle.std.specs.Prelude.{nat_eq, Bool, true, false, All, ℤ, pos, Some, Result, Ok, Err, OnOk}
 use Rattle.std.proofs.lemmas.List.{take_more, take_all}
 use Rattle.std.specs.Int.{w128}
@@ -26,7 +27,8 @@ ascii_spelled (c ∷ v) nullable room n all e z h = (z, all, h, (take n (c ∷ v
 sized : (nullable : Bool) (n : ℕ) (u : List ℕ) → n < 2 ^ 31 → IsShortest false nullable (Some (pos n)) u → SpellsSize true nullable (Some n) u
 sized nullable n u h s = s (unsigned_range 32) refl (omega (arith, ints, h), omega (arith, ints, h))
 
-vector_spelled : (nullable : Bool) (room : ℕ) (t u : List ℕ) → length t < 2 ^ 31 → IsShortest false nullable (Some (pos (length t))) u → length t ≤ room → SpellsVector true nullable room (Some t) (u ++ t)
+vector_spelled : (nullable : Bool) (room : ℕ) (t u : List ℕ) → length t < 2 ^ 31 → IsShortest false nullable (Some (pos (length t))) u
+    → length t ≤ room → SpellsVector true nullable room (Some t) (u ++ t)
 vector_spelled nullable room t u h s r = (u, sized nullable (length t) u h s, refl, r)
 
 -- a part in a kind is short
@@ -40,7 +42,8 @@ part_short Ascii t h = h.0
 part_short Unicode t h = h
 part_short Bytes t h = h
 
-pub sized_spelled : (kind : Kind) (nullable : Bool) (t u : List ℕ) → kind ≢ Ascii → length t < 2 ^ 31 → IsShortest false nullable (Some (pos (length t))) u → SpellsPart kind nullable t (u ++ t)
+pub sized_spelled : (kind : Kind) (nullable : Bool) (t u : List ℕ) → kind ≢ Ascii → length t < 2 ^ 31
+    → IsShortest false nullable (Some (pos (length t))) u → SpellsPart kind nullable t (u ++ t)
 sized_spelled UInt32 nullable t u other h s room r = vector_spelled nullable room t u h s r
 sized_spelled Int32 nullable t u other h s room r = vector_spelled nullable room t u h s r
 sized_spelled UInt64 nullable t u other h s room r = vector_spelled nullable room t u h s r
@@ -56,7 +59,8 @@ on_ok (Ok x) h f = f h
 on_ok (Err e) h f = tt
 
 -- a signed integer that was handed to a call
-pub handed : (nullable : Bool) (x : ℤ) (w : List ℕ) → FitsSigned w128 x → IsShortest true nullable (Some (to_z w128 (of_z w128 x))) w → IsShortest true nullable (Some x) w
+pub handed : (nullable : Bool) (x : ℤ) (w : List ℕ) → FitsSigned w128 x → IsShortest true nullable (Some (to_z w128 (of_z w128 x))) w
+    → IsShortest true nullable (Some x) w
 handed nullable x w h s = subst (λ (n : ℤ). IsShortest true nullable (Some n) w) (to_z-of_z w128 x h) s
 
 -- a text that is not empty

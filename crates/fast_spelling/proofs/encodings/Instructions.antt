@@ -30,16 +30,19 @@ use Rattle.fast_spelling.specs.meaning.Refusals.{RefusesField, RefusesDecimal, R
 use Rattle.fast_spelling.specs.meaning.Suiting.{Suits, IsWithinLimits}
 
 -- a node's instruction, by its shape
-pub at_shape : (nodes : List Node) (n : ℕ) (v : Node) (s : Shape) → slice_get nodes n ≡ Some v → AreBetween n (length nodes) (numbers_of v.shape) → v.shape ≡ s → instruction_in nodes n ≡ instruction_among nodes (label_of n v) s
+pub at_shape : (nodes : List Node) (n : ℕ) (v : Node) (s : Shape) → slice_get nodes n ≡ Some v
+    → AreBetween n (length nodes) (numbers_of v.shape) → v.shape ≡ s → instruction_in nodes n ≡ instruction_among nodes (label_of n v) s
 at_shape nodes n v s found between is =
     let whole : n - 0 ≡ n = omega arith in
-    ap (λ (k : ℕ). slice_index_or (instructions_from 0 nodes) k no_instruction) (sym whole) ∙ node_instruction nodes n (length nodes) v found between ∙ ap (instruction_among nodes (label_of n v)) is
+    ap (λ (k : ℕ). slice_index_or (instructions_from 0 nodes) k no_instruction) (sym whole)
+    ∙ node_instruction nodes n (length nodes) v found between ∙ ap (instruction_among nodes (label_of n v)) is
 
 pub usable_at : (entries : ℕ) (v : Node) (s : Shape) → v.shape ≡ s → IsUsableShape entries (shape_data v.shape) → IsUsableShape entries (shape_data s)
 usable_at entries v s is h = subst (λ (z : Shape). IsUsableShape entries (shape_data z)) is h
 
 -- no field of a node has a longer initial value, if no field of the set has
-pub short_at : (nodes : List Node) (n : ℕ) (v : Node) (s : Shape) (m : ℕ) → slice_get nodes n ≡ Some v → v.shape ≡ s → ¬ (HasLongInitial m nodes) → ¬ (AnyField (λ f. IsLongText m f.initial) (shape_data s))
+pub short_at : (nodes : List Node) (n : ℕ) (v : Node) (s : Shape) (m : ℕ) → slice_get nodes n ≡ Some v → v.shape ≡ s
+    → ¬ (HasLongInitial m nodes) → ¬ (AnyField (λ f. IsLongText m f.initial) (shape_data s))
 short_at nodes n v s m found is none long = none (n, v, found, subst (λ (z : Shape). AnyField (λ f. IsLongText m f.initial) (shape_data z)) (sym is) long)
 
 short_initial : (i : Option ScalarData) (m : ℕ) → ¬ (IsLongText m i) → IfSome i (λ v. length (text_of v) ≤ m)
@@ -51,7 +54,8 @@ short_initial (Some v) m h = by (cases_lt m (length (text_of v)))
     by (inr g) = g
 
 -- what a field of a ready set relies on
-pub served : (t : Templates) (l : Limits) (s : LedgerData) (f : FieldData) → IsReady t l s → IsUsable (tree_of t).entries f → ((m : ℕ) → ¬ (HasLongInitial m (nodes_of t)) → ¬ (IsLongText m f.initial)) → IsServed s f
+pub served : (t : Templates) (l : Limits) (s : LedgerData) (f : FieldData) → IsReady t l s → IsUsable (tree_of t).entries f
+    → ((m : ℕ) → ¬ (HasLongInitial m (nodes_of t)) → ¬ (IsLongText m f.initial)) → IsServed s f
 served t l s f ready usable short = record {
   usable = subst (λ (n : ℕ). IsUsable n f) (sym ready.entries) usable;
   initial = subst (λ (m : ℕ). IfSome f.initial (λ v. length (text_of v) ≤ m)) ready.room (short_initial f.initial l.max_text (short l.max_text ready.initial));
@@ -75,14 +79,16 @@ absent_optional (parts at g m) f e h = let k : f ≡ g = cc in ap (λ (z : Field
 absent_optional (group at optional body) f e h = absurd (cc e)
 absent_optional (sequence at g body) f e h = let k : f ≡ g = cc in ap (λ (z : FieldData). z.optional) k ∙ h
 
-pub absent_encodes : (l : Limits) (i : Instruction) (f : FieldData) (d : Dictionary) (b : List Bool) (w : List ℕ) (d' : Dictionary) → Some f ≡ head_in i → EncodesField l f d None b w d' → Encodes l i d None b w d'
+pub absent_encodes : (l : Limits) (i : Instruction) (f : FieldData) (d : Dictionary) (b : List Bool) (w : List ℕ) (d' : Dictionary)
+    → Some f ≡ head_in i → EncodesField l f d None b w d' → Encodes l i d None b w d'
 unfolding Encodes
 absent_encodes l (field at g) f d b w d' e h = let k : f ≡ g = cc in subst (λ (z : FieldData). EncodesField l z d None b w d') k h
 absent_encodes l (parts at g m) f d b w d' e h = let k : f ≡ g = cc in subst (λ (z : FieldData). EncodesField l z d None b w d') k h
 absent_encodes l (group at optional body) f d b w d' e h = absurd (cc e)
 absent_encodes l (sequence at g body) f d b w d' e h = let k : f ≡ g = cc in subst (λ (z : FieldData). EncodesField l z d None b w d') k h
 
-pub absent_refuses : (l : Limits) (i : Instruction) (f : FieldData) (d : Dictionary) (c : EncodeFault) → Some f ≡ head_in i → RefusesField f d None c → Refuses l i d None c
+pub absent_refuses : (l : Limits) (i : Instruction) (f : FieldData) (d : Dictionary) (c : EncodeFault) → Some f ≡ head_in i
+    → RefusesField f d None c → Refuses l i d None c
 unfolding Refuses
 absent_refuses l (field at g) f d c e h = let k : f ≡ g = cc in subst (λ (z : FieldData). RefusesField z d None c) k h
 absent_refuses l (parts at g m) f d c e h = let k : f ≡ g = cc in subst (λ (z : FieldData). RefusesField z d None c) k h
@@ -97,7 +103,9 @@ absent_group l (group at optional body) d e h = (h, refl, refl, refl)
 absent_group l (sequence at g body) d e h = absurd (cc e)
 
 -- two writes, one after the other
-pub wrote_twice : (e m : FieldData) (l : Limits) (x y : ℤ) (a b c : Draft) (d mid d' : Dictionary) → Wrote (EncodesField l e d (Some (I x))) a b mid → Wrote (EncodesField l m mid (Some (I y))) b c d' → Wrote (EncodesDecimal l e m d (Some (one (Dec x y)))) a c d'
+pub wrote_twice : (e m : FieldData) (l : Limits) (x y : ℤ) (a b c : Draft) (d mid d' : Dictionary)
+    → Wrote (EncodesField l e d (Some (I x))) a b mid → Wrote (EncodesField l m mid (Some (I y))) b c d'
+    → Wrote (EncodesDecimal l e m d (Some (one (Dec x y)))) a c d'
 wrote_twice e m l x y a b c d mid d' (b1, u, p, q, h) (b2, v, r, s, i) = (
   b1 ++ b2,
   u ++ v,
@@ -111,51 +119,67 @@ pub suits_as : (i j : Instruction) (x y : Option ItemData) → i ≡ j → x ≡
 suits_as i j x y e f h = subst (λ (z : Option ItemData). Suits j z) f (subst (λ (z : Instruction). Suits z x) e h)
 
 -- The same of what is written, and of what is refused.
-pub encodes_as : (l : Limits) (i j : Instruction) (x y : Option ItemData) (d : Dictionary) (a b : Draft) (d' : Dictionary) → i ≡ j → x ≡ y → Wrote (Encodes l j d y) a b d' → Wrote (Encodes l i d x) a b d'
-encodes_as l i j x y d a b d' e f h = subst (λ (z : Option ItemData). Wrote (Encodes l i d z) a b d') (sym f) (subst (λ (z : Instruction). Wrote (Encodes l z d y) a b d') (sym e) h)
+pub encodes_as : (l : Limits) (i j : Instruction) (x y : Option ItemData) (d : Dictionary) (a b : Draft) (d' : Dictionary) → i ≡ j → x ≡ y
+    → Wrote (Encodes l j d y) a b d' → Wrote (Encodes l i d x) a b d'
+encodes_as l i j x y d a b d' e f h = subst (λ (z : Option ItemData). Wrote (Encodes l i d z) a b d') (sym f)
+    (subst (λ (z : Instruction). Wrote (Encodes l z d y) a b d') (sym e) h)
 
-pub refuses_as : (l : Limits) (i j : Instruction) (x y : Option ItemData) (d : Dictionary) (c : EncodeFault) → i ≡ j → x ≡ y → Refuses l j d y c → Refuses l i d x c
+pub refuses_as : (l : Limits) (i j : Instruction) (x y : Option ItemData) (d : Dictionary) (c : EncodeFault) → i ≡ j → x ≡ y
+    → Refuses l j d y c → Refuses l i d x c
 refuses_as l i j x y d c e f h = subst (λ (z : Option ItemData). Refuses l i d z c) (sym f) (subst (λ (z : Instruction). Refuses l z d y c) (sym e) h)
 
-pub field_encodes : (l : Limits) (at : Label) (f : FieldData) (v : ScalarData) (d : Dictionary) (a b : Draft) (d' : Dictionary) → Wrote (EncodesField l f d (Some v)) a b d' → Wrote (Encodes l (field at f) d (Some (one v))) a b d'
+pub field_encodes : (l : Limits) (at : Label) (f : FieldData) (v : ScalarData) (d : Dictionary) (a b : Draft) (d' : Dictionary)
+    → Wrote (EncodesField l f d (Some v)) a b d' → Wrote (Encodes l (field at f) d (Some (one v))) a b d'
 unfolding Encodes
 field_encodes l at f v d a b d' h = h
 
-pub field_refuses : (l : Limits) (at : Label) (f : FieldData) (v : ScalarData) (d : Dictionary) (c : EncodeFault) → RefusesField f d (Some v) c → Refuses l (field at f) d (Some (one v)) c
+pub field_refuses : (l : Limits) (at : Label) (f : FieldData) (v : ScalarData) (d : Dictionary) (c : EncodeFault)
+    → RefusesField f d (Some v) c → Refuses l (field at f) d (Some (one v)) c
 unfolding Refuses
 field_refuses l at f v d c h = h
 
-pub decimal_encodes : (l : Limits) (at : Label) (e m : FieldData) (v : ScalarData) (d : Dictionary) (a b : Draft) (d' : Dictionary) → Wrote (EncodesDecimal l e m d (Some (one v))) a b d' → Wrote (Encodes l (parts at e m) d (Some (one v))) a b d'
+pub decimal_encodes : (l : Limits) (at : Label) (e m : FieldData) (v : ScalarData) (d : Dictionary) (a b : Draft) (d' : Dictionary)
+    → Wrote (EncodesDecimal l e m d (Some (one v))) a b d' → Wrote (Encodes l (parts at e m) d (Some (one v))) a b d'
 unfolding Encodes
 decimal_encodes l at e m v d a b d' h = h
 
-pub decimal_refuses : (l : Limits) (at : Label) (e m : FieldData) (v : ScalarData) (d : Dictionary) (c : EncodeFault) → RefusesDecimal l e m d (Some (one v)) c → Refuses l (parts at e m) d (Some (one v)) c
+pub decimal_refuses : (l : Limits) (at : Label) (e m : FieldData) (v : ScalarData) (d : Dictionary) (c : EncodeFault)
+    → RefusesDecimal l e m d (Some (one v)) c → Refuses l (parts at e m) d (Some (one v)) c
 unfolding Refuses
 decimal_refuses l at e m v d c h = h
 
 -- a group: its bit, and its segment
-pub group_encodes : (l : Limits) (at : Label) (optional : Bool) (body : Body) (vs : Slots) (d : Dictionary) (a p c : Draft) (w : List ℕ) (d' : Dictionary) → p.bits.items ≡ a.bits.items ++ (if optional then true ∷ [] else []) → p.bytes.items ≡ a.bytes.items
-    → c.bits.items ≡ p.bits.items → c.bytes.items ≡ p.bytes.items ++ w → EncodesSegment body (EncodesBody l body) d vs w d' → Wrote (Encodes l (group at optional body) d (Some (group_item vs))) a c d'
+pub group_encodes : (l : Limits) (at : Label) (optional : Bool) (body : Body) (vs : Slots) (d : Dictionary) (a p c : Draft) (w : List ℕ)
+    (d' : Dictionary) → p.bits.items ≡ a.bits.items ++ (if optional then true ∷ [] else []) → p.bytes.items ≡ a.bytes.items
+    → c.bits.items ≡ p.bits.items → c.bytes.items ≡ p.bytes.items ++ w → EncodesSegment body (EncodesBody l body) d vs w d'
+    → Wrote (Encodes l (group at optional body) d (Some (group_item vs))) a c d'
 unfolding Encodes
 group_encodes l at optional body vs d a p c w d' b u e f h = (if optional then true ∷ [] else [], w, e ∙ b, f ∙ ap (λ (z : List ℕ). z ++ w) u, (refl, h))
 
-pub group_refuses : (l : Limits) (at : Label) (optional : Bool) (body : Body) (vs : Slots) (d : Dictionary) (c : EncodeFault) → RefusesSegment body (EncodesBody l body) (RefusesBody l body) d vs c → Refuses l (group at optional body) d (Some (group_item vs)) c
+pub group_refuses : (l : Limits) (at : Label) (optional : Bool) (body : Body) (vs : Slots) (d : Dictionary) (c : EncodeFault)
+    → RefusesSegment body (EncodesBody l body) (RefusesBody l body) d vs c → Refuses l (group at optional body) d (Some (group_item vs)) c
 unfolding Refuses
 group_refuses l at optional body vs d c h = h
 
 -- a sequence: its length, and its elements
-pub sequence_encodes : (l : Limits) (at : Label) (f : FieldData) (body : Body) (rows : Elements) (d mid : Dictionary) (a b c : Draft) (w : List ℕ) (d' : Dictionary) → Wrote (EncodesField l f d (Some (U (count rows)))) a b mid
-    → c.bits.items ≡ b.bits.items → c.bytes.items ≡ b.bytes.items ++ w → EncodesElements (EncodesSegment body (EncodesBody l body)) mid rows w d' → Wrote (Encodes l (sequence at f body) d (Some (sequence_item rows))) a c d'
+pub sequence_encodes : (l : Limits) (at : Label) (f : FieldData) (body : Body) (rows : Elements) (d mid : Dictionary) (a b c : Draft)
+    (w : List ℕ) (d' : Dictionary) → Wrote (EncodesField l f d (Some (U (count rows)))) a b mid
+    → c.bits.items ≡ b.bits.items → c.bytes.items ≡ b.bytes.items ++ w
+    → EncodesElements (EncodesSegment body (EncodesBody l body)) mid rows w d'
+    → Wrote (Encodes l (sequence at f body) d (Some (sequence_item rows))) a c d'
 unfolding Encodes
 sequence_encodes l at f body rows d mid a b c w d' (bits, u, p, q, h) e g k =
     (bits, u ++ w, e ∙ p, g ∙ ap (λ (z : List ℕ). z ++ w) q ∙ append_assoc a.bytes.items u w, (u, w, mid, h, k, refl))
 
-pub length_refuses : (l : Limits) (at : Label) (f : FieldData) (body : Body) (rows : Elements) (d : Dictionary) (c : EncodeFault) → RefusesField f d (Some (U (count rows))) c → Refuses l (sequence at f body) d (Some (sequence_item rows)) c
+pub length_refuses : (l : Limits) (at : Label) (f : FieldData) (body : Body) (rows : Elements) (d : Dictionary) (c : EncodeFault)
+    → RefusesField f d (Some (U (count rows))) c → Refuses l (sequence at f body) d (Some (sequence_item rows)) c
 unfolding Refuses
 length_refuses l at f body rows d c h = inl h
 
-pub elements_refuse : (l : Limits) (at : Label) (f : FieldData) (body : Body) (rows : Elements) (d mid : Dictionary) (a b : Draft) (c : EncodeFault) → Wrote (EncodesField l f d (Some (U (count rows)))) a b mid
-    → RefusesElements (EncodesSegment body (EncodesBody l body)) (RefusesSegment body (EncodesBody l body) (RefusesBody l body)) mid rows c → Refuses l (sequence at f body) d (Some (sequence_item rows)) c
+pub elements_refuse : (l : Limits) (at : Label) (f : FieldData) (body : Body) (rows : Elements) (d mid : Dictionary) (a b : Draft)
+    (c : EncodeFault) → Wrote (EncodesField l f d (Some (U (count rows)))) a b mid
+    → RefusesElements (EncodesSegment body (EncodesBody l body)) (RefusesSegment body (EncodesBody l body) (RefusesBody l body)) mid rows c
+    → Refuses l (sequence at f body) d (Some (sequence_item rows)) c
 unfolding Refuses
 elements_refuse l at f body rows d mid a b c (bits, u, p, q, h) r = inr (bits, u, mid, h, r)
 

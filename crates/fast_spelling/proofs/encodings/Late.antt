@@ -3,13 +3,15 @@ use Rattle.std.proofs.Common.{◌≡◌, ◌⊎◌, inl, inr, refl, ℕ, List}
 use Rattle.std.specs.Prelude.{if◌then◌else◌, Option, Some, None}
 use Rattle.fast_value.specs.declared.settings.Limits.{Limits}
 use Rattle.fast_value.specs.meaning.Kinds.{ScalarData, U, I, Dec, AsciiText, UnicodeText, ByteVector}
-use Rattle.fast_value.specs.meaning.Messages.{ItemData, one, group as group_item, sequence as sequence_item, Slots, Elements, no_elements, element, count, MessageData}
+use Rattle.fast_value.specs.meaning.Messages.{ItemData, one, group as group_item, sequence as sequence_item, Slots, Elements, no_elements}
+use Rattle.fast_value.specs.meaning.Messages.{element, count, MessageData}
 use Rattle.fast_tree.specs.meaning.Tree.{Tree, FieldData, Instruction, field, parts, group, sequence, Body, end, step}
 use Rattle.fast_dict.specs.meaning.Dictionary.{Dictionary, reset}
 use Rattle.fast_spelling.specs.declared.faults.EncodeFault.{EncodeFault}
 use Rattle.fast_spelling.specs.declared.faults.EncodeFault.TheVariants.{E1, E2, E3, E4, R9, Memory}
 use Rattle.fast_spelling.specs.meaning.Encoding.{Encoder, EncodesBody, EncodesSegment}
-use Rattle.fast_spelling.specs.meaning.Refusals.{Refuser, RefusesField, RefusesScalar, RefusesDecimal, RefusesSegment, RefusesElements, RefusesGroup, RefusesSequence, Refuses, RefusesBody, RefusesMessage}
+use Rattle.fast_spelling.specs.meaning.Refusals.{Refuser, RefusesField, RefusesScalar, RefusesDecimal, RefusesSegment, RefusesElements}
+use Rattle.fast_spelling.specs.meaning.Refusals.{RefusesGroup, RefusesSequence, Refuses, RefusesBody, RefusesMessage}
 
 -- one of the two faults that are told at an instruction
 abbrev pub IsLate : EncodeFault → Type 0
@@ -49,7 +51,8 @@ segment_late : (body : Body) (inside : Encoder Slots) (refuses : Refuser) → Al
 segment_late body inside refuses late d vs c (inl h) = late d vs c h
 segment_late body inside refuses late d vs c (inr (b, v, mid, p, q, none, is)) = inl is
 
-elements_late : (encodes : Dictionary → Slots → List ℕ → Dictionary → Type 0) (refuses : Refuser) → AllLate refuses → (d : Dictionary) (rows : Elements) (c : EncodeFault) → RefusesElements encodes refuses d rows c → IsLate c
+elements_late : (encodes : Dictionary → Slots → List ℕ → Dictionary → Type 0) (refuses : Refuser) → AllLate refuses
+    → (d : Dictionary) (rows : Elements) (c : EncodeFault) → RefusesElements encodes refuses d rows c → IsLate c
 elements_late encodes refuses late d no_elements c h = absurd h
 elements_late encodes refuses late d (element vs rest) c (inl h) = late d vs c h
 elements_late encodes refuses late d (element vs rest) c (inr (u, mid, p, h)) = elements_late encodes refuses late mid rest c h
@@ -60,7 +63,8 @@ group_late refuses late d (Some (one v)) c h = absurd h
 group_late refuses late d (Some (sequence_item rows)) c h = absurd h
 group_late refuses late d None c h = absurd h
 
-sequence_late : (l : Limits) (f : FieldData) (encodes : Dictionary → Slots → List ℕ → Dictionary → Type 0) (refuses : Refuser) → AllLate refuses → (d : Dictionary) (x : Option ItemData) (c : EncodeFault) → RefusesSequence l f encodes refuses d x c → IsLate c
+sequence_late : (l : Limits) (f : FieldData) (encodes : Dictionary → Slots → List ℕ → Dictionary → Type 0) (refuses : Refuser)
+    → AllLate refuses → (d : Dictionary) (x : Option ItemData) (c : EncodeFault) → RefusesSequence l f encodes refuses d x c → IsLate c
 sequence_late l f encodes refuses late d None c h = field_late f d None c h
 sequence_late l f encodes refuses late d (Some (sequence_item rows)) c (inl h) = field_late f d (Some (U (count rows))) c h
 sequence_late l f encodes refuses late d (Some (sequence_item rows)) c (inr (b, u, mid, p, h)) = elements_late encodes refuses late mid rows c h
@@ -73,9 +77,11 @@ mutual
   instruction_late : (l : Limits) (i : Instruction) (d : Dictionary) (x : Option ItemData) (c : EncodeFault) → Refuses l i d x c → IsLate c
   instruction_late l (field at f) d x c h = scalar_late f d x c h
   instruction_late l (parts at e m) d x c h = decimal_late l e m d x c h
-  instruction_late l (group at optional body) d x c h = group_late (RefusesSegment body (EncodesBody l body) (RefusesBody l body)) (segment_late body (EncodesBody l body) (RefusesBody l body) (body_late l body)) d x c h
+  instruction_late l (group at optional body) d x c h = group_late (RefusesSegment body (EncodesBody l body) (RefusesBody l body))
+      (segment_late body (EncodesBody l body) (RefusesBody l body) (body_late l body)) d x c h
   instruction_late l (sequence at f body) d x c h =
-      sequence_late l f (EncodesSegment body (EncodesBody l body)) (RefusesSegment body (EncodesBody l body) (RefusesBody l body)) (segment_late body (EncodesBody l body) (RefusesBody l body) (body_late l body)) d x c h
+      sequence_late l f (EncodesSegment body (EncodesBody l body)) (RefusesSegment body (EncodesBody l body) (RefusesBody l body))
+      (segment_late body (EncodesBody l body) (RefusesBody l body) (body_late l body)) d x c h
 
   body_late : (l : Limits) (body : Body) → AllLate (RefusesBody l body)
   body_late l end d vs c h = absurd h

@@ -4,13 +4,17 @@ use Rattle.std.specs.Prelude.{Bool, true, if◌then◌else◌, slice_get, Option
 use Rattle.std.proofs.lemmas.List.{append_assoc}
 use Rattle.fast_value.specs.declared.settings.Limits.{Limits}
 use Rattle.fast_value.specs.meaning.Kinds.{U, I, Dec}
-use Rattle.fast_value.specs.meaning.Messages.{ItemData, one, group as group_item, sequence as sequence_item, Slots, Elements, no_elements, element, MessageData, count}
-use Rattle.fast_tree.specs.meaning.Tree.{FieldData, identifier, uses_bit, Instruction, field, parts, group, sequence, Body, end, step, has_map, TemplateData, Tree}
+use Rattle.fast_value.specs.meaning.Messages.{ItemData, one, group as group_item, sequence as sequence_item, Slots, Elements, no_elements}
+use Rattle.fast_value.specs.meaning.Messages.{element, MessageData, count}
+use Rattle.fast_tree.specs.meaning.Tree.{FieldData, identifier, uses_bit, Instruction, field, parts, group, sequence, Body, end, step}
+use Rattle.fast_tree.specs.meaning.Tree.{has_map, TemplateData, Tree}
 use Rattle.fast_dict.specs.meaning.Dictionary.{Dictionary, PreviousData, previous_at, write_at, reset}
 use Rattle.fast_dict.specs.meaning.Operators.{Sent, Op}
 use Rattle.fast_stream.specs.meaning.Messages.{with_slot}
 use Rattle.fast_stream.specs.meaning.Streams.{AreBytes}
-use Rattle.fast_spelling.specs.meaning.Encoding.{Encoder, EncodesField, ShortestMap, SpellsSent, EncodesSegment, EncodesElements, EncodesScalar, EncodesDecimal, EncodesGroup, EncodesSequence, Encodes, EncodesBody, EncodesMessage}
+use Rattle.fast_spelling.specs.meaning.Encoding.{Encoder, EncodesField, ShortestMap, SpellsSent, EncodesSegment, EncodesElements}
+use Rattle.fast_spelling.specs.meaning.Encoding.{EncodesScalar, EncodesDecimal, EncodesGroup, EncodesSequence, Encodes, EncodesBody}
+use Rattle.fast_spelling.specs.meaning.Encoding.{EncodesMessage}
 use Rattle.fast_spelling.proofs.rules.OneItem.{one_rule, one_next, one_spelled, one_map, two_parts, bytes_left, bytes_right}
 
 -- The same bits and dictionary, and the same bytes where what stands there are bytes.
@@ -35,8 +39,10 @@ pub two_bits : (b c p q r s : List Bool) → b ≡ p ++ q → c ≡ r ++ s → p
 two_bits b c p q r s e f g h = e ∙ ap (λ (z : List Bool). z ++ q) g ∙ ap (λ (z : List Bool). r ++ z) h ∙ sym f
 
 -- bytes in two parts
-both_bytes : (v w u s t r : List ℕ) → v ≡ u ++ s → w ≡ t ++ r → (AreBytes u → AreBytes t → u ≡ t) → (AreBytes s → AreBytes r → s ≡ r) → AreBytes v → AreBytes w → v ≡ w
-both_bytes v w u s t r e f g h i j = two_parts v w u s t r e f (g (bytes_left v u s e i) (bytes_left w t r f j)) (h (bytes_right v u s e i) (bytes_right w t r f j))
+both_bytes : (v w u s t r : List ℕ) → v ≡ u ++ s → w ≡ t ++ r → (AreBytes u → AreBytes t → u ≡ t) → (AreBytes s → AreBytes r → s ≡ r)
+    → AreBytes v → AreBytes w → v ≡ w
+both_bytes v w u s t r e f g h i j = two_parts v w u s t r e f (g (bytes_left v u s e i) (bytes_left w t r f j))
+    (h (bytes_right v u s e i) (bytes_right w t r f j))
 
 -- a slot in front of others
 pub record SameSlot (x y : Option ItemData) (vs ws : Slots) : Type 0 where
@@ -74,18 +80,27 @@ module _ (l : Limits) where
   one_decimal e m d (Some (one (Dec x y))) b c v w g h (b1, b2, u, s, mid, p, q, eb, ew) (c1, c2, t, r, mid', p', q', ec, ez) =
       let first = one_field e d (Some (I x)) b1 c1 u t mid mid' p p' in
       let second = one_field m mid' (Some (I y)) b2 c2 s r g h (subst (λ (z : Dictionary). EncodesField l m z (Some (I y)) b2 s g) first.dictionary q) q' in
-      record { bits = two_bits b c b1 b2 c1 c2 eb ec first.bits second.bits; bytes = both_bytes v w u s t r ew ez first.bytes second.bytes; dictionary = second.dictionary }
+      record {
+        bits = two_bits b c b1 b2 c1 c2 eb ec first.bits second.bits;
+        bytes = both_bytes v w u s t r ew ez first.bytes second.bytes;
+        dictionary = second.dictionary;
+      }
   one_decimal e m d (Some other) b c v w g h p q = absurd p
 
   one_group : (optional : Bool) (inside : Dictionary → Slots → List ℕ → Dictionary → Type 0) → OneSegment inside → One (EncodesGroup optional inside)
-  one_group optional inside only d None b c v w g h (o, e, p, q) (o', e', p', q') = record { bits = e ∙ sym e'; bytes = λ i j. p ∙ sym p'; dictionary = q ∙ sym q' }
+  one_group optional inside only d None b c v w g h (o, e, p, q) (o', e', p', q') = record {
+    bits = e ∙ sym e';
+    bytes = λ i j. p ∙ sym p';
+    dictionary = q ∙ sym q';
+  }
   one_group optional inside only d (Some (group_item vs)) b c v w g h (e, p) (e', p') =
       let same = only d vs v w g h p p' in
       record { bits = e ∙ sym e'; bytes = same.bytes; dictionary = same.dictionary }
   one_group optional inside only d (Some (one x)) b c v w g h p q = absurd p
   one_group optional inside only d (Some (sequence_item rows)) b c v w g h p q = absurd p
 
-  one_elements : (inside : Dictionary → Slots → List ℕ → Dictionary → Type 0) → OneSegment inside → (rows : Elements) (d : Dictionary) (v w : List ℕ) (g h : Dictionary)
+  one_elements : (inside : Dictionary → Slots → List ℕ → Dictionary → Type 0) → OneSegment inside
+      → (rows : Elements) (d : Dictionary) (v w : List ℕ) (g h : Dictionary)
       → EncodesElements inside d rows v g → EncodesElements inside d rows w h → SameBytes v w g h
   one_elements inside only no_elements d v w g h (p, q) (p', q') = record { bytes = λ i j. p ∙ sym p'; dictionary = q ∙ sym q' }
   one_elements inside only (element vs rest) d v w g h (u, s, mid, p, q, e) (t, r, mid', p', q', e') =
@@ -114,8 +129,12 @@ module _ (l : Limits) where
     pub one_instruction : (i : Instruction) → One (Encodes l i)
     one_instruction (field at f) d x b c v w g h p q = one_scalar f d x b c v w g h p q
     one_instruction (parts at e m) d x b c v w g h p q = one_decimal e m d x b c v w g h p q
-    one_instruction (group at optional body) d x b c v w g h p q = one_group optional (EncodesSegment body (EncodesBody l body)) (one_segment body (EncodesBody l body) (one_body body)) d x b c v w g h p q
-    one_instruction (sequence at f body) d x b c v w g h p q = one_sequence f (EncodesSegment body (EncodesBody l body)) (one_segment body (EncodesBody l body) (one_body body)) d x b c v w g h p q
+    one_instruction (group at optional body) d x b c v w g h p q =
+        one_group optional (EncodesSegment body (EncodesBody l body))
+        (one_segment body (EncodesBody l body) (one_body body)) d x b c v w g h p q
+    one_instruction (sequence at f body) d x b c v w g h p q =
+        one_sequence f (EncodesSegment body (EncodesBody l body))
+        (one_segment body (EncodesBody l body) (one_body body)) d x b c v w g h p q
 
     pub one_body : (body : Body) → One (EncodesBody l body)
     one_body end d vs b c v w g h (_, e, p, q) (_, e', p', q') = record { bits = e ∙ sym e'; bytes = λ i j. p ∙ sym p'; dictionary = q ∙ sym q' }
@@ -124,15 +143,21 @@ module _ (l : Limits) where
         let first = one_instruction k d y b1 c1 u t mid mid' (subst (λ (z : Option ItemData). Encodes l k d z b1 u mid) slots.slot p) p' in
         let q1 = subst (λ (z : Dictionary). EncodesBody l ks z rest b2 s g) first.dictionary q in
         let second = one_body ks mid' left b2 c2 s r g h (subst (λ (z : Slots). EncodesBody l ks mid' z b2 s g) slots.rest q1) q' in
-        record { bits = two_bits b c b1 b2 c1 c2 eb ec first.bits second.bits; bytes = both_bytes v w u s t r ew ez first.bytes second.bytes; dictionary = second.dictionary }
+        record {
+          bits = two_bits b c b1 b2 c1 c2 eb ec first.bits second.bits;
+          bytes = both_bytes v w u s t r ew ez first.bytes second.bytes;
+          dictionary = second.dictionary;
+        }
 
 -- what is Some is one thing
 pub some_same : {A : Type 0} (o : Option A) (a b : A) → o ≡ Some a → o ≡ Some b → a ≡ b
 some_same o a b e f = cc
 
-pub one_encoding : (t : Tree) (l : Limits) (d : Dictionary) (m : MessageData) (v w : List ℕ) (g h : Dictionary) → AreBytes v → AreBytes w → EncodesMessage t l d m v g → EncodesMessage t l d m w h → (v ≡ w) × (g ≡ h)
+pub one_encoding : (t : Tree) (l : Limits) (d : Dictionary) (m : MessageData) (v w : List ℕ) (g h : Dictionary) → AreBytes v → AreBytes w
+    → EncodesMessage t l d m v g → EncodesMessage t l d m w h → (v ≡ w) × (g ≡ h)
 unfolding EncodesMessage
-one_encoding t l d m v w g h i j (u, id, b1, b2, map, x, s, mid, at, own, p, q, shortest, e) (u', id', c1, c2, map', y, r, mid', at', own', p', q', shortest', e') =
+one_encoding t l d m v w g h i j (u, id, b1, b2, map, x, s, mid, at, own, p, q, shortest, e)
+    (u', id', c1, c2, map', y, r, mid', at', own', p', q', shortest', e') =
     let k : u ≡ u' = some_same (slice_get t.templates m.template) u u' at at' in
     let n : id ≡ id' = some_same u'.id id id' (subst (λ (z : TemplateData). z.id ≡ Some id) k own) own' in
     let first = one_field l identifier d (Some (U id')) b1 c1 x y mid mid' (subst (λ (z : ℕ). EncodesField l identifier d (Some (U z)) b1 x mid) n p) p' in
@@ -141,5 +166,8 @@ one_encoding t l d m v w g h i j (u, id, b1, b2, map, x, s, mid, at, own, p, q, 
     let second = one_body l u'.body (if u'.reset then reset mid' else mid') m.slots b2 c2 s r g h q2 q' in
     let bits = two_bits (b1 ++ b2) (c1 ++ c2) b1 b2 c1 c2 refl refl first.bits second.bits in
     let shortest1 = subst (λ (z : List Bool). ShortestMap true z map) bits shortest in
-    let behind = both_bytes (x ++ s) (y ++ r) x s y r refl refl first.bytes second.bytes in
-    (both_bytes v w map (x ++ s) map' (y ++ r) (e ∙ append_assoc map x s) (e' ∙ append_assoc map' y r) (λ a z. one_map true (c1 ++ c2) map map' a z shortest1 shortest') behind i j, second.dictionary)
+    let behind = both_bytes (x ++ s) (y ++ r) x s y r refl refl first.bytes second.bytes in (
+      both_bytes v w map (x ++ s) map' (y ++ r) (e ∙ append_assoc map x s) (e' ∙ append_assoc map' y r)
+          (λ a z. one_map true (c1 ++ c2) map map' a z shortest1 shortest') behind i j,
+      second.dictionary,
+    )

@@ -44,13 +44,16 @@ slots_with : (x : Option Item) (xs : List (Option Item)) → slots_data (x ∷ x
 slots_with None xs = refl
 slots_with (Some x) xs = refl
 
-pub slots_next : (xs : List (Option Item)) (i : ℕ) (x : Option Item) → i < length xs → x ≡ get_or xs i x → slots_data (drop i xs) ≡ with_slot (option_map item_data x) (slots_data (drop (i + 1) xs))
+pub slots_next : (xs : List (Option Item)) (i : ℕ) (x : Option Item) → i < length xs → x ≡ get_or xs i x
+    → slots_data (drop i xs) ≡ with_slot (option_map item_data x) (slots_data (drop (i + 1) xs))
 slots_next xs i x h e = ap slots_data (drop_more xs i x h e) ∙ slots_with x (drop (i + 1) xs)
 
-pub rows_next : (rs : List (Vec (Option Item) Global)) (i : ℕ) (r : Vec (Option Item) Global) → i < length rs → r ≡ get_or rs i r → elements_data (drop i rs) ≡ element (slots_data r.items) (elements_data (drop (i + 1) rs))
+pub rows_next : (rs : List (Vec (Option Item) Global)) (i : ℕ) (r : Vec (Option Item) Global) → i < length rs → r ≡ get_or rs i r
+    → elements_data (drop i rs) ≡ element (slots_data r.items) (elements_data (drop (i + 1) rs))
 rows_next rs i r h e = ap elements_data (drop_more rs i r h e)
 
-pub body_next : (nodes : List Node) (body : List ℕ) (i : ℕ) → i < length body → body_among nodes (drop i body) ≡ step (instruction_in nodes (slice_index body i)) (body_among nodes (drop (i + 1) body))
+pub body_next : (nodes : List Node) (body : List ℕ) (i : ℕ) → i < length body
+    → body_among nodes (drop i body) ≡ step (instruction_in nodes (slice_index body i)) (body_among nodes (drop (i + 1) body))
 body_next nodes body i h = next_instruction (instructions_from 0 nodes) body i h
 
 pub body_last : (nodes : List Node) (body : List ℕ) (i : ℕ) → length body ≤ i → body_among nodes (drop i body) ≡ end
@@ -87,7 +90,8 @@ written_start l body vs d a = record {
   refuses = λ c h. h;
 }
 
-pub written_next : (l : Limits) (whole : Body) (vs : Slots) (d : Dictionary) (a : Draft) (i : Instruction) (is : Body) (x : Option ItemData) (left : Slots) (now mid : Dictionary) (b c : Draft)
+pub written_next : (l : Limits) (whole : Body) (vs : Slots) (d : Dictionary) (a : Draft) (i : Instruction) (is : Body)
+    (x : Option ItemData) (left : Slots) (now mid : Dictionary) (b c : Draft)
     → IsWritten l whole vs d a (step i is) (with_slot x left) now b → Wrote (Encodes l i now x) b c mid → IsWritten l whole vs d a is left mid c
 unfolding EncodesBody RefusesBody
 written_next l whole vs d a i is x left now mid b c h (bits, bytes, p, q, e) = record {
@@ -95,22 +99,32 @@ written_next l whole vs d a i is x left now mid b c h (bits, bytes, p, q, e) = r
   bytes = h.bytes ++ bytes;
   bits_are = p ∙ ap (λ (z : List Bool). z ++ bits) h.bits_are ∙ append_assoc a.bits.items h.bits bits;
   bytes_are = q ∙ ap (λ (z : List ℕ). z ++ bytes) h.bytes_are ∙ append_assoc a.bytes.items h.bytes bytes;
-  goes = λ r s d' k. rw (append_assoc h.bits bits r, append_assoc h.bytes bytes s) (h.goes (bits ++ r) (bytes ++ s) d' (x, left, bits, r, bytes, s, mid, e, k, refl, refl, refl));
+  goes = λ r s d' k. rw (append_assoc h.bits bits r, append_assoc h.bytes bytes s)
+      (h.goes (bits ++ r) (bytes ++ s) d' (x, left, bits, r, bytes, s, mid, e, k, refl, refl, refl));
   refuses = λ f k. h.refuses f (x, left, refl, inr (bits, bytes, mid, e, k));
 }
 
-pub written_refused : (l : Limits) (whole : Body) (vs : Slots) (d : Dictionary) (a : Draft) (i : Instruction) (is : Body) (x : Option ItemData) (left : Slots) (now : Dictionary) (b : Draft) (f : EncodeFault)
+pub written_refused : (l : Limits) (whole : Body) (vs : Slots) (d : Dictionary) (a : Draft) (i : Instruction) (is : Body)
+    (x : Option ItemData) (left : Slots) (now : Dictionary) (b : Draft) (f : EncodeFault)
     → IsWritten l whole vs d a (step i is) (with_slot x left) now b → Refuses l i now x f → RefusesBody l whole d vs f
 unfolding RefusesBody
 written_refused l whole vs d a i is x left now b f h e = h.refuses f (x, left, refl, inl e)
 
-pub written_done : (l : Limits) (whole : Body) (vs : Slots) (d : Dictionary) (a : Draft) (now : Dictionary) (b : Draft) → IsWritten l whole vs d a end no_slots now b → Wrote (EncodesBody l whole d vs) a b now
+pub written_done : (l : Limits) (whole : Body) (vs : Slots) (d : Dictionary) (a : Draft) (now : Dictionary) (b : Draft)
+    → IsWritten l whole vs d a end no_slots now b → Wrote (EncodesBody l whole d vs) a b now
 unfolding EncodesBody
-written_done l whole vs d a now b h = (h.bits, h.bytes, h.bits_are, h.bytes_are, rw (append-nil h.bits, append-nil h.bytes) at (h.goes [] [] now (refl, refl, refl, refl)))
+written_done l whole vs d a now b h = (
+  h.bits,
+  h.bytes,
+  h.bits_are,
+  h.bytes_are,
+  rw (append-nil h.bits, append-nil h.bytes) at (h.goes [] [] now (refl, refl, refl, refl)),
+)
 
 -- a segment: its body was written behind a mark, and its map was put in front
 pub segment_done : (l : Limits) (body : Body) (vs : Slots) (d mid : Dictionary) (a b c : Draft) → Wrote (EncodesBody l body d vs) a b mid
-    → Closes (has_map body) (take (length a.bytes.items) b.bytes.items) (drop (length a.bytes.items) b.bytes.items) (drop (length a.bits.items) b.bits.items) c.bytes.items
+    → Closes (has_map body) (take (length a.bytes.items) b.bytes.items) (drop (length a.bytes.items) b.bytes.items)
+    (drop (length a.bits.items) b.bits.items) c.bytes.items
     → (w : List ℕ) × (c.bytes.items ≡ a.bytes.items ++ w) × EncodesSegment body (EncodesBody l body) d vs w mid
 segment_done l body vs d mid a b c (bits, bytes, p, q, e) (m, map, r) =
     let front : take (length a.bytes.items) b.bytes.items ≡ a.bytes.items = ap (take (length a.bytes.items)) q ∙ take-append_seam a.bytes.items bytes in
@@ -124,7 +138,8 @@ segment_done l body vs d mid a b c (bits, bytes, p, q, e) (m, map, r) =
 pub segment_bits : (a b : Draft) (c bits : List Bool) → b.bits.items ≡ a.bits.items ++ bits → c ≡ take (length a.bits.items) b.bits.items → c ≡ a.bits.items
 segment_bits a b c bits p e = e ∙ ap (take (length a.bits.items)) p ∙ take-append_seam a.bits.items bits
 
-pub segment_refused : (l : Limits) (body : Body) (vs : Slots) (d mid : Dictionary) (a b : Draft) (f : EncodeFault) → Wrote (EncodesBody l body d vs) a b mid → f ≡ E3 → has_map body ≡ true → HaveNoMap (drop (length a.bits.items) b.bits.items)
+pub segment_refused : (l : Limits) (body : Body) (vs : Slots) (d mid : Dictionary) (a b : Draft) (f : EncodeFault)
+    → Wrote (EncodesBody l body d vs) a b mid → f ≡ E3 → has_map body ≡ true → HaveNoMap (drop (length a.bits.items) b.bits.items)
     → RefusesSegment body (EncodesBody l body) (RefusesBody l body) d vs f
 segment_refused l body vs d mid a b f (bits, bytes, p, q, e) is has no_map =
     let own : drop (length a.bits.items) b.bits.items ≡ bits = ap (drop (length a.bits.items)) p ∙ drop-append_seam a.bits.items bits in
@@ -134,8 +149,10 @@ segment_refused l body vs d mid a b f (bits, bytes, p, q, e) is has no_map =
 pub rows_start : (l : Limits) (body : Body) (rows : Elements) (d : Dictionary) (a : Draft) → AreWritten l body rows d a rows d a
 rows_start l body rows d a = record { bytes = []; bits_are = refl; bytes_are = sym (append-nil a.bytes.items); goes = λ w d' h. h; refuses = λ c h. h }
 
-pub rows_more : (l : Limits) (body : Body) (rows : Elements) (d : Dictionary) (a : Draft) (vs : Slots) (left : Elements) (now mid : Dictionary) (b c : Draft) (w : List ℕ)
-    → AreWritten l body rows d a (element vs left) now b → c.bits.items ≡ b.bits.items → c.bytes.items ≡ b.bytes.items ++ w → EncodesSegment body (EncodesBody l body) now vs w mid → AreWritten l body rows d a left mid c
+pub rows_more : (l : Limits) (body : Body) (rows : Elements) (d : Dictionary) (a : Draft) (vs : Slots) (left : Elements)
+    (now mid : Dictionary) (b c : Draft) (w : List ℕ)
+    → AreWritten l body rows d a (element vs left) now b → c.bits.items ≡ b.bits.items → c.bytes.items ≡ b.bytes.items ++ w
+    → EncodesSegment body (EncodesBody l body) now vs w mid → AreWritten l body rows d a left mid c
 rows_more l body rows d a vs left now mid b c w h p q e = record {
   bytes = h.bytes ++ w;
   bits_are = p ∙ h.bits_are;
@@ -145,25 +162,37 @@ rows_more l body rows d a vs left now mid b c w h p q e = record {
 }
 
 -- Where the slots up to a place are written, one more is written, or it is refused.
-module _ (l : Limits) (nodes : List Node) (body : List ℕ) (slots : List (Option Item)) (i : ℕ) (x : Option Item) (in_body : i < length body) (in_slots : i < length slots) (is : x ≡ get_or slots i x) where
+module _ (l : Limits) (nodes : List Node) (body : List ℕ) (slots : List (Option Item)) (i : ℕ) (x : Option Item)
+    (in_body : i < length body) (in_slots : i < length slots) (is : x ≡ get_or slots i x) where
   abbrev here : Instruction
   here = instruction_in nodes (slice_index body i)
 
-  opened : (d : Dictionary) (a : Draft) (now : Dictionary) (b : Draft) → IsWritten l (body_among nodes body) (slots_data slots) d a (body_among nodes (drop i body)) (slots_data (drop i slots)) now b
-      → IsWritten l (body_among nodes body) (slots_data slots) d a (step here (body_among nodes (drop (i + 1) body))) (with_slot (option_map item_data x) (slots_data (drop (i + 1) slots))) now b
+  opened : (d : Dictionary) (a : Draft) (now : Dictionary) (b : Draft)
+      → IsWritten l (body_among nodes body) (slots_data slots) d a (body_among nodes (drop i body)) (slots_data (drop i slots)) now b
+      → IsWritten l (body_among nodes body) (slots_data slots) d a (step here (body_among nodes (drop (i + 1) body)))
+      (with_slot (option_map item_data x) (slots_data (drop (i + 1) slots))) now b
   opened d a now b h =
-      subst (λ (z : Body). IsWritten l (body_among nodes body) (slots_data slots) d a z (with_slot (option_map item_data x) (slots_data (drop (i + 1) slots))) now b) (body_next nodes body i in_body)
-      (subst (λ (z : Slots). IsWritten l (body_among nodes body) (slots_data slots) d a (body_among nodes (drop i body)) z now b) (slots_next slots i x in_slots is) h)
+      subst (λ (z : Body). IsWritten l (body_among nodes body) (slots_data slots) d a z
+      (with_slot (option_map item_data x) (slots_data (drop (i + 1) slots))) now b) (body_next nodes body i in_body)
+      (subst (λ (z : Slots). IsWritten l (body_among nodes body) (slots_data slots) d a (body_among nodes (drop i body)) z now b)
+      (slots_next slots i x in_slots is) h)
 
-  pub more_at : (d : Dictionary) (a : Draft) (now mid : Dictionary) (b c : Draft) → IsWritten l (body_among nodes body) (slots_data slots) d a (body_among nodes (drop i body)) (slots_data (drop i slots)) now b
-      → Wrote (Encodes l here now (option_map item_data x)) b c mid → IsWritten l (body_among nodes body) (slots_data slots) d a (body_among nodes (drop (i + 1) body)) (slots_data (drop (i + 1) slots)) mid c
-  more_at d a now mid b c h w = written_next l (body_among nodes body) (slots_data slots) d a here (body_among nodes (drop (i + 1) body)) (option_map item_data x) (slots_data (drop (i + 1) slots)) now mid b c (opened d a now b h) w
+  pub more_at : (d : Dictionary) (a : Draft) (now mid : Dictionary) (b c : Draft)
+      → IsWritten l (body_among nodes body) (slots_data slots) d a (body_among nodes (drop i body)) (slots_data (drop i slots)) now b
+      → Wrote (Encodes l here now (option_map item_data x)) b c mid
+      → IsWritten l (body_among nodes body) (slots_data slots) d a (body_among nodes (drop (i + 1) body))
+      (slots_data (drop (i + 1) slots)) mid c
+  more_at d a now mid b c h w = written_next l (body_among nodes body) (slots_data slots) d a here (body_among nodes (drop (i + 1) body))
+      (option_map item_data x) (slots_data (drop (i + 1) slots)) now mid b c (opened d a now b h) w
 
-  pub refused_at : (d : Dictionary) (a : Draft) (now : Dictionary) (b : Draft) (f : EncodeFault) → IsWritten l (body_among nodes body) (slots_data slots) d a (body_among nodes (drop i body)) (slots_data (drop i slots)) now b
+  pub refused_at : (d : Dictionary) (a : Draft) (now : Dictionary) (b : Draft) (f : EncodeFault)
+      → IsWritten l (body_among nodes body) (slots_data slots) d a (body_among nodes (drop i body)) (slots_data (drop i slots)) now b
       → Refuses l here now (option_map item_data x) f → RefusesBody l (body_among nodes body) d (slots_data slots) f
-  refused_at d a now b f h r = written_refused l (body_among nodes body) (slots_data slots) d a here (body_among nodes (drop (i + 1) body)) (option_map item_data x) (slots_data (drop (i + 1) slots)) now b f (opened d a now b h) r
+  refused_at d a now b f h r = written_refused l (body_among nodes body) (slots_data slots) d a here (body_among nodes (drop (i + 1) body))
+      (option_map item_data x) (slots_data (drop (i + 1) slots)) now b f (opened d a now b h) r
 
-  pub suits_more : SuitsBody (body_among nodes (drop i body)) (slots_data (drop i slots)) → SuitsBody (body_among nodes (drop (i + 1) body)) (slots_data (drop (i + 1) slots))
+  pub suits_more : SuitsBody (body_among nodes (drop i body)) (slots_data (drop i slots))
+      → SuitsBody (body_among nodes (drop (i + 1) body)) (slots_data (drop (i + 1) slots))
   suits_more h = (suits_next here (body_among nodes (drop (i + 1) body)) (option_map item_data x) (slots_data (drop (i + 1) slots))
       (subst (λ (z : Body). SuitsBody z (with_slot (option_map item_data x) (slots_data (drop (i + 1) slots)))) (body_next nodes body i in_body)
       (subst (λ (z : Slots). SuitsBody (body_among nodes (drop i body)) z) (slots_next slots i x in_slots is) h))).1
@@ -180,14 +209,17 @@ module _ (l : Limits) (nodes : List Node) (body : List ℕ) (slots : List (Optio
   fits_more h = within_next l (option_map item_data x) (slots_data (drop (i + 1) slots)) (subst (AreWithinLimits l) (slots_next slots i x in_slots is) h)
 
 -- all slots are written
-pub all_written : (l : Limits) (nodes : List Node) (body : List ℕ) (slots : List (Option Item)) (i : ℕ) (d : Dictionary) (a : Draft) (now : Dictionary) (b : Draft) → length slots ≤ i
-    → SuitsBody (body_among nodes (drop i body)) (slots_data (drop i slots)) → IsWritten l (body_among nodes body) (slots_data slots) d a (body_among nodes (drop i body)) (slots_data (drop i slots)) now b
+pub all_written : (l : Limits) (nodes : List Node) (body : List ℕ) (slots : List (Option Item)) (i : ℕ) (d : Dictionary) (a : Draft)
+    (now : Dictionary) (b : Draft) → length slots ≤ i
+    → SuitsBody (body_among nodes (drop i body)) (slots_data (drop i slots))
+    → IsWritten l (body_among nodes body) (slots_data slots) d a (body_among nodes (drop i body)) (slots_data (drop i slots)) now b
     → Wrote (EncodesBody l (body_among nodes body) d (slots_data slots)) a b now
 all_written l nodes body slots i d a now b past suits h =
     let none = slots_last slots i past in
     let done = rest_is_end (body_among nodes (drop i body)) (subst (λ (z : Slots). SuitsBody (body_among nodes (drop i body)) z) none suits) in
     written_done l (body_among nodes body) (slots_data slots) d a now b
-    (subst (λ (z : Body). IsWritten l (body_among nodes body) (slots_data slots) d a z no_slots now b) done (subst (λ (z : Slots). IsWritten l (body_among nodes body) (slots_data slots) d a (body_among nodes (drop i body)) z now b) none h))
+    (subst (λ (z : Body). IsWritten l (body_among nodes body) (slots_data slots) d a z no_slots now b) done
+    (subst (λ (z : Slots). IsWritten l (body_among nodes body) (slots_data slots) d a (body_among nodes (drop i body)) z now b) none h))
 
 pub ready_kept : (t : Templates) (l : Limits) (a b : LedgerData) → IsReady t l a → Keeps a b → IsReady t l b
 ready_kept t l a b r k = record { entries = k.count ∙ r.entries; room = r.room ∙ sym k.room; small = r.small; initial = r.initial }
@@ -215,39 +247,53 @@ pub record IsClosed (l : Limits) (body : Body) (vs : Slots) (d mid : Dictionary)
   pub bytes_are : c.bytes.items ≡ a.bytes.items ++ bytes
   pub says : EncodesSegment body (EncodesBody l body) d vs bytes mid
 
-pub closed : (l : Limits) (body : Body) (vs : Slots) (d mid : Dictionary) (a b c : Draft) (has : Bool) (m n : ℕ) → Wrote (EncodesBody l body d vs) a b mid → has ≡ has_map body → m ≡ length a.bytes.items → n ≡ length a.bits.items
-    → Closes has (take m b.bytes.items) (drop m b.bytes.items) (drop n b.bits.items) c.bytes.items → c.bits.items ≡ take n b.bits.items → IsClosed l body vs d mid a c
+pub closed : (l : Limits) (body : Body) (vs : Slots) (d mid : Dictionary) (a b c : Draft) (has : Bool) (m n : ℕ)
+    → Wrote (EncodesBody l body d vs) a b mid → has ≡ has_map body → m ≡ length a.bytes.items → n ≡ length a.bits.items
+    → Closes has (take m b.bytes.items) (drop m b.bytes.items) (drop n b.bits.items) c.bytes.items → c.bits.items ≡ take n b.bits.items
+    → IsClosed l body vs d mid a c
 closed l body vs d mid a b c has m n w h i j k e =
-    let map = subst (λ (z : Bool). Closes z (take (length a.bytes.items) b.bytes.items) (drop (length a.bytes.items) b.bytes.items) (drop (length a.bits.items) b.bits.items) c.bytes.items) h (rw (i, j) at k) in
+    let map = subst (λ (z : Bool). Closes z (take (length a.bytes.items) b.bytes.items) (drop (length a.bytes.items) b.bytes.items)
+    (drop (length a.bits.items) b.bits.items) c.bytes.items) h (rw (i, j) at k) in
     let s = segment_done l body vs d mid a b c w map in
     record { bytes = s.0; bits_are = segment_bits a b c.bits.items w.0 w.2 (e ∙ ap (λ (z : ℕ). take z b.bits.items) j); bytes_are = s.1; says = s.2 }
 
-pub unclosed : (l : Limits) (body : Body) (vs : Slots) (d mid : Dictionary) (a b : Draft) (has : Bool) (n : ℕ) (f : EncodeFault) → Wrote (EncodesBody l body d vs) a b mid → has ≡ has_map body → n ≡ length a.bits.items
+pub unclosed : (l : Limits) (body : Body) (vs : Slots) (d mid : Dictionary) (a b : Draft) (has : Bool) (n : ℕ) (f : EncodeFault)
+    → Wrote (EncodesBody l body d vs) a b mid → has ≡ has_map body → n ≡ length a.bits.items
     → (f ≡ E3) × (has ≡ true) × HaveNoMap (drop n b.bits.items) → RefusesSegment body (EncodesBody l body) (RefusesBody l body) d vs f
-unclosed l body vs d mid a b has n f w h j (is, set, none) = segment_refused l body vs d mid a b f w is (sym h ∙ set) (subst (λ (z : ℕ). HaveNoMap (drop z b.bits.items)) j none)
+unclosed l body vs d mid a b has n f w h j (is, set, none) =
+    segment_refused l body vs d mid a b f w is (sym h ∙ set) (subst (λ (z : ℕ). HaveNoMap (drop z b.bits.items)) j none)
 
 -- elements from a place on
-module _ (l : Limits) (body : Body) (rs : List (Vec (Option Item) Global)) (i : ℕ) (r : Vec (Option Item) Global) (inside : i < length rs) (is : r ≡ get_or rs i r) where
-  pub row_more : (d : Dictionary) (a : Draft) (now mid : Dictionary) (b c : Draft) → AreWritten l body (elements_data rs) d a (elements_data (drop i rs)) now b → IsClosed l body (slots_data r.items) now mid b c → AreWritten l body (elements_data rs) d a (elements_data (drop (i + 1) rs)) mid c
+module _ (l : Limits) (body : Body) (rs : List (Vec (Option Item) Global)) (i : ℕ) (r : Vec (Option Item) Global) (inside : i < length rs)
+    (is : r ≡ get_or rs i r) where
+  pub row_more : (d : Dictionary) (a : Draft) (now mid : Dictionary) (b c : Draft)
+      → AreWritten l body (elements_data rs) d a (elements_data (drop i rs)) now b → IsClosed l body (slots_data r.items) now mid b c
+      → AreWritten l body (elements_data rs) d a (elements_data (drop (i + 1) rs)) mid c
   row_more d a now mid b c h k = rows_more l body (elements_data rs) d a (slots_data r.items) (elements_data (drop (i + 1) rs)) now mid b c k.bytes
       (subst (λ (z : Elements). AreWritten l body (elements_data rs) d a z now b) (rows_next rs i r inside is) h) k.bits_are k.bytes_are k.says
 
-  pub row_refused : (d : Dictionary) (a : Draft) (now : Dictionary) (b : Draft) (f : EncodeFault) → AreWritten l body (elements_data rs) d a (elements_data (drop i rs)) now b → RefusesSegment body (EncodesBody l body) (RefusesBody l body) now (slots_data r.items) f
+  pub row_refused : (d : Dictionary) (a : Draft) (now : Dictionary) (b : Draft) (f : EncodeFault)
+      → AreWritten l body (elements_data rs) d a (elements_data (drop i rs)) now b
+      → RefusesSegment body (EncodesBody l body) (RefusesBody l body) now (slots_data r.items) f
       → RefusesElements (EncodesSegment body (EncodesBody l body)) (RefusesSegment body (EncodesBody l body) (RefusesBody l body)) d (elements_data rs) f
   row_refused d a now b f h k = (subst (λ (z : Elements). AreWritten l body (elements_data rs) d a z now b) (rows_next rs i r inside is) h).refuses f (inl k)
 
-  pub row_right : AreRight (SuitsBody body) (elements_data (drop i rs)) → SuitsBody body (slots_data r.items) × AreRight (SuitsBody body) (elements_data (drop (i + 1) rs))
+  pub row_right : AreRight (SuitsBody body) (elements_data (drop i rs))
+      → SuitsBody body (slots_data r.items) × AreRight (SuitsBody body) (elements_data (drop (i + 1) rs))
   row_right h = subst (AreRight (SuitsBody body)) (rows_next rs i r inside is) h
 
   pub row_fits : RowsWithinLimits l (elements_data (drop i rs)) → AreWithinLimits l (slots_data r.items) × RowsWithinLimits l (elements_data (drop (i + 1) rs))
   row_fits h = subst (RowsWithinLimits l) (rows_next rs i r inside is) h
 
-pub rows_done : (l : Limits) (body : Body) (rs : List (Vec (Option Item) Global)) (i : ℕ) (d : Dictionary) (a : Draft) (now : Dictionary) (b : Draft) → length rs ≤ i → AreWritten l body (elements_data rs) d a (elements_data (drop i rs)) now b
-    → (w : List ℕ) × (b.bits.items ≡ a.bits.items) × (b.bytes.items ≡ a.bytes.items ++ w) × EncodesElements (EncodesSegment body (EncodesBody l body)) d (elements_data rs) w now
+pub rows_done : (l : Limits) (body : Body) (rs : List (Vec (Option Item) Global)) (i : ℕ) (d : Dictionary) (a : Draft) (now : Dictionary)
+    (b : Draft) → length rs ≤ i → AreWritten l body (elements_data rs) d a (elements_data (drop i rs)) now b
+    → (w : List ℕ) × (b.bits.items ≡ a.bits.items) × (b.bytes.items ≡ a.bytes.items ++ w)
+    × EncodesElements (EncodesSegment body (EncodesBody l body)) d (elements_data rs) w now
 rows_done l body rs i d a now b past h =
     let k = subst (λ (z : Elements). AreWritten l body (elements_data rs) d a z now b) (ap elements_data (drop_all i rs past)) h in
     (k.bytes, k.bits_are, k.bytes_are, rw (append-nil k.bytes) at (k.goes [] now (refl, refl)))
 
 -- the bits of a node's own segment tell whether it has a map
-pub has_bits : (nodes : List Node) (bits : ℕ) (v : Node) (s : Shape) → bits ≡ bits_of (body_among nodes (numbers_of v.shape)) → v.shape ≡ s → nat_lt 0 bits ≡ has_map (body_among nodes (numbers_of s))
+pub has_bits : (nodes : List Node) (bits : ℕ) (v : Node) (s : Shape) → bits ≡ bits_of (body_among nodes (numbers_of v.shape)) → v.shape ≡ s
+    → nat_lt 0 bits ≡ has_map (body_among nodes (numbers_of s))
 has_bits nodes bits v s e is = ap (nat_lt 0) (e ∙ ap (λ (z : Shape). bits_of (body_among nodes (numbers_of z))) is)

@@ -31,30 +31,39 @@ identifier_goes d n E4 h = h
 identifier_goes d n R9 (bit, item, rule, zero) = zero
 identifier_goes d n Memory h = h
 
-pub only_memory : {R : Type 0} {P : EncodeFault → Type 0} (r : Result R EncodeFault) → IfErr r (IsTold P) → ((c : EncodeFault) → ¬ (P c)) → IfErr r (λ c. c ≡ Memory)
+pub only_memory : {R : Type 0} {P : EncodeFault → Type 0} (r : Result R EncodeFault) → IfErr r (IsTold P) → ((c : EncodeFault) → ¬ (P c))
+    → IfErr r (λ c. c ≡ Memory)
 only_memory (Ok x) h never = tt
 only_memory (Err c) (inl is) never = is
 only_memory (Err c) (inr p) never = absurd (never c p)
 
 -- a template of the set, in its tree
-pub template_there : (t : Templates) (i : ℕ) (v : Template) → slice_get (templates_of t) i ≡ Some v → slice_get (tree_of t).templates i ≡ Some (template_data (instructions_from 0 (nodes_of t)) v)
-template_there t i v found = slice_get-map (template_data (instructions_from 0 (nodes_of t))) (templates_of t) i ∙ ap (option_map (template_data (instructions_from 0 (nodes_of t)))) found
+pub template_there : (t : Templates) (i : ℕ) (v : Template) → slice_get (templates_of t) i ≡ Some v
+    → slice_get (tree_of t).templates i ≡ Some (template_data (instructions_from 0 (nodes_of t)) v)
+template_there t i v found = slice_get-map (template_data (instructions_from 0 (nodes_of t))) (templates_of t) i
+    ∙ ap (option_map (template_data (instructions_from 0 (nodes_of t)))) found
 
-pub same_template : (t : Templates) (i : ℕ) (v : Template) (u : TemplateData) → slice_get (templates_of t) i ≡ Some v → slice_get (tree_of t).templates i ≡ Some u → u ≡ template_data (instructions_from 0 (nodes_of t)) v
+pub same_template : (t : Templates) (i : ℕ) (v : Template) (u : TemplateData) → slice_get (templates_of t) i ≡ Some v
+    → slice_get (tree_of t).templates i ≡ Some u → u ≡ template_data (instructions_from 0 (nodes_of t)) v
 same_template t i v u found at = let both : Some u ≡ Some (template_data (instructions_from 0 (nodes_of t)) v) = sym at ∙ template_there t i v found in cc both
 
-pub slots_suit : (t : Templates) (m : MessageData) (v : Template) → slice_get (templates_of t) m.template ≡ Some v → SuitsTemplate (tree_of t) m → SuitsBody (body_among (nodes_of t) v.body.items) m.slots
+pub slots_suit : (t : Templates) (m : MessageData) (v : Template) → slice_get (templates_of t) m.template ≡ Some v
+    → SuitsTemplate (tree_of t) m → SuitsBody (body_among (nodes_of t) v.body.items) m.slots
 slots_suit t m v found (u, at, suits) = subst (λ (z : TemplateData). SuitsBody z.body m.slots) (same_template t m.template v u found at) suits
 
-pub template_suits : (t : Templates) (m : MessageData) (v : Template) → slice_get (templates_of t) m.template ≡ Some v → SuitsBody (body_among (nodes_of t) v.body.items) m.slots → SuitsTemplate (tree_of t) m
+pub template_suits : (t : Templates) (m : MessageData) (v : Template) → slice_get (templates_of t) m.template ≡ Some v
+    → SuitsBody (body_among (nodes_of t) v.body.items) m.slots → SuitsTemplate (tree_of t) m
 template_suits t m v found suits = (template_data (instructions_from 0 (nodes_of t)) v, template_there t m.template v found, suits)
 
-pub identified : (t : Templates) (m : MessageData) (id : ℕ) (v : Template) → slice_get (templates_of t) m.template ≡ Some v → IsKnownAs (tree_of t) m id → v.id ≡ Some id
+pub identified : (t : Templates) (m : MessageData) (id : ℕ) (v : Template) → slice_get (templates_of t) m.template ≡ Some v
+    → IsKnownAs (tree_of t) m id → v.id ≡ Some id
 identified t m id v found (u, at, is) = ap (λ (z : TemplateData). z.id) (sym (same_template t m.template v u found at)) ∙ is
 
 -- An instruction is refused behind the identifier and the reset.
-pub body_refused : (t : Templates) (l : Limits) (d mid now : Dictionary) (m : MessageData) (id : ℕ) (v : Template) (a b : Draft) (c : EncodeFault) → slice_get (templates_of t) m.template ≡ Some v → IsKnownAs (tree_of t) m id
-    → Wrote (EncodesField l identifier d (Some (U id))) a b mid → now ≡ (if v.reset then reset mid else mid) → RefusesBody l (body_among (nodes_of t) v.body.items) now m.slots c → RefusesMessage (tree_of t) l d m c
+pub body_refused : (t : Templates) (l : Limits) (d mid now : Dictionary) (m : MessageData) (id : ℕ) (v : Template) (a b : Draft)
+    (c : EncodeFault) → slice_get (templates_of t) m.template ≡ Some v → IsKnownAs (tree_of t) m id
+    → Wrote (EncodesField l identifier d (Some (U id))) a b mid → now ≡ (if v.reset then reset mid else mid)
+    → RefusesBody l (body_among (nodes_of t) v.body.items) now m.slots c → RefusesMessage (tree_of t) l d m c
 body_refused t l d mid now m id v a b c found known (b1, x, bits, bytes, field) is refused = (
   template_data (instructions_from 0 (nodes_of t)) v,
   id,
@@ -68,18 +77,24 @@ body_refused t l d mid now m id v a b c found known (b1, x, bits, bytes, field) 
 )
 
 -- the bits of a draft that was empty before two writes
-both_bits : (a b c : Draft) (k : ℕ) (x y : List Bool) → a.bits.items ≡ [] → k ≡ 0 → b.bits.items ≡ a.bits.items ++ x → c.bits.items ≡ b.bits.items ++ y → drop k c.bits.items ≡ x ++ y
-both_bits a b c k x y empty start one two = ap (λ (n : ℕ). drop n c.bits.items) start ∙ two ∙ ap (λ (z : List Bool). z ++ y) (one ∙ ap (λ (z : List Bool). z ++ x) empty)
+both_bits : (a b c : Draft) (k : ℕ) (x y : List Bool) → a.bits.items ≡ [] → k ≡ 0 → b.bits.items ≡ a.bits.items ++ x
+    → c.bits.items ≡ b.bits.items ++ y → drop k c.bits.items ≡ x ++ y
+both_bits a b c k x y empty start one two = ap (λ (n : ℕ). drop n c.bits.items) start ∙ two
+    ∙ ap (λ (z : List Bool). z ++ y) (one ∙ ap (λ (z : List Bool). z ++ x) empty)
 
-both_bytes : (a b c : Draft) (n : ℕ) (x y : List ℕ) → a.bytes.items ≡ [] → n ≡ 0 → b.bytes.items ≡ a.bytes.items ++ x → c.bytes.items ≡ b.bytes.items ++ y → drop n c.bytes.items ≡ x ++ y
-both_bytes a b c n x y empty start one two = ap (λ (k : ℕ). drop k c.bytes.items) start ∙ two ∙ ap (λ (z : List ℕ). z ++ y) (one ∙ ap (λ (z : List ℕ). z ++ x) empty)
+both_bytes : (a b c : Draft) (n : ℕ) (x y : List ℕ) → a.bytes.items ≡ [] → n ≡ 0 → b.bytes.items ≡ a.bytes.items ++ x
+    → c.bytes.items ≡ b.bytes.items ++ y → drop n c.bytes.items ≡ x ++ y
+both_bytes a b c n x y empty start one two = ap (λ (k : ℕ). drop k c.bytes.items) start ∙ two
+    ∙ ap (λ (z : List ℕ). z ++ y) (one ∙ ap (λ (z : List ℕ). z ++ x) empty)
 
 nothing_before : (n : ℕ) (w : List ℕ) → n ≡ 0 → take n w ≡ []
 nothing_before n w start = ap (λ (k : ℕ). take k w) start
 
 -- The bits of the whole segment have no map.
-pub message_unmapped : (t : Templates) (l : Limits) (d mid now d' : Dictionary) (m : MessageData) (id : ℕ) (v : Template) (a b c : Draft) (k : ℕ) (e : EncodeFault) → slice_get (templates_of t) m.template ≡ Some v → IsKnownAs (tree_of t) m id
-    → a.bits.items ≡ [] → k ≡ 0 → Wrote (EncodesField l identifier d (Some (U id))) a b mid → now ≡ (if v.reset then reset mid else mid) → Wrote (EncodesBody l (body_among (nodes_of t) v.body.items) now m.slots) b c d'
+pub message_unmapped : (t : Templates) (l : Limits) (d mid now d' : Dictionary) (m : MessageData) (id : ℕ) (v : Template) (a b c : Draft)
+    (k : ℕ) (e : EncodeFault) → slice_get (templates_of t) m.template ≡ Some v → IsKnownAs (tree_of t) m id
+    → a.bits.items ≡ [] → k ≡ 0 → Wrote (EncodesField l identifier d (Some (U id))) a b mid → now ≡ (if v.reset then reset mid else mid)
+    → Wrote (EncodesBody l (body_among (nodes_of t) v.body.items) now m.slots) b c d'
     → HaveNoMap (drop k c.bits.items) → e ≡ E3 → RefusesMessage (tree_of t) l d m e
 message_unmapped t l d mid now d' m id v a b c k e found known empty start (b1, x, bits, bytes, field) is (b2, w, bits', bytes', body) none e3 = (
   template_data (instructions_from 0 (nodes_of t)) v,
@@ -90,40 +105,54 @@ message_unmapped t l d mid now d' m id v a b c k e found known empty start (b1, 
   template_there t m.template v found,
   identified t m id v found known,
   field,
-  inr (b2, w, d', subst (λ (z : Dictionary). EncodesBody l (body_among (nodes_of t) v.body.items) z m.slots b2 w d') is body, subst HaveNoMap (both_bits a b c k b1 b2 empty start bits bits') none, e3),
+  inr (
+    b2,
+    w,
+    d',
+    subst (λ (z : Dictionary). EncodesBody l (body_among (nodes_of t) v.body.items) z m.slots b2 w d') is body,
+    subst HaveNoMap (both_bits a b c k b1 b2 empty start bits bits') none,
+    e3,
+  ),
 )
 
 -- All is written, and the map stands in front.
-pub message_written : (t : Templates) (l : Limits) (d mid now d' : Dictionary) (m : MessageData) (id : ℕ) (v : Template) (a b c : Draft) (n k : ℕ) (z : List ℕ) → slice_get (templates_of t) m.template ≡ Some v → IsKnownAs (tree_of t) m id
-    → a.bits.items ≡ [] → a.bytes.items ≡ [] → n ≡ 0 → k ≡ 0 → Wrote (EncodesField l identifier d (Some (U id))) a b mid → now ≡ (if v.reset then reset mid else mid) → Wrote (EncodesBody l (body_among (nodes_of t) v.body.items) now m.slots) b c d'
+pub message_written : (t : Templates) (l : Limits) (d mid now d' : Dictionary) (m : MessageData) (id : ℕ) (v : Template) (a b c : Draft)
+    (n k : ℕ) (z : List ℕ) → slice_get (templates_of t) m.template ≡ Some v → IsKnownAs (tree_of t) m id
+    → a.bits.items ≡ [] → a.bytes.items ≡ [] → n ≡ 0 → k ≡ 0 → Wrote (EncodesField l identifier d (Some (U id))) a b mid
+    → now ≡ (if v.reset then reset mid else mid) → Wrote (EncodesBody l (body_among (nodes_of t) v.body.items) now m.slots) b c d'
     → Closes true (take n c.bytes.items) (drop n c.bytes.items) (drop k c.bits.items) z → EncodesMessage (tree_of t) l d m z d'
 unfolding EncodesMessage
-message_written t l d mid now d' m id v a b c n k z found known no_bits no_bytes start_bytes start_bits (b1, x, bits, bytes, field) is (b2, w, bits', bytes', body) (map, shortest, all) = (
-  template_data (instructions_from 0 (nodes_of t)) v,
-  id,
-  b1,
-  b2,
-  map,
-  x,
-  w,
-  mid,
-  template_there t m.template v found,
-  identified t m id v found known,
-  field,
-  subst (λ (y : Dictionary). EncodesBody l (body_among (nodes_of t) v.body.items) y m.slots b2 w d') is body,
-  subst (λ (y : List Bool). ShortestMap true y map) (both_bits a b c k b1 b2 no_bits start_bits bits bits') shortest,
-  all ∙ ap (λ (y : List ℕ). y ++ (map ++ drop n c.bytes.items)) (nothing_before n c.bytes.items start_bytes) ∙ ap (λ (y : List ℕ). map ++ y) (both_bytes a b c n x w no_bytes start_bytes bytes bytes') ∙ sym (append_assoc map x w),
-)
+message_written t l d mid now d' m id v a b c n k z found known no_bits no_bytes start_bytes start_bits (b1, x, bits, bytes, field) is
+    (b2, w, bits', bytes', body) (map, shortest, all) = (
+      template_data (instructions_from 0 (nodes_of t)) v,
+      id,
+      b1,
+      b2,
+      map,
+      x,
+      w,
+      mid,
+      template_there t m.template v found,
+      identified t m id v found known,
+      field,
+      subst (λ (y : Dictionary). EncodesBody l (body_among (nodes_of t) v.body.items) y m.slots b2 w d') is body,
+      subst (λ (y : List Bool). ShortestMap true y map) (both_bits a b c k b1 b2 no_bits start_bits bits bits') shortest,
+      all ∙ ap (λ (y : List ℕ). y ++ (map ++ drop n c.bytes.items)) (nothing_before n c.bytes.items start_bytes)
+          ∙ ap (λ (y : List ℕ). map ++ y) (both_bytes a b c n x w no_bytes start_bytes bytes bytes') ∙ sym (append_assoc map x w),
+    )
 
-kept_bytes : (a b c : Draft) (x y : List ℕ) → a.bytes.items ≡ 0 ∷ [] → b.bytes.items ≡ a.bytes.items ++ x → c.bytes.items ≡ b.bytes.items ++ y → drop 1 c.bytes.items ≡ x ++ y
+kept_bytes : (a b c : Draft) (x y : List ℕ) → a.bytes.items ≡ 0 ∷ [] → b.bytes.items ≡ a.bytes.items ++ x
+    → c.bytes.items ≡ b.bytes.items ++ y → drop 1 c.bytes.items ≡ x ++ y
 kept_bytes a b c x y kept one two = ap (λ (z : List ℕ). drop 1 z) (two ∙ ap (λ (z : List ℕ). z ++ y) (one ∙ ap (λ (z : List ℕ). z ++ x) kept))
 
 kept_bits : (a b c : Draft) (x y : List Bool) → a.bits.items ≡ [] → b.bits.items ≡ a.bits.items ++ x → c.bits.items ≡ b.bits.items ++ y → c.bits.items ≡ x ++ y
 kept_bits a b c x y empty one two = two ∙ ap (λ (z : List Bool). z ++ y) (one ∙ ap (λ (z : List Bool). z ++ x) empty)
 
 -- All is written behind a byte, and the map takes its place.
-pub message_made : (t : Templates) (l : Limits) (d mid now d' : Dictionary) (m : MessageData) (id : ℕ) (v : Template) (a b c : Draft) (z : List ℕ) → slice_get (templates_of t) m.template ≡ Some v → IsKnownAs (tree_of t) m id
-    → a.bits.items ≡ [] → a.bytes.items ≡ 0 ∷ [] → Wrote (EncodesField l identifier d (Some (U id))) a b mid → now ≡ (if v.reset then reset mid else mid) → Wrote (EncodesBody l (body_among (nodes_of t) v.body.items) now m.slots) b c d'
+pub message_made : (t : Templates) (l : Limits) (d mid now d' : Dictionary) (m : MessageData) (id : ℕ) (v : Template) (a b c : Draft)
+    (z : List ℕ) → slice_get (templates_of t) m.template ≡ Some v → IsKnownAs (tree_of t) m id
+    → a.bits.items ≡ [] → a.bytes.items ≡ 0 ∷ [] → Wrote (EncodesField l identifier d (Some (U id))) a b mid
+    → now ≡ (if v.reset then reset mid else mid) → Wrote (EncodesBody l (body_among (nodes_of t) v.body.items) now m.slots) b c d'
     → Closes true [] (drop 1 c.bytes.items) c.bits.items z → EncodesMessage (tree_of t) l d m z d'
 unfolding EncodesMessage
 message_made t l d mid now d' m id v a b c z found known no_bits kept (b1, x, bits, bytes, field) is (b2, w, bits', bytes', body) (map, shortest, all) = (

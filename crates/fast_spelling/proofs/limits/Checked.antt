@@ -14,10 +14,13 @@ use Rattle.fast_spelling.specs.device.Checked.{Leaves, IsAccepted}
 use Rattle.fast_spelling.specs.meaning.Suiting.{AreRight, AreWithinLimits, RowsWithinLimits}
 use Rattle.fast_spelling.proofs.encodings.Progress.{slots_next, rows_next}
 
-pub accepted_as : (l : Limits) (i j : Instruction) (x y : Option ItemData) (room left : ℕ) → i ≡ j → x ≡ y → IsAccepted l j y room left → IsAccepted l i x room left
-accepted_as l i j x y room left e f h = subst (λ (z : Option ItemData). IsAccepted l i z room left) (sym f) (subst (λ (z : Instruction). IsAccepted l z y room left) (sym e) h)
+pub accepted_as : (l : Limits) (i j : Instruction) (x y : Option ItemData) (room left : ℕ) → i ≡ j → x ≡ y → IsAccepted l j y room left
+    → IsAccepted l i x room left
+accepted_as l i j x y room left e f h = subst (λ (z : Option ItemData). IsAccepted l i z room left) (sym f)
+    (subst (λ (z : Instruction). IsAccepted l z y room left) (sym e) h)
 
-leaves_within : (l : Limits) (x : Option ItemData) (vs : Slots) (room left : ℕ) → Leaves l x room left → AreWithinLimits l vs → AreWithinLimits l (with_slot x vs)
+leaves_within : (l : Limits) (x : Option ItemData) (vs : Slots) (room left : ℕ) → Leaves l x room left → AreWithinLimits l vs
+    → AreWithinLimits l (with_slot x vs)
 leaves_within l None vs room left h k = k
 leaves_within l (Some x) vs room left h k = (h.0, k)
 
@@ -26,7 +29,8 @@ leaves_total l None vs room left h = ap (λ (z : ℕ). z + total vs) h
 leaves_total l (Some x) vs room left h = let k = h.1 in omega (arith, k)
 
 -- slots from a place on
-module _ (l : Limits) (slots : List (Option Item)) (i : ℕ) (x : Option Item) (inside : i < length slots) (is : x ≡ get_or slots i x) (room left : ℕ) (leaves : Leaves l (option_map item_data x) room left) where
+module _ (l : Limits) (slots : List (Option Item)) (i : ℕ) (x : Option Item) (inside : i < length slots) (is : x ≡ get_or slots i x)
+    (room left : ℕ) (leaves : Leaves l (option_map item_data x) room left) where
   pub one_fits : AreWithinLimits l (slots_data (drop (i + 1) slots)) → AreWithinLimits l (slots_data (drop i slots))
   one_fits h = rw (slots_next slots i x inside is) (leaves_within l (option_map item_data x) (slots_data (drop (i + 1) slots)) room left leaves h)
 
@@ -34,11 +38,13 @@ module _ (l : Limits) (slots : List (Option Item)) (i : ℕ) (x : Option Item) (
   one_total = rw (slots_next slots i x inside is) (leaves_total l (option_map item_data x) (slots_data (drop (i + 1) slots)) room left leaves)
 
 -- elements from a place on
-module _ (l : Limits) (right : Slots → Type 0) (rs : List (Vec (Option Item) Global)) (i : ℕ) (r : Vec (Option Item) Global) (inside : i < length rs) (is : r ≡ get_or rs i r) where
+module _ (l : Limits) (right : Slots → Type 0) (rs : List (Vec (Option Item) Global)) (i : ℕ) (r : Vec (Option Item) Global)
+    (inside : i < length rs) (is : r ≡ get_or rs i r) where
   pub one_row_right : right (slots_data r.items) → AreRight right (elements_data (drop (i + 1) rs)) → AreRight right (elements_data (drop i rs))
   one_row_right h k = rw (rows_next rs i r inside is) (h, k)
 
-  pub one_row_fits : AreWithinLimits l (slots_data r.items) → RowsWithinLimits l (elements_data (drop (i + 1) rs)) → RowsWithinLimits l (elements_data (drop i rs))
+  pub one_row_fits : AreWithinLimits l (slots_data r.items) → RowsWithinLimits l (elements_data (drop (i + 1) rs))
+      → RowsWithinLimits l (elements_data (drop i rs))
   one_row_fits h k = rw (rows_next rs i r inside is) (h, k)
 
   pub one_row_total : rows_total (elements_data (drop i rs)) ≡ total (slots_data r.items) + rows_total (elements_data (drop (i + 1) rs))

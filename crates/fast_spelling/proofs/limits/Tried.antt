@@ -11,7 +11,8 @@ use Rattle.fast_spelling.specs.meaning.Suiting.{IsRight, Suits}
 pub suited_as : (n : ℕ) (f : FieldData) (k : Kind) (u v : ScalarData) → f.kind ≡ k → u ≡ v → IsRight k v → length (text_of v) ≤ n → IsSuited n f (Some u)
 suited_as n f k u v e same h short = subst (λ (z : ScalarData). IsSuited n f (Some z)) (sym same) (subst (λ (z : Kind). IsRight z v) (sym e) h, short)
 
-pub field_suits : (i : Instruction) (at : Label) (f : FieldData) (k : Kind) (v : ScalarData) → i ≡ field at f → f.kind ≡ k → IsRight k v → Suits i (Some (one v))
+pub field_suits : (i : Instruction) (at : Label) (f : FieldData) (k : Kind) (v : ScalarData) → i ≡ field at f → f.kind ≡ k → IsRight k v
+    → Suits i (Some (one v))
 field_suits i at f k v here e h = subst (λ (z : Instruction). Suits z (Some (one v))) (sym here) (subst (λ (z : Kind). IsRight z v) (sym e) h)
 
 pub without_text : (v : ScalarData) (m : ℕ) → text_of v ≡ [] → length (text_of v) ≤ m

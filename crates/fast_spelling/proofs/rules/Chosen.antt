@@ -1,5 +1,6 @@
 -- Deltas and tails of texts that are chosen by common fronts and backs are no longer than others.
-use Rattle.std.proofs.Common.{◌≡◌, ◌≢◌, ◌⊎◌, inl, inr, ℕ, zero, suc, ◌+◌, ◌*◌, ◌-◌, ◌<◌, ◌≤◌, ◌^◌, List, [], ◌∷◌, ◌++◌, length, reverse, take, drop, get_or, refl, ap, sym, subst, ◌∙◌, arith}
+use Rattle.std.proofs.Common.{◌≡◌, ◌≢◌, ◌⊎◌, inl, inr, ℕ, zero, suc, ◌+◌, ◌*◌, ◌-◌, ◌<◌, ◌≤◌, ◌^◌, List, [], ◌∷◌, ◌++◌, length, reverse}
+use Rattle.std.proofs.Common.{take, drop, get_or, refl, ap, sym, subst, ◌∙◌, arith}
 use Rattle.std.specs.Prelude.{Bool, true, false, All, nat_eq, nat_le, if◌then◌else◌, ℤ, pos, negsuc, Some, Ok, Err}
 use Rattle.std.proofs.lemmas.Int.{ints}
 use Rattle.std.proofs.lemmas.Bool.{cases_lt, le-leb, leb-true, lt-leb}
@@ -25,7 +26,8 @@ front_more b part zero h = omega arith
 front_more [] part (suc m) h = absurd (omega (arith, h))
 front_more (x ∷ b) part (suc m) h = by (eqb_tells x x) (front_more b part m (omega (arith, h)))
   where
-    by : ((nat_eq x x ≡ true) × (x ≡ x)) ⊎ ((nat_eq x x ≡ false) × (x ≢ x)) → m ≤ common_front b (take m b ++ part) → suc m ≤ common_front (x ∷ b) (take (suc m) (x ∷ b) ++ part)
+    by : ((nat_eq x x ≡ true) × (x ≡ x)) ⊎ ((nat_eq x x ≡ false) × (x ≢ x)) → m ≤ common_front b (take m b ++ part)
+        → suc m ≤ common_front (x ∷ b) (take (suc m) (x ∷ b) ++ part)
     by (inl t) k = rw t.0 (omega (arith, k))
     by (inr t) k = absurd (t.1 refl)
 
@@ -50,22 +52,29 @@ pub record IsJoined (b : List ℕ) (k : ℤ) (part t : List ℕ) : Type 0 where
   pub long : length t ≡ (length b - takes k) + length part
   pub common : (length b - takes k ≤ common_front b t) ⊎ (length b - takes k ≤ common_back b t)
 
-pub is_joined : (b : List ℕ) (k : ℤ) (part : List ℕ) (kept : Kept) → kept_of b k ≡ Ok kept → IsJoined b k part (joined kept part) × (kept_length kept ≡ length b - takes k)
+pub is_joined : (b : List ℕ) (k : ℤ) (part : List ℕ) (kept : Kept) → kept_of b k ≡ Ok kept
+    → IsJoined b k part (joined kept part) × (kept_length kept ≡ length b - takes k)
 is_joined b (pos j) part kept e = by (nat_le j (length b)) refl e
   where
-    by : (t : Bool) → nat_le j (length b) ≡ t → (if t then Ok (append_to (take (length b - j) b)) else Err D7) ≡ Ok kept → IsJoined b (pos j) part (joined kept part) × (kept_length kept ≡ length b - j)
+    by : (t : Bool) → nat_le j (length b) ≡ t → (if t then Ok (append_to (take (length b - j) b)) else Err D7) ≡ Ok kept
+        → IsJoined b (pos j) part (joined kept part) × (kept_length kept ≡ length b - j)
     by true g h =
         let few : j ≤ length b = leb-true j (length b) g in
         let k : append_to (take (length b - j) b) ≡ kept = cc h in
         let long = length-take-le (length b - j) b (omega arith) in
         subst (λ (z : Kept). IsJoined b (pos j) part (joined z part) × (kept_length z ≡ length b - j)) k (
-          record { few = few; long = length-append (take (length b - j) b) part ∙ ap (λ (n : ℕ). n + length part) long; common = inl (front_more b part (length b - j) (omega arith)) },
+          record {
+            few = few;
+            long = length-append (take (length b - j) b) part ∙ ap (λ (n : ℕ). n + length part) long;
+            common = inl (front_more b part (length b - j) (omega arith));
+          },
           long,
         )
     by false g h = absurd (cc h)
 is_joined b (negsuc j) part kept e = by (nat_le j (length b)) refl e
   where
-    by : (t : Bool) → nat_le j (length b) ≡ t → (if t then Ok (prepend_to (drop j b)) else Err D7) ≡ Ok kept → IsJoined b (negsuc j) part (joined kept part) × (kept_length kept ≡ length b - j)
+    by : (t : Bool) → nat_le j (length b) ≡ t → (if t then Ok (prepend_to (drop j b)) else Err D7) ≡ Ok kept
+        → IsJoined b (negsuc j) part (joined kept part) × (kept_length kept ≡ length b - j)
     by true g h =
         let few : j ≤ length b = leb-true j (length b) g in
         let k : prepend_to (drop j b) ≡ kept = cc h in
@@ -162,7 +171,12 @@ choose_tail b part t e = by (cases_lt (length b) (length part))
         let long : length t ≡ length b = ap length is ∙ length-append (take n b) part ∙ omega (arith, length-take n b, fits) in
         let front = common_front b t in
         let most : n ≤ front = subst (λ (z : List ℕ). n ≤ common_front b z) (sym is) (front_more b part n (omega arith)) in (
-          record { part_sent = drop front t; chosen = inl (long, refl); shorter = omega (arith, length-drop front t, long, most, fits); all = λ a. All-drop (λ c. c < 128) front t a },
+          record {
+            part_sent = drop front t;
+            chosen = inl (long, refl);
+            shorter = omega (arith, length-drop front t, long, most, fits);
+            all = λ a. All-drop (λ c. c < 128) front t a;
+          },
           inl (omega (arith, long)),
         )
 
@@ -182,7 +196,8 @@ ascii_some nullable room (c ∷ t) w (_, _, _, (front, last, e, f)) =
     let m : length (c ∷ t) ≡ length front + 1 = ap length e ∙ length-append front (last ∷ []) in
     (omega (arith, n), omega (arith, n, m))
 
-ascii_shorter : (nullable : Bool) (room most : ℕ) (t part w : List ℕ) → SpellsAscii nullable room (Some part) w → length t ≤ length part → length t ≤ most → All (λ c. c < 128) t
+ascii_shorter : (nullable : Bool) (room most : ℕ) (t part w : List ℕ) → SpellsAscii nullable room (Some part) w → length t ≤ length part
+    → length t ≤ most → All (λ c. c < 128) t
     → SpelledShorter Ascii nullable most t w ⊎ HasZero Ascii t
 ascii_shorter false room most [] part w s h r a = inl (0x80 ∷ [], refl, λ _. (ascii_some false room part w s).0)
 ascii_shorter true room most [] part w s h r a = inl (0x00 ∷ 0x80 ∷ [], refl, λ p. absurd (cc (p refl)))
@@ -196,25 +211,35 @@ ascii_shorter nullable room most (c ∷ t) part w s h r a = by (eqb_tells c 0)
         let n : length v ≡ length t + 1 = length-append (take (length t) (c ∷ t)) _ ∙ omega (arith, length-take (length t) (c ∷ t)) in
         inl (v, ascii_spelled (c ∷ t) nullable most (length t) a refl z.1 r, λ _. omega (arith, n, h, long.1))
 
-vector_shorter : (kind : Kind) → kind ≢ Ascii → (nullable : Bool) (room most : ℕ) (t part w : List ℕ) → SpellsVector true nullable room (Some part) w → length t ≤ length part → length t ≤ most
+vector_shorter : (kind : Kind) → kind ≢ Ascii → (nullable : Bool) (room most : ℕ) (t part w : List ℕ)
+    → SpellsVector true nullable room (Some part) w → length t ≤ length part → length t ≤ most
     → (v : List ℕ) × SpellsVector true nullable most (Some t) v × (length v ≤ length w)
 vector_shorter kind other nullable room most t part w (u, s, e, _) h r =
     let (v, i, j) = shorter_unsigned true _ nullable (length t) (length part) u s h in
     (v ++ t, (v, i, refl, r), omega (arith, length-append v t, ap length e, length-append u part, j, h))
 
-pub text_shorter : (kind : Kind) (nullable : Bool) (room most : ℕ) (t part w : List ℕ) → ShortestText kind nullable room (Some part) w → length t ≤ length part → length t ≤ most → (kind ≡ Ascii → All (λ c. c < 128) t)
+pub text_shorter : (kind : Kind) (nullable : Bool) (room most : ℕ) (t part w : List ℕ) → ShortestText kind nullable room (Some part) w
+    → length t ≤ length part → length t ≤ most → (kind ≡ Ascii → All (λ c. c < 128) t)
     → SpelledShorter kind nullable most t w ⊎ HasZero kind t
 text_shorter Ascii nullable room most t part w s h r a = ascii_shorter nullable room most t part w s h r (a refl)
-text_shorter UInt32 nullable room most t part w s h r a = let k = vector_shorter UInt32 (λ e. absurd (cc e)) nullable room most t part w s h r in inl (k.0, k.1, λ _. k.2)
-text_shorter Int32 nullable room most t part w s h r a = let k = vector_shorter Int32 (λ e. absurd (cc e)) nullable room most t part w s h r in inl (k.0, k.1, λ _. k.2)
-text_shorter UInt64 nullable room most t part w s h r a = let k = vector_shorter UInt64 (λ e. absurd (cc e)) nullable room most t part w s h r in inl (k.0, k.1, λ _. k.2)
-text_shorter Int64 nullable room most t part w s h r a = let k = vector_shorter Int64 (λ e. absurd (cc e)) nullable room most t part w s h r in inl (k.0, k.1, λ _. k.2)
-text_shorter Decimal nullable room most t part w s h r a = let k = vector_shorter Decimal (λ e. absurd (cc e)) nullable room most t part w s h r in inl (k.0, k.1, λ _. k.2)
-text_shorter Unicode nullable room most t part w s h r a = let k = vector_shorter Unicode (λ e. absurd (cc e)) nullable room most t part w s h r in inl (k.0, k.1, λ _. k.2)
-text_shorter Bytes nullable room most t part w s h r a = let k = vector_shorter Bytes (λ e. absurd (cc e)) nullable room most t part w s h r in inl (k.0, k.1, λ _. k.2)
+text_shorter UInt32 nullable room most t part w s h r a = let k =
+    vector_shorter UInt32 (λ e. absurd (cc e)) nullable room most t part w s h r in inl (k.0, k.1, λ _. k.2)
+text_shorter Int32 nullable room most t part w s h r a = let k =
+    vector_shorter Int32 (λ e. absurd (cc e)) nullable room most t part w s h r in inl (k.0, k.1, λ _. k.2)
+text_shorter UInt64 nullable room most t part w s h r a = let k =
+    vector_shorter UInt64 (λ e. absurd (cc e)) nullable room most t part w s h r in inl (k.0, k.1, λ _. k.2)
+text_shorter Int64 nullable room most t part w s h r a = let k =
+    vector_shorter Int64 (λ e. absurd (cc e)) nullable room most t part w s h r in inl (k.0, k.1, λ _. k.2)
+text_shorter Decimal nullable room most t part w s h r a = let k =
+    vector_shorter Decimal (λ e. absurd (cc e)) nullable room most t part w s h r in inl (k.0, k.1, λ _. k.2)
+text_shorter Unicode nullable room most t part w s h r a = let k =
+    vector_shorter Unicode (λ e. absurd (cc e)) nullable room most t part w s h r in inl (k.0, k.1, λ _. k.2)
+text_shorter Bytes nullable room most t part w s h r a = let k =
+    vector_shorter Bytes (λ e. absurd (cc e)) nullable room most t part w s h r in inl (k.0, k.1, λ _. k.2)
 
 -- A subtraction length that takes no more away has a spelling, which is no longer unless it is nullable.
-pub length_shorter : (nullable : Bool) (x k : ℤ) (w : List ℕ) → Shortest (signed_range 31) nullable (Some k) w → takes x ≤ takes k → (v : List ℕ) × Shortest (signed_range 31) nullable (Some x) v × (nullable ≡ false → length v ≤ length w)
+pub length_shorter : (nullable : Bool) (x k : ℤ) (w : List ℕ) → Shortest (signed_range 31) nullable (Some k) w → takes x ≤ takes k
+    → (v : List ℕ) × Shortest (signed_range 31) nullable (Some x) v × (nullable ≡ false → length v ≤ length w)
 length_shorter nullable x k w s h = by nullable s
   where
     within : (x k : ℤ) → IsWithin (signed_range 31) k → takes x ≤ takes k → IsWithin (signed_range 31) x

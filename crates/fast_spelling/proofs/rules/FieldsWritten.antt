@@ -33,13 +33,16 @@ zero_short Ascii m = omega arith
 zero_short Unicode m = omega arith
 zero_short Bytes m = omega arith
 
-start_short : (i : Option ScalarData) (kind : Kind) (m : ℕ) → IfSome i (λ v. length (text_of v) ≤ m) → length (text_of (unwrap_or i (zero_in kind (family kind)))) ≤ m
+start_short : (i : Option ScalarData) (kind : Kind) (m : ℕ) → IfSome i (λ v. length (text_of v) ≤ m)
+    → length (text_of (unwrap_or i (zero_in kind (family kind)))) ≤ m
 start_short None kind m h = zero_short kind m
 start_short (Some v) kind m h = h
 
 -- the base of a delta is as short as what the entry holds, and the initial value
-pub base_short : (f : FieldData) (p : PreviousData) (base : ScalarData) (m : ℕ) → text_size p ≤ m → IfSome f.initial (λ v. length (text_of v) ≤ m) → delta_base f p ≡ Ok base → length (text_of base) ≤ m
-base_short f undefined base m h i e = subst (λ (v : ScalarData). length (text_of v) ≤ m) (one_ok (Ok _) (start_value f) base refl e) (start_short f.initial f.kind m i)
+pub base_short : (f : FieldData) (p : PreviousData) (base : ScalarData) (m : ℕ) → text_size p ≤ m
+    → IfSome f.initial (λ v. length (text_of v) ≤ m) → delta_base f p ≡ Ok base → length (text_of base) ≤ m
+base_short f undefined base m h i e = subst (λ (v : ScalarData). length (text_of v) ≤ m) (one_ok (Ok _) (start_value f) base refl e)
+    (start_short f.initial f.kind m i)
 base_short f empty base m h i e = absurd (cc e)
 base_short f (assigned kind v) base m h i e = on (same_kind f.kind kind) e
   where
@@ -47,7 +50,8 @@ base_short f (assigned kind v) base m h i e = on (same_kind f.kind kind) e
     on true g = subst (λ (z : ScalarData). length (text_of z) ≤ m) (one_ok (Ok _) v base refl g) h
     on false g = absurd (cc g)
 
-pub field_done : (l : Limits) (f : FieldData) (d : Dictionary) (p : PreviousData) (v : Option ScalarData) (bit : Bool) (x : Sent) (b : List Bool) (w : List ℕ) (d' : Dictionary)
+pub field_done : (l : Limits) (f : FieldData) (d : Dictionary) (p : PreviousData) (v : Option ScalarData) (bit : Bool) (x : Sent)
+    (b : List Bool) (w : List ℕ) (d' : Dictionary)
     → p ≡ previous_at f.entry d → (f.operator ≡ Tail → family f.kind ≡ texts) → IsSuited l.max_text f v → Rule f p v bit x → IsSendable f x → SpellsItem f x w
     → b ≡ (if uses_bit f then bit ∷ [] else []) → d' ≡ write_at f.entry (next_of f (previous_at f.entry d) v) d → EncodesField l f d v b w d'
 field_done l f d p v bit x b w d' is tail suited rule sendable spelled bits written =

@@ -85,7 +85,8 @@ some_is x y e = cc
 -- so what stands at a node's number among the steps is the node's
 pub step_at : (nodes : List Node) (n : ℕ) (c : Step) (x : Node) → slice_get (steps_of nodes) n ≡ Some c → slice_get nodes n ≡ Some x → c ≡ step_of x.shape
 step_at nodes n c x at found =
-    sym (some_is (step_of x.shape) c (sym (ap (option_map (λ (v : Node). step_of v.shape)) found) ∙ sym (slice_get-map (λ (v : Node). step_of v.shape) nodes n) ∙ at))
+    sym (some_is (step_of x.shape) c (sym (ap (option_map (λ (v : Node). step_of v.shape)) found)
+    ∙ sym (slice_get-map (λ (v : Node). step_of v.shape) nodes n) ∙ at))
 
 mapped : (o : Option Node) (c : Step) → option_map (λ (v : Node). step_of v.shape) o ≡ Some c → (x : Node) × (o ≡ Some x) × (step_of x.shape ≡ c)
 mapped None c e = absurd (cc e)
@@ -108,6 +109,8 @@ entry_missing (Some n) e = absurd (cc e)
 pub says_at : (nodes : List Node) (n : ℕ) (c : Step) (x : Node) → slice_get (steps_of nodes) n ≡ Some c → slice_get nodes n ≡ Some x → Says c.form x.shape
 says_at nodes n c x at found = subst (λ (z : Step). Says z.form x.shape) (sym (step_at nodes n c x at found)) (says x.shape)
 
-pub steps_more : (nodes : List Node) (n : ℕ) (x : Node) → slice_get nodes n ≡ Some x → steps_of (take (n + 1) nodes) ≡ steps_of (take n nodes) ++ step_of x.shape ∷ []
+pub steps_more : (nodes : List Node) (n : ℕ) (x : Node) → slice_get nodes n ≡ Some x
+    → steps_of (take (n + 1) nodes) ≡ steps_of (take n nodes) ++ step_of x.shape ∷ []
 steps_more nodes n x found =
-    ap steps_of (take_more nodes n x (slice_get_within nodes n x found)) ∙ map-append (λ (v : Node). step_of v.shape) (take n nodes) _ ∙ ap (λ (v : Node). steps_of (take n nodes) ++ step_of v.shape ∷ []) (get_or_from_slice_get nodes n x x found)
+    ap steps_of (take_more nodes n x (slice_get_within nodes n x found)) ∙ map-append (λ (v : Node). step_of v.shape) (take n nodes) _
+    ∙ ap (λ (v : Node). steps_of (take n nodes) ++ step_of v.shape ∷ []) (get_or_from_slice_get nodes n x x found)

@@ -16,10 +16,12 @@ use Rattle.fast_tree.specs.declared.operators.Operator.{Operator}
 use Rattle.fast_tree.specs.declared.operators.Operator.TheVariants.{None as no_operator, Constant, Default, Copy, Increment, Delta, Tail}
 use Rattle.fast_tree.specs.meaning.Tree.{FieldData}
 use Rattle.fast_dict.specs.meaning.Dictionary.{PreviousData}
-use Rattle.fast_dict.specs.meaning.Operators.{Outcome, Sent, nothing, null, value, integer_delta, decimal_delta, text_delta, kept_length, Op, delta_base, tail_base}
+use Rattle.fast_dict.specs.meaning.Operators.{Outcome, Sent, nothing, null, value, integer_delta, decimal_delta, text_delta, kept_length}
+use Rattle.fast_dict.specs.meaning.Operators.{Op, delta_base, tail_base}
 use Rattle.fast_dict.specs.meaning.Rule.{IsDelta, IsTextDelta, IsTail, SentBy, Rule}
 use Rattle.fast_stream.specs.meaning.Streams.{AreBytes}
-use Rattle.fast_spelling.specs.meaning.Encoding.{ShortestMap, Shortest, ShortestText, ShortestNull, ShortestNoDelta, ShortestValue, ShortestNullOf, SpellsSentBy}
+use Rattle.fast_spelling.specs.meaning.Encoding.{ShortestMap, Shortest, ShortestText, ShortestNull, ShortestNoDelta, ShortestValue}
+use Rattle.fast_spelling.specs.meaning.Encoding.{ShortestNullOf, SpellsSentBy}
 
 abbrev ok_value : {A : Type 0} → A → Result A Code → A
 ok_value a (Ok b) = b
@@ -30,7 +32,8 @@ pub one_ok : {A : Type 0} (r : Result A Code) (a b : A) → r ≡ Ok a → r ≡
 one_ok r a b g h = ap (ok_value a) (sym g ∙ h)
 
 -- the previous value behind a field
-pub one_next : (f : FieldData) (p : PreviousData) (bit : Bool) (x : Sent) (v : Option ScalarData) (n m : PreviousData) → Op f p bit x v n → Op f p bit x v m → n ≡ m
+pub one_next : (f : FieldData) (p : PreviousData) (bit : Bool) (x : Sent) (v : Option ScalarData) (n m : PreviousData) → Op f p bit x v n
+    → Op f p bit x v m → n ≡ m
 one_next f p bit x v n m g h = ap (λ (o : Outcome). o.next) (one_ok _ (record { value = v; next = n }) (record { value = v; next = m }) g.1 h.1)
 
 one_text_delta : (b v : List ℕ) (x y : Sent) → IsTextDelta b v x → IsTextDelta b v y → x ≡ y
@@ -62,9 +65,12 @@ one_sent no_operator f p (Some v) x y g h = g ∙ sym h
 one_sent Default f p (Some v) x y g h = g ∙ sym h
 one_sent Copy f p (Some v) x y g h = g ∙ sym h
 one_sent Increment f p (Some v) x y g h = g ∙ sym h
-one_sent Delta f p (Some v) x y (b, e, g) (c, i, h) = one_delta (family f.kind) c v x y (subst (λ (z : ScalarData). IsDelta (family f.kind) z v x) (one_ok (delta_base f p) b c e i) g) h
+one_sent Delta f p (Some v) x y (b, e, g) (c, i, h) = one_delta (family f.kind) c v x y
+    (subst (λ (z : ScalarData). IsDelta (family f.kind) z v x) (one_ok (delta_base f p) b c e i) g) h
 one_sent Tail f p (Some v) x y (b, s, e, g, q) (c, t, i, h, r) =
-    q ∙ ap (λ (z : List ℕ). value (value_of_text f.kind z)) (one_tail (text_of c) (text_of v) s t (subst (λ (z : ScalarData). IsTail (text_of z) (text_of v) s) (one_ok (tail_base f p) b c e i) g) h) ∙ sym r
+    q ∙ ap (λ (z : List ℕ). value (value_of_text f.kind z))
+    (one_tail (text_of c) (text_of v) s t (subst (λ (z : ScalarData). IsTail (text_of z) (text_of v) s)
+    (one_ok (tail_base f p) b c e i) g) h) ∙ sym r
 
 -- one bit, and one item
 pub one_rule : (f : FieldData) (p : PreviousData) (v : Option ScalarData) (a b : Bool) (x y : Sent) → Rule f p v a x → Rule f p v b y → (a ≡ b) × (x ≡ y)
@@ -111,12 +117,14 @@ bytes_left v u x e h = left_bytes u x (subst AreBytes e h)
 pub bytes_right : (v u x : List ℕ) → v ≡ u ++ x → AreBytes v → AreBytes x
 bytes_right v u x e h = right_bytes u x (subst AreBytes e h)
 
-one_vector : (nullable : Bool) (r s : ℕ) (t : Option (List ℕ)) (v w : List ℕ) → AreBytes v → AreBytes w → SpellsVector true nullable r t v → SpellsVector true nullable s t w → v ≡ w
+one_vector : (nullable : Bool) (r s : ℕ) (t : Option (List ℕ)) (v w : List ℕ) → AreBytes v → AreBytes w → SpellsVector true nullable r t v
+    → SpellsVector true nullable s t w → v ≡ w
 one_vector nullable r s None v w a b g h = one_spelling (unsigned_range 32) nullable None v w a b g h
 one_vector nullable r s (Some t) v w a b (u, g, e, _) (x, h, f, _) =
     two_parts v w u t x t e f (one_spelling (unsigned_range 32) nullable (Some _) u x (bytes_left v u t e a) (bytes_left w x t f b) g h) refl
 
-one_text : (kind : Kind) (nullable : Bool) (r s : ℕ) (t : Option (List ℕ)) (v w : List ℕ) → AreBytes v → AreBytes w → ShortestText kind nullable r t v → ShortestText kind nullable s t w → v ≡ w
+one_text : (kind : Kind) (nullable : Bool) (r s : ℕ) (t : Option (List ℕ)) (v w : List ℕ) → AreBytes v → AreBytes w
+    → ShortestText kind nullable r t v → ShortestText kind nullable s t w → v ≡ w
 one_text Ascii nullable r s t v w a b g h = one_ascii nullable r s t v w g h
 one_text UInt32 nullable r s t v w a b g h = one_vector nullable r s t v w a b g h
 one_text Int32 nullable r s t v w a b g h = one_vector nullable r s t v w a b g h
@@ -126,9 +134,11 @@ one_text Decimal nullable r s t v w a b g h = one_vector nullable r s t v w a b 
 one_text Unicode nullable r s t v w a b g h = one_vector nullable r s t v w a b g h
 one_text Bytes nullable r s t v w a b g h = one_vector nullable r s t v w a b g h
 
-one_pair : (r s : Range) (nullable : Bool) (x y : ℤ) (v w : List ℕ) → AreBytes v → AreBytes w → SpellsDec true r s nullable (Some (x, y)) v → SpellsDec true r s nullable (Some (x, y)) w → v ≡ w
+one_pair : (r s : Range) (nullable : Bool) (x y : ℤ) (v w : List ℕ) → AreBytes v → AreBytes w → SpellsDec true r s nullable (Some (x, y)) v
+    → SpellsDec true r s nullable (Some (x, y)) w → v ≡ w
 one_pair r s nullable x y v w a b (u, t, g, h, e) (p, q, i, j, f) =
-    two_parts v w u t p q e f (one_spelling r nullable (Some x) u p (bytes_left v u t e a) (bytes_left w p q f b) g i) (one_spelling s false (Some y) t q (bytes_right v u t e a) (bytes_right w p q f b) h j)
+    two_parts v w u t p q e f (one_spelling r nullable (Some x) u p (bytes_left v u t e a) (bytes_left w p q f b) g i)
+    (one_spelling s false (Some y) t q (bytes_right v u t e a) (bytes_right w p q f b) h j)
 
 -- an integer, and a text, are those of their values
 pub integer_kept : (kind : Kind) (x : ℤ) → integer_of (value_of_integer kind x) ≡ x
@@ -180,16 +190,20 @@ module _ (l : Limits) (f : FieldData) where
   one_null_of Tail v w a b g h = one_null (family f.kind) v w a b g h
 
   one_value : (k : Family) (x : ScalarData) (v w : List ℕ) → AreBytes v → AreBytes w → ShortestValue l f k x v → ShortestValue l f k x w → v ≡ w
-  one_value (integers range) x v w a b (n, e, g) (m, i, h) = one_spelling range f.optional (Some m) v w a b (subst (λ (z : ℤ). Shortest range f.optional (Some z) v) (integer_same f.kind n m (sym e ∙ i)) g) h
+  one_value (integers range) x v w a b (n, e, g) (m, i, h) =
+      one_spelling range f.optional (Some m) v w a b (subst (λ (z : ℤ). Shortest range f.optional (Some z) v)
+      (integer_same f.kind n m (sym e ∙ i)) g) h
   one_value decimals x v w a b (n, m, e, g) (p, q, i, h) =
       let same : Dec n m ≡ Dec p q = sym e ∙ i in
       let n_is : n ≡ p = cc in
       let m_is : m ≡ q = cc in
       one_pair exponent_range (signed_range 63) f.optional p q v w a b (rw (n_is, m_is) at g) h
-  one_value texts x v w a b (t, e, g) (s, i, h) = one_text f.kind f.optional l.max_text l.max_text (Some s) v w a b (subst (λ (z : List ℕ). ShortestText f.kind f.optional l.max_text (Some z) v) (text_same f.kind t s (sym e ∙ i)) g) h
+  one_value texts x v w a b (t, e, g) (s, i, h) = one_text f.kind f.optional l.max_text l.max_text (Some s) v w a b
+      (subst (λ (z : List ℕ). ShortestText f.kind f.optional l.max_text (Some z) v) (text_same f.kind t s (sym e ∙ i)) g) h
 
   -- the bytes of an item
-  pub one_spelled : (o : Operator) (p : PreviousData) (x : Sent) (v w : List ℕ) → AreBytes v → AreBytes w → SpellsSentBy o l f p x v → SpellsSentBy o l f p x w → v ≡ w
+  pub one_spelled : (o : Operator) (p : PreviousData) (x : Sent) (v w : List ℕ) → AreBytes v → AreBytes w → SpellsSentBy o l f p x v
+      → SpellsSentBy o l f p x w → v ≡ w
   one_spelled o p nothing v w a b g h = g ∙ sym h
   one_spelled o p null v w a b g h = one_null_of o v w a b g h
   one_spelled o p (value x) v w a b g h = one_value (family f.kind) x v w a b g h
@@ -208,10 +222,13 @@ bit_same (suc zero) (suc zero) g h e = refl
 bit_same (suc (suc x)) y g h e = absurd (omega (arith, g))
 bit_same x (suc (suc y)) g h e = absurd (omega (arith, h))
 
-seven : (n : ℕ) → n % 128 ≡ 64 * ((n / 64) % 2) + 32 * ((n / 32) % 2) + 16 * ((n / 16) % 2) + 8 * ((n / 8) % 2) + 4 * ((n / 4) % 2) + 2 * ((n / 2) % 2) + (n / 1) % 2
+seven : (n : ℕ) → n % 128
+    ≡ 64 * ((n / 64) % 2) + 32 * ((n / 32) % 2) + 16 * ((n / 16) % 2) + 8 * ((n / 8) % 2) + 4 * ((n / 4) % 2) + 2 * ((n / 2) % 2) +
+    (n / 1) % 2
 seven n = omega arith
 
-seven_same : (x y : ℕ) → (x / 64) % 2 ≡ (y / 64) % 2 → (x / 32) % 2 ≡ (y / 32) % 2 → (x / 16) % 2 ≡ (y / 16) % 2 → (x / 8) % 2 ≡ (y / 8) % 2 → (x / 4) % 2 ≡ (y / 4) % 2 → (x / 2) % 2 ≡ (y / 2) % 2 → (x / 1) % 2 ≡ (y / 1) % 2
+seven_same : (x y : ℕ) → (x / 64) % 2 ≡ (y / 64) % 2 → (x / 32) % 2 ≡ (y / 32) % 2 → (x / 16) % 2 ≡ (y / 16) % 2
+    → (x / 8) % 2 ≡ (y / 8) % 2 → (x / 4) % 2 ≡ (y / 4) % 2 → (x / 2) % 2 ≡ (y / 2) % 2 → (x / 1) % 2 ≡ (y / 1) % 2
     → x % 128 ≡ y % 128
 seven_same x y a b c d e f g = seven x ∙ rw (a, b, c, d, e, f, g) (sym (seven y))
 
@@ -236,7 +253,8 @@ ends (b ∷ c ∷ front) last h i = (h zero 0 (omega arith), ends (c ∷ front) 
 entity_ends : (w : List ℕ) → IsEntity w → Ends w
 entity_ends w (front, last, e, h, i) = subst Ends (sym e) (ends front last h i)
 
-one_entity : (v w : List ℕ) → length v ≡ length w → Ends v → Ends w → AreBytes v → AreBytes w → ((i : ℕ) → slice_index_or (bits v) i false ≡ slice_index_or (bits w) i false) → v ≡ w
+one_entity : (v w : List ℕ) → length v ≡ length w → Ends v → Ends w → AreBytes v → AreBytes w
+    → ((i : ℕ) → slice_index_or (bits v) i false ≡ slice_index_or (bits w) i false) → v ≡ w
 one_entity [] w e g h a b same = absurd g
 one_entity (x ∷ v) [] e g h a b same = absurd h
 one_entity (x ∷ []) (y ∷ []) e g h a b same =
@@ -250,7 +268,8 @@ one_entity (x ∷ c ∷ v) (y ∷ []) e g h a b same = absurd (omega (arith, e))
 one_entity (x ∷ c ∷ v) (y ∷ d ∷ w) e g h a b same =
     let p = byte_same x y (c ∷ v) (d ∷ w) same in
     let k : x ≡ y = omega (arith, p, g.0, h.0) in
-    let j = one_entity (c ∷ v) (d ∷ w) (omega (arith, e)) g.1 h.1 (λ i f l. a (suc i) f (omega (arith, l))) (λ i f l. b (suc i) f (omega (arith, l))) (λ i. same (suc (suc (suc (suc (suc (suc (suc i)))))))) in
+    let j = one_entity (c ∷ v) (d ∷ w) (omega (arith, e)) g.1 h.1 (λ i f l. a (suc i) f (omega (arith, l)))
+    (λ i f l. b (suc i) f (omega (arith, l))) (λ i. same (suc (suc (suc (suc (suc (suc (suc i)))))))) in
     ap (λ (z : ℕ). z ∷ c ∷ v) k ∙ ap (λ (z : List ℕ). y ∷ z) j
 
 -- the map of a segment

@@ -11,12 +11,17 @@ use Rattle.fast_value.specs.declared.kinds.Kind.{Kind}
 use Rattle.fast_value.specs.declared.kinds.Kind.TheVariants.{UInt32, Int32, UInt64, Int64, Decimal, Ascii, Unicode, Bytes}
 use Rattle.fast_value.specs.declared.codes.Code.{Code}
 use Rattle.fast_value.specs.declared.codes.Code.TheVariants.{D2, D4, D5, D6, R1}
-use Rattle.fast_value.specs.meaning.Kinds.{Range, IsWithin, signed_range, exponent_range, ScalarData, U, I, Dec, AsciiText, UnicodeText, ByteVector, Family, integers, decimals, texts, family, value_of_integer, value_of_text, integer_of, exponent_of, mantissa_of, text_of, same_kind}
+use Rattle.fast_value.specs.meaning.Kinds.{Range, IsWithin, signed_range, exponent_range, ScalarData, U, I, Dec, AsciiText, UnicodeText}
+use Rattle.fast_value.specs.meaning.Kinds.{ByteVector, Family, integers, decimals, texts, family, value_of_integer, value_of_text}
+use Rattle.fast_value.specs.meaning.Kinds.{integer_of, exponent_of, mantissa_of, text_of, same_kind}
 use Rattle.fast_tree.specs.declared.operators.Operator.{Operator}
 use Rattle.fast_tree.specs.declared.operators.Operator.TheVariants.{None as no_operator, Constant, Default, Copy, Increment, Delta, Tail}
 use Rattle.fast_tree.specs.meaning.Tree.{FieldData, operator_uses_bit}
 use Rattle.fast_dict.specs.meaning.Dictionary.{PreviousData, undefined, empty, assigned}
-use Rattle.fast_dict.specs.meaning.Operators.{◌>>=◌, Outcome, Sent, nothing, null, value, text_delta, Kept, append_to, prepend_to, kept_of, joined, with_tail, ranged, range_of, range_in, checked, checked_in, checked_text, keeps, gives, from_initial, fixed, unsent, next_value, delta_base, tail_base, exponent_step, mantissa_step, subtraction_step, text_step, decide_by, IsValueIn, IsDeltaIn, IsItemBy, Op}
+use Rattle.fast_dict.specs.meaning.Operators.{◌>>=◌, Outcome, Sent, nothing, null, value, text_delta, Kept, append_to, prepend_to, kept_of}
+use Rattle.fast_dict.specs.meaning.Operators.{joined, with_tail, ranged, range_of, range_in, checked, checked_in, checked_text, keeps}
+use Rattle.fast_dict.specs.meaning.Operators.{gives, from_initial, fixed, unsent, next_value, delta_base, tail_base, exponent_step}
+use Rattle.fast_dict.specs.meaning.Operators.{mantissa_step, subtraction_step, text_step, decide_by, IsValueIn, IsDeltaIn, IsItemBy, Op}
 use Rattle.fast_dict.specs.meaning.Rule.{common_front, common_back, IsTail, IsDelta, SentBy, Rule}
 use Rattle.fast_stream.proofs.readers.Integers.{decides-within}
 use Rattle.fast_spelling.specs.device.Fields.{next_by, next_of}
@@ -46,7 +51,8 @@ front_take [] v = refl
 front_take (x ∷ b) [] = refl
 front_take (x ∷ b) (y ∷ v) = on (front_take b v) (eqb_tells x y)
   where
-    on : take (common_front b v) b ≡ take (common_front b v) v → ((nat_eq x y ≡ true) × (x ≡ y)) ⊎ ((nat_eq x y ≡ false) × (x ≢ y)) → take (common_front (x ∷ b) (y ∷ v)) (x ∷ b) ≡ take (common_front (x ∷ b) (y ∷ v)) (y ∷ v)
+    on : take (common_front b v) b ≡ take (common_front b v) v → ((nat_eq x y ≡ true) × (x ≡ y)) ⊎ ((nat_eq x y ≡ false) × (x ≢ y))
+        → take (common_front (x ∷ b) (y ∷ v)) (x ∷ b) ≡ take (common_front (x ∷ b) (y ∷ v)) (y ∷ v)
     on h (inl t) = rw t.0 (ap (λ (z : ℕ). z ∷ take (common_front b v) b) t.1 ∙ ap (λ (z : List ℕ). y ∷ z) h)
     on h (inr t) = rw t.0 refl
 
@@ -80,7 +86,8 @@ pub drop_turned : (xs : List ℕ) (s : ℕ) → s ≤ length xs → drop (length
 drop_turned xs s h =
     let ys = reverse xs in
     let long : length ys ≡ length xs = length-reverse xs in
-    let split : xs ≡ reverse (drop s ys) ++ reverse (take s ys) = sym (reverse-reverse xs) ∙ ap reverse (sym (take-append-drop s ys)) ∙ reverse-append (take s ys) (drop s ys) in
+    let split : xs ≡ reverse (drop s ys) ++ reverse (take s ys) = sym (reverse-reverse xs) ∙ ap reverse (sym (take-append-drop s ys))
+    ∙ reverse-append (take s ys) (drop s ys) in
     let front : length xs - s ≡ length (reverse (drop s ys)) = ap (λ (n : ℕ). n - s) (sym long) ∙ sym (length-drop s ys) ∙ sym (length-reverse (drop s ys)) in
     ap (λ (n : ℕ). drop n xs) front ∙ ap (drop (length (reverse (drop s ys)))) split ∙ drop-append_seam (reverse (drop s ys)) (reverse (take s ys))
 
@@ -90,7 +97,8 @@ back_joins b v =
     let s = common_back b v in
     let base : s ≤ length b = omega (arith, front_base (reverse b) (reverse v), length-reverse b) in
     let text : s ≤ length v = omega (arith, front_text (reverse b) (reverse v), length-reverse v) in
-    let same : drop (length b - s) b ≡ drop (length v - s) v = drop_turned b s base ∙ ap reverse (front_take (reverse b) (reverse v)) ∙ sym (drop_turned v s text) in
+    let same : drop (length b - s) b ≡ drop (length v - s) v = drop_turned b s base ∙ ap reverse (front_take (reverse b) (reverse v))
+    ∙ sym (drop_turned v s text) in
     ap (λ (z : List ℕ). take (length v - s) v ++ z) same ∙ take-append-drop (length v - s) v
 
 -- the tail of a value makes the value
@@ -148,49 +156,71 @@ sum_back b v = omega (arith, ints)
 abbrev GivesDelta : Family → FieldData → PreviousData → ScalarData → Sent → Type 0
 GivesDelta k f p v x = IsDeltaIn k f.optional x × (decide_by Delta true f p x ≡ Ok (record { value = Some v; next = assigned f.kind v }))
 
-text_gives : (f : FieldData) (p : PreviousData) (v base : ScalarData) (k : ℤ) (part : List ℕ) (kept : Kept) → delta_base f p ≡ Ok base → kept_of (text_of base) k ≡ Ok kept → joined kept part ≡ text_of v → checked_text f.kind (text_of v) ≡ Ok v
+text_gives : (f : FieldData) (p : PreviousData) (v base : ScalarData) (k : ℤ) (part : List ℕ) (kept : Kept) → delta_base f p ≡ Ok base
+    → kept_of (text_of base) k ≡ Ok kept → joined kept part ≡ text_of v → checked_text f.kind (text_of v) ≡ Ok v
     → decide_by Delta true f p (text_delta k part) ≡ Ok (record { value = Some v; next = assigned f.kind v })
 text_gives f p v base k part kept e g j h =
     then_ok (subtraction_step f p k) (λ q. text_step f q part) kept _ (then_ok (delta_base f p) (λ b. kept_of (text_of b) k) base kept e g)
     (then_ok (checked_text f.kind (joined kept part)) (keeps f.kind) v _ (ap (checked_text f.kind) j ∙ h) refl)
 
-delta_gives : (k : Family) (f : FieldData) → family f.kind ≡ k → (p : PreviousData) (v base : ScalarData) (x : Sent) → delta_base f p ≡ Ok base → Fits k f.kind v → IsDelta k base v x → GivesDelta k f p v x
+delta_gives : (k : Family) (f : FieldData) → family f.kind ≡ k → (p : PreviousData) (v base : ScalarData) (x : Sent)
+    → delta_base f p ≡ Ok base → Fits k f.kind v → IsDelta k base v x → GivesDelta k f p v x
 delta_gives (integers range) f q p v base x e h g =
     let k = integer_of v -ℤ integer_of base in
-    let r : ranged (range_of f.kind) D2 (integer_of base +ℤ k) ≡ Ok (integer_of v) = ap (ranged (range_of f.kind) D2) (sum_back (integer_of base) (integer_of v)) ∙ subst (λ (z : Family). ranged (range_in z) D2 (integer_of v) ≡ Ok (integer_of v)) (sym q) (ranged_in range D2 (integer_of v) h.0) in
+    let r : ranged (range_of f.kind) D2 (integer_of base +ℤ k) ≡ Ok (integer_of v) =
+    ap (ranged (range_of f.kind) D2) (sum_back (integer_of base) (integer_of v))
+    ∙ subst (λ (z : Family). ranged (range_in z) D2 (integer_of v) ≡ Ok (integer_of v)) (sym q)
+    (ranged_in range D2 (integer_of v) h.0) in
     subst (GivesDelta (integers range) f p v) (sym g) (
       tt,
       then_ok (delta_base f p) (λ b. ranged (range_of f.kind) D2 (integer_of b +ℤ k) >>= (λ y. keeps f.kind (value_of_integer f.kind y))) base _ e
-          (then_ok (ranged (range_of f.kind) D2 (integer_of base +ℤ k)) (λ y. keeps f.kind (value_of_integer f.kind y)) (integer_of v) _ r (ap (keeps f.kind) h.1)),
+          (then_ok (ranged (range_of f.kind) D2 (integer_of base +ℤ k)) (λ y. keeps f.kind (value_of_integer f.kind y)) (integer_of v) _ r
+          (ap (keeps f.kind) h.1)),
     )
 delta_gives decimals f q p v base x e h g =
     let k = exponent_of v -ℤ exponent_of base in
     let j = mantissa_of v -ℤ mantissa_of base in
-    let r : ranged exponent_range R1 (exponent_of base +ℤ k) ≡ Ok (exponent_of v) = ap (ranged exponent_range R1) (sum_back (exponent_of base) (exponent_of v)) ∙ ranged_in exponent_range R1 (exponent_of v) h.0 in
-    let s : ranged (signed_range 63) R1 (mantissa_of base +ℤ j) ≡ Ok (mantissa_of v) = ap (ranged (signed_range 63) R1) (sum_back (mantissa_of base) (mantissa_of v)) ∙ ranged_in (signed_range 63) R1 (mantissa_of v) h.1 in
+    let r : ranged exponent_range R1 (exponent_of base +ℤ k) ≡ Ok (exponent_of v) =
+    ap (ranged exponent_range R1) (sum_back (exponent_of base) (exponent_of v)) ∙ ranged_in exponent_range R1 (exponent_of v) h.0 in
+    let s : ranged (signed_range 63) R1 (mantissa_of base +ℤ j) ≡ Ok (mantissa_of v) =
+    ap (ranged (signed_range 63) R1) (sum_back (mantissa_of base) (mantissa_of v))
+    ∙ ranged_in (signed_range 63) R1 (mantissa_of v) h.1 in
     subst (GivesDelta decimals f p v) (sym g) (
       tt,
-      then_ok (exponent_step f p k) (λ y. mantissa_step f p y j) (exponent_of v) _ (then_ok (delta_base f p) (λ b. ranged exponent_range R1 (exponent_of b +ℤ k)) base _ e r)
+      then_ok (exponent_step f p k) (λ y. mantissa_step f p y j) (exponent_of v) _
+          (then_ok (delta_base f p) (λ b. ranged exponent_range R1 (exponent_of b +ℤ k)) base _ e r)
           (then_ok (delta_base f p) (λ b. ranged (signed_range 63) R1 (mantissa_of b +ℤ j) >>= (λ m. keeps f.kind (Dec (exponent_of v) m))) base _ e
-          (then_ok (ranged (signed_range 63) R1 (mantissa_of base +ℤ j)) (λ m. keeps f.kind (Dec (exponent_of v) m)) (mantissa_of v) _ s (ap (keeps f.kind) h.2))),
+          (then_ok (ranged (signed_range 63) R1 (mantissa_of base +ℤ j)) (λ m. keeps f.kind (Dec (exponent_of v) m)) (mantissa_of v) _ s
+          (ap (keeps f.kind) h.2))),
     )
 delta_gives texts f q p v base x e h (inl (_, g)) =
     let b = text_of base in
     let n = common_front b (text_of v) in
-    let kept_is : kept_of b (pos (length b - n)) ≡ Ok (append_to (take (length b - (length b - n)) b)) = rw (le-leb (length b - n) (length b) (omega arith)) refl in
-    subst (GivesDelta texts f p v) (sym g) (tt, text_gives f p v base (pos (length b - n)) (drop n (text_of v)) (append_to (take (length b - (length b - n)) b)) e kept_is (front_joins b (text_of v) n refl) h.0)
+    let kept_is : kept_of b (pos (length b - n)) ≡ Ok (append_to (take (length b - (length b - n)) b)) =
+    rw (le-leb (length b - n) (length b) (omega arith)) refl in
+    subst (GivesDelta texts f p v) (sym g) (
+      tt,
+      text_gives f p v base (pos (length b - n)) (drop n (text_of v))
+          (append_to (take (length b - (length b - n)) b)) e kept_is (front_joins b (text_of v) n refl) h.0,
+    )
 delta_gives texts f q p v base x e h (inr (_, g)) =
     let b = text_of base in
     let n = common_back b (text_of v) in
     let kept_is : kept_of b (negsuc (length b - n)) ≡ Ok (prepend_to (drop (length b - n) b)) = rw (le-leb (length b - n) (length b) (omega arith)) refl in
-    subst (GivesDelta texts f p v) (sym g) (tt, text_gives f p v base (negsuc (length b - n)) (take (length (text_of v) - n) (text_of v)) (prepend_to (drop (length b - n) b)) e kept_is (back_joins b (text_of v)) h.0)
+    subst (GivesDelta texts f p v) (sym g) (
+      tt,
+      text_gives f p v base (negsuc (length b - n)) (take (length (text_of v) - n) (text_of v))
+          (prepend_to (drop (length b - n) b)) e kept_is (back_joins b (text_of v)) h.0,
+    )
 
 null_delta : (k : Family) (optional : Bool) → optional ≡ true → IsDeltaIn k optional null
 null_delta (integers range) optional h = h
 null_delta decimals optional h = h
 null_delta texts optional h = h
 
-tail_gives : (f : FieldData) (p : PreviousData) (v base : ScalarData) (part : List ℕ) → family f.kind ≡ texts → tail_base f p ≡ Ok base → IsTail (text_of base) (text_of v) part → checked_text f.kind (text_of v) ≡ Ok v → Gives Tail f p (Some v) (value (value_of_text f.kind part))
+tail_gives : (f : FieldData) (p : PreviousData) (v base : ScalarData) (part : List ℕ) → family f.kind ≡ texts → tail_base f p ≡ Ok base
+    → IsTail (text_of base) (text_of v) part → checked_text f.kind (text_of v) ≡ Ok v
+    → Gives Tail f p (Some v) (value (value_of_text f.kind part))
 tail_gives f p v base part q e g h = (
   subst (λ (z : Family). IsValueIn z f.kind (value_of_text f.kind part)) (sym q) (part, refl),
   then_ok (tail_base f p) (λ b. checked_text f.kind (with_tail (text_of b) (text_of (value_of_text f.kind part))) >>= keeps f.kind) base _ e
@@ -198,7 +228,8 @@ tail_gives f p v base part q e g h = (
       (ap (checked_text f.kind) (ap (with_tail (text_of base)) (text_kept f.kind part) ∙ tail_joins (text_of base) (text_of v) part g) ∙ h) refl),
 )
 
-sent_gives : (o : Operator) (f : FieldData) (p : PreviousData) (v : Option ScalarData) (x : Sent) → (o ≡ Tail → family f.kind ≡ texts) → IsFit f v → SentBy o f p v x → Gives o f p v x
+sent_gives : (o : Operator) (f : FieldData) (p : PreviousData) (v : Option ScalarData) (x : Sent) → (o ≡ Tail → family f.kind ≡ texts)
+    → IsFit f v → SentBy o f p v x → Gives o f p v x
 sent_gives Constant f p v x t h (e, i) = (i, subst (λ (z : Option ScalarData). fixed z p ≡ Ok (record { value = v; next = p })) e (fixed_gives v p))
 sent_gives no_operator f p None x t h e = subst (Gives no_operator f p None) (sym e) (h, refl)
 sent_gives Default f p None x t h e = subst (Gives Default f p None) (sym e) (h, refl)
@@ -206,10 +237,14 @@ sent_gives Copy f p None x t h e = subst (Gives Copy f p None) (sym e) (h, refl)
 sent_gives Increment f p None x t h e = subst (Gives Increment f p None) (sym e) (h, refl)
 sent_gives Delta f p None x t h e = subst (Gives Delta f p None) (sym e) (null_delta (family f.kind) f.optional h, refl)
 sent_gives Tail f p None x t h e = subst (Gives Tail f p None) (sym e) (h, refl)
-sent_gives no_operator f p (Some v) x t h e = subst (Gives no_operator f p (Some v)) (sym e) (value_right f.kind (family f.kind) v h, then_ok (checked f v) (λ w. gives w p) v _ (checked_right f.kind (family f.kind) v h) refl)
-sent_gives Default f p (Some v) x t h e = subst (Gives Default f p (Some v)) (sym e) (value_right f.kind (family f.kind) v h, then_ok (checked f v) (λ w. gives w p) v _ (checked_right f.kind (family f.kind) v h) refl)
-sent_gives Copy f p (Some v) x t h e = subst (Gives Copy f p (Some v)) (sym e) (value_right f.kind (family f.kind) v h, then_ok (checked f v) (keeps f.kind) v _ (checked_right f.kind (family f.kind) v h) refl)
-sent_gives Increment f p (Some v) x t h e = subst (Gives Increment f p (Some v)) (sym e) (value_right f.kind (family f.kind) v h, then_ok (checked f v) (keeps f.kind) v _ (checked_right f.kind (family f.kind) v h) refl)
+sent_gives no_operator f p (Some v) x t h e = subst (Gives no_operator f p (Some v)) (sym e)
+    (value_right f.kind (family f.kind) v h, then_ok (checked f v) (λ w. gives w p) v _ (checked_right f.kind (family f.kind) v h) refl)
+sent_gives Default f p (Some v) x t h e = subst (Gives Default f p (Some v)) (sym e)
+    (value_right f.kind (family f.kind) v h, then_ok (checked f v) (λ w. gives w p) v _ (checked_right f.kind (family f.kind) v h) refl)
+sent_gives Copy f p (Some v) x t h e = subst (Gives Copy f p (Some v)) (sym e)
+    (value_right f.kind (family f.kind) v h, then_ok (checked f v) (keeps f.kind) v _ (checked_right f.kind (family f.kind) v h) refl)
+sent_gives Increment f p (Some v) x t h e = subst (Gives Increment f p (Some v)) (sym e)
+    (value_right f.kind (family f.kind) v h, then_ok (checked f v) (keeps f.kind) v _ (checked_right f.kind (family f.kind) v h) refl)
 sent_gives Delta f p (Some v) x t h (base, e, g) = delta_gives (family f.kind) f refl p v base x e h g
 sent_gives Tail f p (Some v) x t h (base, part, e, g, i) =
     let q = t refl in
@@ -239,10 +274,17 @@ fixed_next : (i : Option ScalarData) (p : PreviousData) (o : Outcome) → fixed 
 fixed_next None p o e = subst (λ (z : Outcome). z.next ≡ p) (one_ok (Ok _) _ o refl e) refl
 fixed_next (Some v) p o e = subst (λ (z : Outcome). z.next ≡ p) (one_ok (Ok _) _ o refl e) refl
 
-pub unsent_next : (o : Operator) (f : FieldData) (p : PreviousData) (v : Option ScalarData) (n : PreviousData) → operator_uses_bit o f.optional ≡ true → decide_by o false f p nothing ≡ Ok (record { value = v; next = n }) → n ≡ next_by o f.kind p v
+pub unsent_next : (o : Operator) (f : FieldData) (p : PreviousData) (v : Option ScalarData) (n : PreviousData)
+    → operator_uses_bit o f.optional ≡ true → decide_by o false f p nothing ≡ Ok (record {
+      value = v;
+      next = n;
+    }) → n ≡ next_by o f.kind p v
 unsent_next no_operator f p v n u e = absurd (cc u)
 unsent_next Delta f p v n u e = absurd (cc u)
-unsent_next Constant f p v n u e = ap (λ (z : Outcome). z.next) (one_ok (Ok _) (record { value = v; next = n }) (record { value = None; next = p }) (sym (sym e)) refl)
+unsent_next Constant f p v n u e = ap (λ (z : Outcome). z.next) (one_ok (Ok _) (record {
+  value = v;
+  next = n;
+}) (record { value = None; next = p }) (sym (sym e)) refl)
 unsent_next Default f p v n u e = fixed_next f.initial p (record { value = v; next = n }) e
 unsent_next Copy f p None n u e = unsent_kept f p (record { value = None; next = n }) e
 unsent_next Copy f p (Some v) n u e = unsent_kept f p (record { value = Some v; next = n }) e
@@ -252,7 +294,8 @@ unsent_next Tail f p None n u e = unsent_kept f p (record { value = None; next =
 unsent_next Tail f p (Some v) n u e = unsent_kept f p (record { value = Some v; next = n }) e
 
 -- What the rule sends gives the value, and what the entry holds behind it.
-pub rule_gives : (f : FieldData) (p : PreviousData) (v : Option ScalarData) (bit : Bool) (x : Sent) → (f.operator ≡ Tail → family f.kind ≡ texts) → IsFit f v → Rule f p v bit x → Op f p bit x v (next_of f p v)
+pub rule_gives : (f : FieldData) (p : PreviousData) (v : Option ScalarData) (bit : Bool) (x : Sent)
+    → (f.operator ≡ Tail → family f.kind ≡ texts) → IsFit f v → Rule f p v bit x → Op f p bit x v (next_of f p v)
 rule_gives f p v true x t h (must, s) = sent_gives f.operator f p v x t h s
 rule_gives f p v false x t h ((n, u, o), e) =
     let same = unsent_next f.operator f p v n u o.1 in

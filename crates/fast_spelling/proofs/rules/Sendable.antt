@@ -9,12 +9,15 @@ use Rattle.fast_wire.specs.meaning.Integers.{SpellsInt, IsInteger, value as int_
 use Rattle.fast_value.specs.declared.kinds.Kind.{Kind}
 use Rattle.fast_value.specs.declared.kinds.Kind.TheVariants.{UInt32, Int32, UInt64, Int64, Decimal, Ascii, Unicode, Bytes}
 use Rattle.fast_value.specs.declared.settings.Limits.{Limits}
-use Rattle.fast_value.specs.meaning.Kinds.{Range, IsWithin, unsigned_range, signed_range, exponent_range, delta_range, ScalarData, U, I, Dec, AsciiText, UnicodeText, ByteVector, Family, integers, decimals, texts, family, value_of_integer, value_of_text, integer_of, exponent_of, mantissa_of, text_of}
+use Rattle.fast_value.specs.meaning.Kinds.{Range, IsWithin, unsigned_range, signed_range, exponent_range, delta_range, ScalarData, U, I}
+use Rattle.fast_value.specs.meaning.Kinds.{Dec, AsciiText, UnicodeText, ByteVector, Family, integers, decimals, texts, family}
+use Rattle.fast_value.specs.meaning.Kinds.{value_of_integer, value_of_text, integer_of, exponent_of, mantissa_of, text_of}
 use Rattle.fast_tree.specs.declared.operators.Operator.{Operator}
 use Rattle.fast_tree.specs.declared.operators.Operator.TheVariants.{None as no_operator, Constant, Default, Copy, Increment, Delta, Tail}
 use Rattle.fast_tree.specs.meaning.Tree.{FieldData}
 use Rattle.fast_dict.specs.meaning.Dictionary.{PreviousData}
-use Rattle.fast_dict.specs.meaning.Operators.{Sent, null, value, integer_delta, decimal_delta, text_delta, Kept, append_to, prepend_to, kept_of, kept_length, delta_base}
+use Rattle.fast_dict.specs.meaning.Operators.{Sent, null, value, integer_delta, decimal_delta, text_delta, Kept, append_to, prepend_to}
+use Rattle.fast_dict.specs.meaning.Operators.{kept_of, kept_length, delta_base}
 use Rattle.fast_dict.specs.meaning.Rule.{common_front, common_back, IsTail, IsDelta, SentBy, Rule}
 use Rattle.fast_spelling.specs.device.Drafts.{IsSendable, IsSendableValue, IsSendablePart, SpellsItem, SpellsValue, SpellsPart}
 use Rattle.fast_spelling.specs.meaning.Encoding.{ShortestNull, ShortestNoDelta, ShortestNullOf, ShortestText, ShortestValue, SpellsSentBy}
@@ -47,7 +50,8 @@ ascii_right (UnicodeText t) (room, h) = absurd h
 ascii_right (ByteVector t) (room, h) = absurd h
 
 -- a part of a right text
-part_sendable : (kind : Kind) (v : ScalarData) (t : List ℕ) (m : ℕ) → m ≤ most → IsRight kind v → length t ≤ m → (All (λ c. c < 128) (text_of v) → All (λ c. c < 128) t) → IsSendablePart kind t
+part_sendable : (kind : Kind) (v : ScalarData) (t : List ℕ) (m : ℕ) → m ≤ most → IsRight kind v → length t ≤ m
+    → (All (λ c. c < 128) (text_of v) → All (λ c. c < 128) t) → IsSendablePart kind t
 part_sendable Ascii v t m g h i all = (omega (arith, g, i), all (ascii_right v h))
 part_sendable UInt32 v t m g h i all = omega (arith, g, i)
 part_sendable Int32 v t m g h i all = omega (arith, g, i)
@@ -117,27 +121,41 @@ pub record IsBase (m : ℕ) (base : ScalarData) : Type 0 where
   pub narrow : IsNarrow base
   pub short : length (text_of base) ≤ m
 
-delta_sendable : (k : Family) (f : FieldData) (v base : ScalarData) (x : Sent) (m : ℕ) → m ≤ most → IsRight f.kind v → length (text_of v) ≤ m → IsBase m base → IsDelta k base v x → IsSendable f x
-delta_sendable (integers range) f v base x m g h i b e = subst (IsSendable f) (sym e) (difference (integer_of v) (integer_of base) (narrow_integer v (right_narrow f.kind v h)) (narrow_integer base b.narrow))
+delta_sendable : (k : Family) (f : FieldData) (v base : ScalarData) (x : Sent) (m : ℕ) → m ≤ most → IsRight f.kind v
+    → length (text_of v) ≤ m → IsBase m base → IsDelta k base v x → IsSendable f x
+delta_sendable (integers range) f v base x m g h i b e =
+    subst (IsSendable f) (sym e) (difference (integer_of v) (integer_of base) (narrow_integer v (right_narrow f.kind v h))
+    (narrow_integer base b.narrow))
 delta_sendable decimals f v base x m g h i b e = subst (IsSendable f) (sym e) (
   difference (exponent_of v) (exponent_of base) (narrow_exponent v (right_narrow f.kind v h)) (narrow_exponent base b.narrow),
   difference (mantissa_of v) (mantissa_of base) (narrow_mantissa v (right_narrow f.kind v h)) (narrow_mantissa base b.narrow),
 )
 delta_sendable texts f v base x m g h i b (inl (_, e)) =
     let n = common_front (text_of base) (text_of v) in
-    subst (IsSendable f) (sym e) (taken (length (text_of base) - n) (omega (arith, g, b.short)), part_sendable f.kind v (drop n (text_of v)) m g h (omega (arith, i, length-drop n (text_of v))) (All-drop (λ c. c < 128) n (text_of v)))
+    subst (IsSendable f) (sym e) (
+      taken (length (text_of base) - n) (omega (arith, g, b.short)),
+      part_sendable f.kind v (drop n (text_of v)) m g h (omega (arith, i, length-drop n (text_of v)))
+          (All-drop (λ c. c < 128) n (text_of v)),
+    )
 delta_sendable texts f v base x m g h i b (inr (_, e)) =
     let n = length (text_of v) - common_back (text_of base) (text_of v) in
-    subst (IsSendable f) (sym e) (taken_front (length (text_of base) - common_back (text_of base) (text_of v)) (omega (arith, g, b.short)), part_sendable f.kind v (take n (text_of v)) m g h (omega (arith, i, length-take n (text_of v))) (All-take (λ c. c < 128) n (text_of v)))
+    subst (IsSendable f) (sym e) (
+      taken_front (length (text_of base) - common_back (text_of base) (text_of v)) (omega (arith, g, b.short)),
+      part_sendable f.kind v (take n (text_of v)) m g h (omega (arith, i, length-take n (text_of v)))
+          (All-take (λ c. c < 128) n (text_of v)),
+    )
 
-tail_sendable : (f : FieldData) (v : ScalarData) (b part : List ℕ) (m : ℕ) → family f.kind ≡ texts → m ≤ most → IsRight f.kind v → length (text_of v) ≤ m → IsTail b (text_of v) part → IsSendableValue f.kind (value_of_text f.kind part)
+tail_sendable : (f : FieldData) (v : ScalarData) (b part : List ℕ) (m : ℕ) → family f.kind ≡ texts → m ≤ most → IsRight f.kind v
+    → length (text_of v) ≤ m → IsTail b (text_of v) part → IsSendableValue f.kind (value_of_text f.kind part)
 tail_sendable f v b part m q g h i (inl (_, e)) =
     let n = common_front b (text_of v) in
-    rw e (text_sendable f.kind (drop n (text_of v)) q (part_sendable f.kind v (drop n (text_of v)) m g h (omega (arith, i, length-drop n (text_of v))) (All-drop (λ c. c < 128) n (text_of v))))
+    rw e (text_sendable f.kind (drop n (text_of v)) q (part_sendable f.kind v (drop n (text_of v)) m g h
+    (omega (arith, i, length-drop n (text_of v))) (All-drop (λ c. c < 128) n (text_of v))))
 tail_sendable f v b part m q g h i (inr (_, e)) = rw e (text_sendable f.kind (text_of v) q (part_sendable f.kind v (text_of v) m g h i (λ z. z)))
 
 -- What is sent for a value or its absence can be written.
-pub sent_sendable : (o : Operator) (f : FieldData) (p : PreviousData) (v : Option ScalarData) (x : Sent) (m : ℕ) → m ≤ most → (o ≡ Tail → family f.kind ≡ texts) → ((base : ScalarData) → delta_base f p ≡ Ok base → IsBase m base)
+pub sent_sendable : (o : Operator) (f : FieldData) (p : PreviousData) (v : Option ScalarData) (x : Sent) (m : ℕ) → m ≤ most
+    → (o ≡ Tail → family f.kind ≡ texts) → ((base : ScalarData) → delta_base f p ≡ Ok base → IsBase m base)
     → IsSuited m f v → SentBy o f p v x → IsSendable f x
 sent_sendable Constant f p v x m g t b h (_, e) = subst (IsSendable f) (sym e) tt
 sent_sendable no_operator f p None x m g t b h e = subst (IsSendable f) (sym e) h
@@ -153,7 +171,8 @@ sent_sendable Increment f p (Some v) x m g t b h e = subst (IsSendable f) (sym e
 sent_sendable Delta f p (Some v) x m g t b h (base, e, i) = delta_sendable (family f.kind) f v base x m g h.0 h.1 (b base e) i
 sent_sendable Tail f p (Some v) x m g t b h (base, part, e, i, j) = subst (IsSendable f) (sym j) (tail_sendable f v (text_of base) part m (t refl) g h.0 h.1 i)
 
-pub rule_sendable : (f : FieldData) (p : PreviousData) (v : Option ScalarData) (bit : Bool) (x : Sent) (m : ℕ) → m ≤ most → (f.operator ≡ Tail → family f.kind ≡ texts) → ((base : ScalarData) → delta_base f p ≡ Ok base → IsBase m base)
+pub rule_sendable : (f : FieldData) (p : PreviousData) (v : Option ScalarData) (bit : Bool) (x : Sent) (m : ℕ) → m ≤ most
+    → (f.operator ≡ Tail → family f.kind ≡ texts) → ((base : ScalarData) → delta_base f p ≡ Ok base → IsBase m base)
     → IsSuited m f v → Rule f p v bit x → IsSendable f x
 rule_sendable f p v true x m g t b h (_, s) = sent_sendable f.operator f p v x m g t b h s
 rule_sendable f p v false x m g t b h (_, e) = subst (IsSendable f) (sym e) tt
@@ -203,12 +222,26 @@ module _ (l : Limits) (f : FieldData) where
   null_of Increment h = null_in (family f.kind) h
   null_of Tail h = null_in (family f.kind) h
 
-  text_in : (kind : Kind) → f.kind ≡ kind → (t : List ℕ) (w : List ℕ) → length t ≤ l.max_text → SpellsPart kind f.optional t w → ShortestValue l f texts (value_of_text kind t) w
-  text_in kind q t w i s = (t, ap (λ (k : Kind). value_of_text k t) (sym q), subst (λ (k : Kind). ShortestText k f.optional l.max_text (Some t) w) (sym q) (s l.max_text i))
+  text_in : (kind : Kind) → f.kind ≡ kind → (t : List ℕ) (w : List ℕ) → length t ≤ l.max_text → SpellsPart kind f.optional t w
+      → ShortestValue l f texts (value_of_text kind t) w
+  text_in kind q t w i s = (
+    t,
+    ap (λ (k : Kind). value_of_text k t) (sym q),
+    subst (λ (k : Kind). ShortestText k f.optional l.max_text (Some t) w) (sym q) (s l.max_text i),
+  )
 
-  value_in : (kind : Kind) → f.kind ≡ kind → (v : ScalarData) (w : List ℕ) → IsSendableValue kind v → length (text_of v) ≤ l.max_text → SpellsValue kind f.optional v w → ShortestValue l f (family kind) v w
-  value_in UInt32 q (U n) w h i s = (pos n, ap (λ (k : Kind). value_of_integer k (pos n)) (sym q), s (unsigned_range 32) refl (omega (arith, ints), omega (arith, ints, h)))
-  value_in UInt64 q (U n) w h i s = (pos n, ap (λ (k : Kind). value_of_integer k (pos n)) (sym q), s (unsigned_range 64) refl (omega (arith, ints), omega (arith, ints, h)))
+  value_in : (kind : Kind) → f.kind ≡ kind → (v : ScalarData) (w : List ℕ) → IsSendableValue kind v → length (text_of v) ≤ l.max_text
+      → SpellsValue kind f.optional v w → ShortestValue l f (family kind) v w
+  value_in UInt32 q (U n) w h i s = (
+    pos n,
+    ap (λ (k : Kind). value_of_integer k (pos n)) (sym q),
+    s (unsigned_range 32) refl (omega (arith, ints), omega (arith, ints, h)),
+  )
+  value_in UInt64 q (U n) w h i s = (
+    pos n,
+    ap (λ (k : Kind). value_of_integer k (pos n)) (sym q),
+    s (unsigned_range 64) refl (omega (arith, ints), omega (arith, ints, h)),
+  )
   value_in Int32 q (I x) w h i s = (x, ap (λ (k : Kind). value_of_integer k x) (sym q), s (signed_range 31) refl h)
   value_in Int64 q (I x) w h i s = (x, ap (λ (k : Kind). value_of_integer k x) (sym q), s (signed_range 63) refl h)
   value_in Decimal q (Dec x y) w h i (u, t, g, j, e) = (x, y, refl, (u, t, g exponent_range refl h.0, j (signed_range 63) refl h.1, e))
@@ -221,16 +254,26 @@ module _ (l : Limits) (f : FieldData) where
   whole_delta k h = (omega (arith, ints, h), omega (arith, ints, h))
 
   -- a text delta: what is kept and what is sent are no longer than the text
-  text_delta_in : (p : PreviousData) (base : ScalarData) (k : ℤ) (part : List ℕ) (kept : Kept) (w : List ℕ) → delta_base f p ≡ Ok base → kept_of (text_of base) k ≡ Ok kept → kept_length kept + length part ≤ l.max_text → IsSendable f (text_delta k part)
+  text_delta_in : (p : PreviousData) (base : ScalarData) (k : ℤ) (part : List ℕ) (kept : Kept) (w : List ℕ) → delta_base f p ≡ Ok base
+      → kept_of (text_of base) k ≡ Ok kept → kept_length kept + length part ≤ l.max_text → IsSendable f (text_delta k part)
       → SpellsItem f (text_delta k part) w → SpellsSentBy Delta l f p (text_delta k part) w
-  text_delta_in p base k part kept w e g i h (u, t, a, b, j) =
-      (kept, u, t, then_ok (delta_base f p) (λ z. kept_of (text_of z) k) base kept e g, a (signed_range 31) refl h.0, b (l.max_text - kept_length kept) (omega (arith, i)), j)
+  text_delta_in p base k part kept w e g i h (u, t, a, b, j) = (
+    kept,
+    u,
+    t,
+    then_ok (delta_base f p) (λ z. kept_of (text_of z) k) base kept e g,
+    a (signed_range 31) refl h.0,
+    b (l.max_text - kept_length kept) (omega (arith, i)),
+    j,
+  )
 
-  delta_in : (k : Family) (p : PreviousData) (v base : ScalarData) (x : Sent) (w : List ℕ) → delta_base f p ≡ Ok base → length (text_of v) ≤ l.max_text → IsDelta k base v x → IsSendable f x → SpellsItem f x w → SpellsSentBy Delta l f p x w
+  delta_in : (k : Family) (p : PreviousData) (v base : ScalarData) (x : Sent) (w : List ℕ) → delta_base f p ≡ Ok base
+      → length (text_of v) ≤ l.max_text → IsDelta k base v x → IsSendable f x → SpellsItem f x w → SpellsSentBy Delta l f p x w
   delta_in (integers range) p v base x w b i e h s = delta_by x (integer_of v -ℤ integer_of base) e h s
     where
       delta_by : (x : Sent) (n : ℤ) → x ≡ integer_delta n → IsSendable f x → SpellsItem f x w → SpellsSentBy Delta l f p x w
-      delta_by x n e h s = subst (λ (z : Sent). IsSendable f z → SpellsItem f z w → SpellsSentBy Delta l f p z w) (sym e) (λ g t. t delta_range refl (whole_delta n g)) h s
+      delta_by x n e h s = subst (λ (z : Sent). IsSendable f z → SpellsItem f z w → SpellsSentBy Delta l f p z w) (sym e)
+          (λ g t. t delta_range refl (whole_delta n g)) h s
   delta_in decimals p v base x w b i e h s = delta_by x (exponent_of v -ℤ exponent_of base) (mantissa_of v -ℤ mantissa_of base) e h s
     where
       delta_by : (x : Sent) (n m : ℤ) → x ≡ decimal_delta n m → IsSendable f x → SpellsItem f x w → SpellsSentBy Delta l f p x w
@@ -242,8 +285,10 @@ module _ (l : Limits) (f : FieldData) where
       let n = common_front c t in
       let base_fits : n ≤ length c = front_base c t in
       let text_fits : n ≤ length t = front_text c t in
-      let kept_is : kept_of c (pos (length c - n)) ≡ Ok (append_to (take (length c - (length c - n)) c)) = rw (le-leb (length c - n) (length c) (omega arith)) refl in
-      let fits : length (take (length c - (length c - n)) c) + length (drop n t) ≤ l.max_text = omega (arith, length-take (length c - (length c - n)) c, length-drop n t, i, base_fits, text_fits) in
+      let kept_is : kept_of c (pos (length c - n)) ≡ Ok (append_to (take (length c - (length c - n)) c)) =
+      rw (le-leb (length c - n) (length c) (omega arith)) refl in
+      let fits : length (take (length c - (length c - n)) c) + length (drop n t) ≤ l.max_text =
+      omega (arith, length-take (length c - (length c - n)) c, length-drop n t, i, base_fits, text_fits) in
       subst (λ (z : Sent). IsSendable f z → SpellsItem f z w → SpellsSentBy Delta l f p z w) (sym e)
       (λ g j. text_delta_in p base (pos (length c - n)) (drop n t) (append_to (take (length c - (length c - n)) c)) w b kept_is fits g j) h s
   delta_in texts p v base x w b i (inr (_, e)) h s =
@@ -253,7 +298,8 @@ module _ (l : Limits) (f : FieldData) where
       let base_fits : n ≤ length c = omega (arith, front_base (reverse c) (reverse t), length-reverse c) in
       let text_fits : n ≤ length t = omega (arith, front_text (reverse c) (reverse t), length-reverse t) in
       let kept_is : kept_of c (negsuc (length c - n)) ≡ Ok (prepend_to (drop (length c - n) c)) = rw (le-leb (length c - n) (length c) (omega arith)) refl in
-      let fits : length (drop (length c - n) c) + length (take (length t - n) t) ≤ l.max_text = omega (arith, length-drop (length c - n) c, length-take (length t - n) t, i, base_fits, text_fits) in
+      let fits : length (drop (length c - n) c) + length (take (length t - n) t) ≤ l.max_text =
+      omega (arith, length-drop (length c - n) c, length-take (length t - n) t, i, base_fits, text_fits) in
       subst (λ (z : Sent). IsSendable f z → SpellsItem f z w → SpellsSentBy Delta l f p z w) (sym e)
       (λ g j. text_delta_in p base (negsuc (length c - n)) (take (length t - n) t) (prepend_to (drop (length c - n) c)) w b kept_is fits g j) h s
 
@@ -283,8 +329,10 @@ module _ (l : Limits) (f : FieldData) where
   sent_spelled Copy p (Some v) x w h e = value_spelled Copy p v x w h.1 e
   sent_spelled Increment p (Some v) x w h e = value_spelled Increment p v x w h.1 e
   sent_spelled Delta p (Some v) x w h (base, e, i) = λ g s. delta_in (family f.kind) p v base x w e h.1 i g s
-  sent_spelled Tail p (Some v) x w h (base, part, e, i, j) = value_spelled Tail p (value_of_text f.kind part) x w (tail_short (text_of base) part (text_of v) h.1 i) j
+  sent_spelled Tail p (Some v) x w h (base, part, e, i, j) =
+      value_spelled Tail p (value_of_text f.kind part) x w (tail_short (text_of base) part (text_of v) h.1 i) j
 
-  pub rule_spelled : (p : PreviousData) (v : Option ScalarData) (bit : Bool) (x : Sent) (w : List ℕ) → IsSuited l.max_text f v → Rule f p v bit x → IsSendable f x → SpellsItem f x w → SpellsSentBy f.operator l f p x w
+  pub rule_spelled : (p : PreviousData) (v : Option ScalarData) (bit : Bool) (x : Sent) (w : List ℕ) → IsSuited l.max_text f v
+      → Rule f p v bit x → IsSendable f x → SpellsItem f x w → SpellsSentBy f.operator l f p x w
   rule_spelled p v true x w h (_, e) g s = sent_spelled f.operator p v x w h e g s
   rule_spelled p v false x w h (_, e) g s = subst (λ (z : Sent). SpellsItem f z w → SpellsSentBy f.operator l f p z w) (sym e) (λ j. j) s

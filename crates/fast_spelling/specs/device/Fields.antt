@@ -44,7 +44,8 @@ Wrote says old new d = (b : List Bool) × (w : List ℕ) × (new.bits.items ≡ 
 
 -- Behind the bytes that there were stands a segment that says what leads to this dictionary; the bits around it are as they were.
 abbrev pub WroteSegment : Limits → Body → Dictionary → Slots → Draft → Draft → Dictionary → Type 0
-WroteSegment l body d vs old new d' = (w : List ℕ) × (new.bits.items ≡ old.bits.items) × (new.bytes.items ≡ old.bytes.items ++ w) × EncodesSegment body (EncodesBody l body) d vs w d'
+WroteSegment l body d vs old new d' = (w : List ℕ) × (new.bits.items ≡ old.bits.items) × (new.bytes.items ≡ old.bytes.items ++ w)
+    × EncodesSegment body (EncodesBody l body) d vs w d'
 
 -- The numbers of the value are those of its Rust type.
 abbrev pub IsNarrow : ScalarData → Type 0

@@ -9,7 +9,13 @@ use Rattle.fast_tree.specs.declared.instructions.Shape.{Shape}
 use Rattle.fast_tree.specs.declared.instructions.Shape.TheVariants.{Field}
 use Rattle.fast_spelling.specs.declared.forms.Form.{Form}
 use Rattle.fast_spelling.specs.declared.forms.Step.{Step}
-use Rattle.fast_spelling.specs.declared.forms.Form.TheVariants.{PlainUInt32, PlainInt32, PlainUInt64, PlainInt64, ConstantUInt32, ConstantInt32, ConstantUInt64, ConstantInt64, DefaultUInt32, DefaultInt32, DefaultUInt64, DefaultInt64, CopyUInt32, CopyInt32, CopyUInt64, CopyInt64, IncrementUInt32, IncrementInt32, IncrementUInt64, IncrementInt64, DeltaUInt32, DeltaInt32, DeltaUInt64, DeltaInt64, PlainAscii, ConstantAscii, DefaultAscii, CopyAscii, TailAscii, DeltaAscii, PlainUnicode, DeltaUnicode, PlainBytes, TailBytes, PlainDecimal, CopyDecimal, DeltaDecimal, Other}
+use Rattle.fast_spelling.specs.declared.forms.Form.TheVariants.{PlainUInt32, PlainInt32, PlainUInt64, PlainInt64, ConstantUInt32}
+use Rattle.fast_spelling.specs.declared.forms.Form.TheVariants.{ConstantInt32, ConstantUInt64, ConstantInt64, DefaultUInt32, DefaultInt32}
+use Rattle.fast_spelling.specs.declared.forms.Form.TheVariants.{DefaultUInt64, DefaultInt64, CopyUInt32, CopyInt32, CopyUInt64, CopyInt64}
+use Rattle.fast_spelling.specs.declared.forms.Form.TheVariants.{IncrementUInt32, IncrementInt32, IncrementUInt64, IncrementInt64}
+use Rattle.fast_spelling.specs.declared.forms.Form.TheVariants.{DeltaUInt32, DeltaInt32, DeltaUInt64, DeltaInt64, PlainAscii, ConstantAscii}
+use Rattle.fast_spelling.specs.declared.forms.Form.TheVariants.{DefaultAscii, CopyAscii, TailAscii, DeltaAscii, PlainUnicode, DeltaUnicode}
+use Rattle.fast_spelling.specs.declared.forms.Form.TheVariants.{PlainBytes, TailBytes, PlainDecimal, CopyDecimal, DeltaDecimal, Other}
 
 -- the form of a field of this type under this operator
 abbrev pub form_by : Kind → Operator → Form

@@ -7,10 +7,12 @@ use Rattle.fast_value.specs.declared.kinds.Kind.{Kind}
 use Rattle.fast_value.specs.declared.kinds.Kind.TheVariants.{Ascii}
 use Rattle.fast_value.specs.meaning.Kinds.{ScalarData, U, I, Dec, Family, integers, decimals, texts, family, value_of_integer, value_of_text}
 use Rattle.fast_value.specs.declared.settings.Limits.{Limits}
-use Rattle.fast_value.specs.meaning.Messages.{ItemData, one, group as group_item, sequence as sequence_item, Slots, no_slots, Elements, no_elements, element, count, MessageData}
+use Rattle.fast_value.specs.meaning.Messages.{ItemData, one, group as group_item, sequence as sequence_item, Slots, no_slots, Elements}
+use Rattle.fast_value.specs.meaning.Messages.{no_elements, element, count, MessageData}
 use Rattle.fast_tree.specs.declared.operators.Operator.{Operator}
 use Rattle.fast_tree.specs.declared.operators.Operator.TheVariants.{Delta}
-use Rattle.fast_tree.specs.meaning.Tree.{FieldData, identifier, uses_bit, Instruction, field, parts, group, sequence, Body, end, step, has_map, TemplateData, Tree}
+use Rattle.fast_tree.specs.meaning.Tree.{FieldData, identifier, uses_bit, Instruction, field, parts, group, sequence, Body, end, step}
+use Rattle.fast_tree.specs.meaning.Tree.{has_map, TemplateData, Tree}
 use Rattle.fast_dict.specs.meaning.Dictionary.{Dictionary, PreviousData, previous_at, write_at, reset}
 use Rattle.fast_dict.specs.meaning.Operators.{Sent, nothing, null, value, integer_delta, decimal_delta, text_delta, Kept, kept_length, subtraction_step, Op}
 use Rattle.fast_dict.specs.meaning.Rule.{Rule}

@@ -5,7 +5,8 @@ use Rattle.fast_value.specs.declared.kinds.Kind.{Kind}
 use Rattle.fast_value.specs.declared.kinds.Kind.TheVariants.{Ascii}
 use Rattle.fast_value.specs.meaning.Kinds.{ScalarData, U, I, Dec, text_of}
 use Rattle.fast_value.specs.declared.settings.Limits.{Limits}
-use Rattle.fast_value.specs.meaning.Messages.{ItemData, one, group as group_item, sequence as sequence_item, Slots, Elements, no_elements, element, count, MessageData}
+use Rattle.fast_value.specs.meaning.Messages.{ItemData, one, group as group_item, sequence as sequence_item, Slots, Elements, no_elements}
+use Rattle.fast_value.specs.meaning.Messages.{element, count, MessageData}
 use Rattle.fast_tree.specs.meaning.Tree.{FieldData, identifier, Instruction, field, parts, group, sequence, Body, end, step, has_map, TemplateData, Tree}
 use Rattle.fast_dict.specs.meaning.Dictionary.{Dictionary, previous_at, reset}
 use Rattle.fast_dict.specs.meaning.Operators.{Sent, value, text_delta}
@@ -68,7 +69,8 @@ RefusesGroup refuses d (Some (group_item vs)) c = refuses d vs c
 RefusesGroup refuses d other c = ⊥
 
 -- the length is refused, or an element behind it
-abbrev pub RefusesSequence : Limits → FieldData → (Dictionary → Slots → List ℕ → Dictionary → Type 0) → Refuser → Dictionary → Option ItemData → EncodeFault → Type 0
+abbrev pub RefusesSequence : Limits → FieldData → (Dictionary → Slots → List ℕ → Dictionary → Type 0) → Refuser → Dictionary
+    → Option ItemData → EncodeFault → Type 0
 RefusesSequence l f encodes refuses d None c = RefusesField f d None c
 RefusesSequence l f encodes refuses d (Some (sequence_item rows)) c = RefusesField f d (Some (U (count rows))) c
     ⊎ ((b : List Bool) × (u : List ℕ) × (mid : Dictionary) × EncodesField l f d (Some (U (count rows))) b u mid × RefusesElements encodes refuses mid rows c)
@@ -80,7 +82,8 @@ unfoldable mutual
   Refuses l (field at f) d x c = RefusesScalar f d x c
   Refuses l (parts at e m) d x c = RefusesDecimal l e m d x c
   Refuses l (group at optional body) d x c = RefusesGroup (RefusesSegment body (EncodesBody l body) (RefusesBody l body)) d x c
-  Refuses l (sequence at length body) d x c = RefusesSequence l length (EncodesSegment body (EncodesBody l body)) (RefusesSegment body (EncodesBody l body) (RefusesBody l body)) d x c
+  Refuses l (sequence at length body) d x c = RefusesSequence l length (EncodesSegment body (EncodesBody l body))
+      (RefusesSegment body (EncodesBody l body) (RefusesBody l body)) d x c
 
   pub RefusesBody : Limits → Body → Dictionary → Slots → EncodeFault → Type 0
   RefusesBody l end d vs c = ⊥
@@ -92,7 +95,8 @@ abbrev pub RefusesMessage : Tree → Limits → Dictionary → MessageData → E
 RefusesMessage t l d m c = (u : TemplateData) × (id : ℕ) × (b1 : List Bool) × (x : List ℕ) × (mid : Dictionary)
     × (slice_get t.templates m.template ≡ Some u) × (u.id ≡ Some id) × EncodesField l identifier d (Some (U id)) b1 x mid
     × (RefusesBody l u.body (if u.reset then reset mid else mid) m.slots c
-    ⊎ ((b2 : List Bool) × (v : List ℕ) × (d' : Dictionary) × EncodesBody l u.body (if u.reset then reset mid else mid) m.slots b2 v d' × HaveNoMap (b1 ++ b2) × (c ≡ E3)))
+    ⊎ ((b2 : List Bool) × (v : List ℕ) × (d' : Dictionary) × EncodesBody l u.body (if u.reset then reset mid else mid) m.slots b2 v d'
+    × HaveNoMap (b1 ++ b2) × (c ≡ E3)))
 
 -- The message is refused with this fault, and with none that is told before it. Of memory nothing is said here.
 abbrev pub IsRefused : Tree → Limits → Dictionary → MessageData → EncodeFault → Type 0

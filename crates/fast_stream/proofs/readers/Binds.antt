@@ -47,7 +47,8 @@ pub bind-splits : {A B : Type 0} (r : Reader A) (k : A → Reader B) (w : List �
     → Runs (bind r k) w es x → ◌followed_by◌ (Runs r) (λ a. Runs (k a)) w es x
 unfolding ◌followed_by◌
 bind-splits (Done a) k w es x h = goes (Runs (Done a)) (λ b. Runs (k b)) w es x ([], w, [], es, a, (refl, refl, refl), h, refl, refl)
-bind-splits (Emit e r) k w es x (gs, d, h) = rw d (shift (Runs r) (Runs (Emit e r)) (λ b. Runs (k b)) [] (e ∷ []) (λ u fs y i. (fs, refl, i)) w gs x (bind-splits r k w gs x h))
+bind-splits (Emit e r) k w es x (gs, d, h) = rw d (shift (Runs r) (Runs (Emit e r)) (λ b. Runs (k b)) [] (e ∷ [])
+    (λ u fs y i. (fs, refl, i)) w gs x (bind-splits r k w gs x h))
 bind-splits (Stop c) k w es (whole b) h = absurd h
 bind-splits (Stop c) k w es cut h = absurd h
 bind-splits (Stop c) k w es (wrong d) h = inl h
@@ -63,7 +64,8 @@ bind-cut (Stop c) k w es h = absurd h
 bind-cut (Byte f) k [] es h = h
 bind-cut (Byte f) k (b ∷ w) es h = bind-cut (f b) k w es h
 
-pub bind-wrong : {A B : Type 0} (r : Reader A) (k : A → Reader B) (w : List ℕ) (es : List EventData) (c : Code) → Runs r w es (wrong c) → Runs (bind r k) w es (wrong c)
+pub bind-wrong : {A B : Type 0} (r : Reader A) (k : A → Reader B) (w : List ℕ) (es : List EventData) (c : Code) → Runs r w es (wrong c)
+    → Runs (bind r k) w es (wrong c)
 bind-wrong (Done a) k w es c h = absurd h
 bind-wrong (Emit e r) k w es c (gs, d, h) = (gs, d, bind-wrong r k w gs c h)
 bind-wrong (Stop d) k w es c h = h
@@ -95,7 +97,8 @@ bind-joins {A} {B} r k w es x h = by x h
 
 -- Phrases in a row follow from phrases in a row.
 pub both : {A B : Type 0} (p q : Phrase A) (k l : A → Phrase B) (w : List ℕ) (es : List EventData)
-    → ((u v : List ℕ) → w ≡ u ++ v → ((fs : List EventData) (y : Reached A) → p u fs y → q u fs y) × ((a : A) (gs : List EventData) (x : Reached B) → k a v gs x → l a v gs x))
+    → ((u v : List ℕ) → w ≡ u ++ v → ((fs : List EventData) (y : Reached A) → p u fs y → q u fs y)
+    × ((a : A) (gs : List EventData) (x : Reached B) → k a v gs x → l a v gs x))
     → (x : Reached B) → ◌followed_by◌ p k w es x → ◌followed_by◌ q l w es x
 unfolding ◌followed_by◌
 both {A} {B} p q k l w es f x h = by x h
@@ -112,7 +115,10 @@ both {A} {B} p q k l w es f x h = by x h
 
 pub All-front : {X : Type 0} (P : X → Type 0) (u v : List X) → All P (u ++ v) → All P u × All P v
 All-front P [] v h = (All-nil P, h)
-All-front P (b ∷ u) v h = (All-cons P b u (All-head P b (u ++ v) h) (All-front P u v (All-tail P b (u ++ v) h)).0, (All-front P u v (All-tail P b (u ++ v) h)).1)
+All-front P (b ∷ u) v h = (
+  All-cons P b u (All-head P b (u ++ v) h) (All-front P u v (All-tail P b (u ++ v) h)).0,
+  (All-front P u v (All-tail P b (u ++ v) h)).1,
+)
 
 bytes-split : (u v : List ℕ) → AreBytes (u ++ v) → AreBytes u × AreBytes v
 bytes-split u v h = All-front (λ b. b < 256) u v h
@@ -124,5 +130,8 @@ reads-bind {A} {B} {r} {p} {k} {q} h j = record {
   takes = λ w es x i. bind-joins r k w es x (both p (Runs r) q (λ a. Runs (k a)) w es
       (λ u v d. (λ fs y m. h.takes u fs y m, λ a gs y m. (j a).takes v gs y m)) x i);
   says = λ w es x b i. both (Runs r) p (λ a. Runs (k a)) q w es
-      (λ u v d. (λ fs y m. h.says u fs y (bytes-split u v (rw d at b)).0 m, λ a gs y m. (j a).says v gs y (bytes-split u v (rw d at b)).1 m)) x (bind-splits r k w es x i);
+      (λ u v d. (
+        λ fs y m. h.says u fs y (bytes-split u v (rw d at b)).0 m,
+        λ a gs y m. (j a).says v gs y (bytes-split u v (rw d at b)).1 m,
+      )) x (bind-splits r k w es x i);
 }

@@ -20,13 +20,15 @@ pub front : {A : Type 0} (r : Reader A) (w : List ℕ) → (u v : List ℕ) × (
 front (Done a) w = ([], w, [], whole a, ((refl, refl, refl), tt), refl)
 front {A = A} (Emit e r) w = more (front r w)
   where
-    more : ((u v : List ℕ) × (es : List EventData) × (x : Reached A) × Front r u v es x × (w ≡ u ++ v)) → (u v : List ℕ) × (es : List EventData) × (x : Reached A) × Front (Emit e r) u v es x × (w ≡ u ++ v)
+    more : ((u v : List ℕ) × (es : List EventData) × (x : Reached A) × Front r u v es x × (w ≡ u ++ v))
+        → (u v : List ℕ) × (es : List EventData) × (x : Reached A) × Front (Emit e r) u v es x × (w ≡ u ++ v)
     more (u, v, es, x, h, d) = (u, v, e ∷ es, x, ((es, refl, h.0), h.1), d)
 front (Stop c) w = ([], w, [], wrong c, ((refl, refl, refl), tt), refl)
 front (Byte f) [] = ([], [], [], cut, (refl, refl), refl)
 front {A = A} (Byte f) (b ∷ w) = more (front (f b) w)
   where
-    more : ((u v : List ℕ) × (es : List EventData) × (x : Reached A) × Front (f b) u v es x × (w ≡ u ++ v)) → (u v : List ℕ) × (es : List EventData) × (x : Reached A) × Front (Byte f) u v es x × (b ∷ w ≡ u ++ v)
+    more : ((u v : List ℕ) × (es : List EventData) × (x : Reached A) × Front (f b) u v es x × (w ≡ u ++ v))
+        → (u v : List ℕ) × (es : List EventData) × (x : Reached A) × Front (Byte f) u v es x × (b ∷ w ≡ u ++ v)
     more (u, v, es, x, h, d) = (b ∷ u, v, es, x, h, ap (λ r. b ∷ r) d)
 
 -- Two fronts of the same bytes are one.

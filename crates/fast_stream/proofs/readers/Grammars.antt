@@ -40,8 +40,10 @@ pub reader-then : {A B : Type 0} (s : Bool) (g : Grammar A) (k : A → Grammar B
 reader-then s (give a) k = refl
 reader-then s (fault c) k = refl
 reader-then s (hand e g) k = ap (λ q. Emit e q) (reader-then s g k)
-reader-then s (integer range nullable c g) k = under (integer_reader s range nullable c) (λ x. reader_of s (g x)) (λ a. reader_of s (k a)) (λ x. reader-then s (g x) k)
-reader-then s (ascii_text nullable room g) k = under (ascii_text_reader nullable room) (λ x. reader_of s (g x)) (λ a. reader_of s (k a)) (λ x. reader-then s (g x) k)
+reader-then s (integer range nullable c g) k = under (integer_reader s range nullable c) (λ x. reader_of s (g x)) (λ a. reader_of s (k a))
+    (λ x. reader-then s (g x) k)
+reader-then s (ascii_text nullable room g) k = under (ascii_text_reader nullable room) (λ x. reader_of s (g x)) (λ a. reader_of s (k a))
+    (λ x. reader-then s (g x) k)
 reader-then s (raw n g) k = under (raw_reader n []) (λ x. reader_of s (g x)) (λ a. reader_of s (k a)) (λ x. reader-then s (g x) k)
 reader-then s (presence_map g) k = under (presence_map_reader s) (λ x. reader_of s (g x)) (λ a. reader_of s (k a)) (λ x. reader-then s (g x) k)
 reader-then s (narrow n m g) k = under (settles_reader (Units.width_checked s n m)) (λ x. reader_of s g) (λ a. reader_of s (k a)) (λ x. reader-then s g k)
@@ -59,9 +61,17 @@ pub joins : {A B : Type 0} (s : Bool) (g : Grammar A) (k : A → Grammar B) (u v
 unfolding gives settles
 joins s (give b) k u v fs gs a x h j = rw (h.0, h.1, ← h.2) j
 joins s (fault c) k u v fs gs a x h j = absurd h
-joins s (hand e g) k u v fs gs a x h j = join-unit (hands e) (λ _. phrase_of s g) (λ _. phrase_of s (g >>= k)) v gs a x (λ y u fs i. joins s g k u v fs gs a x i j) u fs h
-joins s (integer range nullable c g) k u v fs gs a x h j = join-unit (Units.integer s range nullable c) (λ y. phrase_of s (g y)) (λ y. phrase_of s (g y >>= k)) v gs a x (λ y u fs i. joins s (g y) k u v fs gs a x i j) u fs h
-joins s (ascii_text nullable room g) k u v fs gs a x h j = join-unit (Units.ascii_text nullable room) (λ y. phrase_of s (g y)) (λ y. phrase_of s (g y >>= k)) v gs a x (λ y u fs i. joins s (g y) k u v fs gs a x i j) u fs h
-joins s (raw n g) k u v fs gs a x h j = join-unit (Units.raw n) (λ y. phrase_of s (g y)) (λ y. phrase_of s (g y >>= k)) v gs a x (λ y u fs i. joins s (g y) k u v fs gs a x i j) u fs h
-joins s (presence_map g) k u v fs gs a x h j = join-unit (Units.presence_map s) (λ y. phrase_of s (g y)) (λ y. phrase_of s (g y >>= k)) v gs a x (λ y u fs i. joins s (g y) k u v fs gs a x i j) u fs h
-joins s (narrow n m g) k u v fs gs a x h j = join-unit (settles (Units.width_checked s n m)) (λ _. phrase_of s g) (λ _. phrase_of s (g >>= k)) v gs a x (λ y u fs i. joins s g k u v fs gs a x i j) u fs h
+joins s (hand e g) k u v fs gs a x h j = join-unit (hands e) (λ _. phrase_of s g) (λ _. phrase_of s (g >>= k)) v gs a x
+    (λ y u fs i. joins s g k u v fs gs a x i j) u fs h
+joins s (integer range nullable c g) k u v fs gs a x h j =
+    join-unit (Units.integer s range nullable c) (λ y. phrase_of s (g y)) (λ y. phrase_of s (g y >>= k)) v gs a x
+    (λ y u fs i. joins s (g y) k u v fs gs a x i j) u fs h
+joins s (ascii_text nullable room g) k u v fs gs a x h j =
+    join-unit (Units.ascii_text nullable room) (λ y. phrase_of s (g y)) (λ y. phrase_of s (g y >>= k)) v gs a x
+    (λ y u fs i. joins s (g y) k u v fs gs a x i j) u fs h
+joins s (raw n g) k u v fs gs a x h j = join-unit (Units.raw n) (λ y. phrase_of s (g y)) (λ y. phrase_of s (g y >>= k)) v gs a x
+    (λ y u fs i. joins s (g y) k u v fs gs a x i j) u fs h
+joins s (presence_map g) k u v fs gs a x h j = join-unit (Units.presence_map s) (λ y. phrase_of s (g y))
+    (λ y. phrase_of s (g y >>= k)) v gs a x (λ y u fs i. joins s (g y) k u v fs gs a x i j) u fs h
+joins s (narrow n m g) k u v fs gs a x h j = join-unit (settles (Units.width_checked s n m)) (λ _. phrase_of s g)
+    (λ _. phrase_of s (g >>= k)) v gs a x (λ y u fs i. joins s g k u v fs gs a x i j) u fs h

@@ -1,6 +1,7 @@
 -- The readers of integers and of maps answer as their phrases.
 use Rattle.std.proofs.Common.{refl, sym, ap, ◌∙◌, subst, arith, inl, inr, T}
-use Rattle.std.specs.Prelude.{◌≡◌, ◌⊎◌, ℕ, zero, suc, ◌≤◌, ◌≤ℤ◌, ◌%◌, Bool, true, false, ◌&&◌, IsTrue, int_le, if◌then◌else◌, ℤ, pos, negsuc, List, [], ◌∷◌, ◌++◌, length, Option, Some, None, IfSome, Result, Ok, Err, Decides}
+use Rattle.std.specs.Prelude.{◌≡◌, ◌⊎◌, ℕ, zero, suc, ◌≤◌, ◌≤ℤ◌, ◌%◌, Bool, true, false, ◌&&◌, IsTrue, int_le, if◌then◌else◌, ℤ, pos}
+use Rattle.std.specs.Prelude.{negsuc, List, [], ◌∷◌, ◌++◌, length, Option, Some, None, IfSome, Result, Ok, Err, Decides}
 use Rattle.std.proofs.lemmas.Bool.{cases_Bool}
 use Rattle.std.proofs.lemmas.Bool.Decides.{Decides-int_eq, Decides-eqb, Decides-and, not_from_Decides}
 use Rattle.fast_wire.specs.meaning.Entities.{IsEntity, IsOverlong}
@@ -104,7 +105,8 @@ module _ (strict : Bool) (range : Range) (nullable : Bool) (outside : Code) (w :
   judged-ok o e = judged-ok-by o (strict && overlong (value range) w) refl e
 
   Wrong : Code → Type 0
-  Wrong c = IsTrue strict × IsOverlong (value range) w × (c ≡ R6) ⊎ ((y : ℤ) × Short × Means nullable (value range w) (Some y) × ¬ (IsWithin range y) × (c ≡ outside))
+  Wrong c = IsTrue strict × IsOverlong (value range) w × (c ≡ R6)
+      ⊎ ((y : ℤ) × Short × Means nullable (value range w) (Some y) × ¬ (IsWithin range y) × (c ≡ outside))
 
   judged-err-by : (c : Code) (b : Bool) → (strict && overlong (value range) w) ≡ b → (if b then Err R6 else fitting range outside sent) ≡ Err c → Wrong c
   unfolding Wrong
@@ -133,7 +135,11 @@ module _ (strict : Bool) (range : Range) (nullable : Bool) (outside : Code) (w :
 
   pub outside-judged : (x : ℤ) → Short → Means nullable (value range w) (Some x) → ¬ (IsWithin range x) → judged strict range nullable outside w ≡ Err outside
   unfolding judged
-  outside-judged x s m f = rw (by-short s, lowered-means nullable (value range w) (Some x) m, no-true (within range x) (λ e. f ((decides-within range x).0 e))) refl
+  outside-judged x s m f = rw (
+    by-short s,
+    lowered-means nullable (value range w) (Some x) m,
+    no-true (within range x) (λ e. f ((decides-within range x).0 e)),
+  ) refl
 
 module _ (strict : Bool) (range : Range) (nullable : Bool) (outside : Code) where
   abbrev judge : List ℕ → Result (Option ℤ) Code
@@ -144,7 +150,14 @@ module _ (strict : Bool) (range : Range) (nullable : Bool) (outside : Code) wher
   integer-closes w es cut h = h
   integer-closes w es (wrong c) (inl h, e) = (inl h, e)
   integer-closes w es (wrong c) (inr (inl h), e) = (inr (h.0, h.1, overlong-judged strict range nullable outside w h.2 h.3 ∙ ap Err (sym h.4)), e)
-  integer-closes w es (wrong c) (inr (inr h), e) = (inr (h.1.entity, h.1.short, outside-judged strict range nullable outside w h.0 h.1.shortest h.2 h.3 ∙ ap Err (sym h.4)), e)
+  integer-closes w es (wrong c) (inr (inr h), e) = (
+    inr (
+      h.1.entity,
+      h.1.short,
+      outside-judged strict range nullable outside w h.0 h.1.shortest h.2 h.3 ∙ ap Err (sym h.4),
+    ),
+    e,
+  )
 
   wrong-int : (w : List ℕ) (c : Code) → IsEntity w → length w ≤ 10 → Wrong strict range nullable outside w c → WrongInt strict range nullable outside w c
   unfolding Wrong

@@ -1,6 +1,7 @@
 -- The readers of ASCII texts and of raw bytes answer as their phrases.
 use Rattle.std.proofs.Common.{refl, sym, ap, ◌∙◌, subst, arith, inl, inr, append_assoc, append-nil, length-append}
-use Rattle.std.specs.Prelude.{◌≡◌, ◌⊎◌, ℕ, zero, suc, ◌+◌, ◌-◌, ◌<◌, ◌≤◌, ◌≢◌, nat_eq, Bool, true, false, nat_le, if◌then◌else◌, List, [], ◌∷◌, ◌++◌, length, Option, Some, None, All}
+use Rattle.std.specs.Prelude.{◌≡◌, ◌⊎◌, ℕ, zero, suc, ◌+◌, ◌-◌, ◌<◌, ◌≤◌, ◌≢◌, nat_eq, Bool, true, false, nat_le, if◌then◌else◌, List, []}
+use Rattle.std.specs.Prelude.{◌∷◌, ◌++◌, length, Option, Some, None, All}
 use Rattle.std.proofs.lemmas.Bool.Decides.{leb_tells, eqb_tells}
 use Rattle.std.proofs.lemmas.List.Elements.{All-cons, All-nil, All-head, All-append}
 use Rattle.fast_wire.specs.meaning.Entities.{HaveNoStop}
@@ -29,7 +30,8 @@ raw-takes zero front w es (wrong c) h = absurd h
 raw-takes (suc n) front [] es (whole v) h = absurd (omega (arith, h.1))
 raw-takes (suc n) front [] es cut h = h.1
 raw-takes (suc n) front [] es (wrong c) h = absurd h
-raw-takes (suc n) front (b ∷ w) es (whole v) h = raw-takes n (front ++ b ∷ []) w es (whole v) (h.0 ∙ sym (append_assoc front (b ∷ []) w), omega (arith, h.1), h.2)
+raw-takes (suc n) front (b ∷ w) es (whole v) h = raw-takes n (front ++ b ∷ []) w es (whole v)
+    (h.0 ∙ sym (append_assoc front (b ∷ []) w), omega (arith, h.1), h.2)
 raw-takes (suc n) front (b ∷ w) es cut h = raw-takes n (front ++ b ∷ []) w es cut (omega (arith, h.0), h.1)
 raw-takes (suc n) front (b ∷ w) es (wrong c) h = absurd h
 
@@ -40,7 +42,8 @@ raw-says zero front w es (wrong c) h = absurd h
 raw-says (suc n) front [] es (whole v) h = absurd h
 raw-says (suc n) front [] es cut h = (omega arith, h)
 raw-says (suc n) front [] es (wrong c) h = absurd h
-raw-says (suc n) front (b ∷ w) es (whole v) h = let k = raw-says n (front ++ b ∷ []) w es (whole v) h in (k.0 ∙ append_assoc front (b ∷ []) w, omega (arith, k.1), k.2)
+raw-says (suc n) front (b ∷ w) es (whole v) h = let k = raw-says n (front ++ b ∷ []) w es (whole v) h in
+    (k.0 ∙ append_assoc front (b ∷ []) w, omega (arith, k.1), k.2)
 raw-says (suc n) front (b ∷ w) es cut h = let k = raw-says n (front ++ b ∷ []) w es cut h in (omega (arith, k.0), k.1)
 raw-says (suc n) front (b ∷ w) es (wrong c) h = raw-says n (front ++ b ∷ []) w es (wrong c) h
 
@@ -63,7 +66,8 @@ nil-snoc (a ∷ init) last d = absurd (cc d)
 
 -- Characters up to a stop, with room for n, behind a front.
 abbrev Characters : ℕ → List ℕ → List ℕ → List EventData → Reached (Option (List ℕ)) → Type 0
-Characters n front w es (whole o) = (init : List ℕ) × (last : ℕ) × (w ≡ init ++ last ∷ []) × HaveNoStop init × (128 ≤ last) × (length init < n) × (o ≡ Some (front ++ (init ++ (last - 128) ∷ []))) × (es ≡ [])
+Characters n front w es (whole o) = (init : List ℕ) × (last : ℕ) × (w ≡ init ++ last ∷ []) × HaveNoStop init × (128 ≤ last)
+    × (length init < n) × (o ≡ Some (front ++ (init ++ (last - 128) ∷ []))) × (es ≡ [])
 Characters n front w es cut = HaveNoStop w × (length w ≤ n) × (es ≡ [])
 Characters n front w es (wrong c) = (init : List ℕ) × (last : ℕ) × (w ≡ init ++ last ∷ []) × HaveNoStop init × (length init ≡ n) × (c ≡ L1) × (es ≡ [])
 
@@ -87,13 +91,15 @@ characters-zero front w es x = (takes w x, says w x)
     says (b ∷ w) cut h = absurd h
     says (b ∷ w) (wrong c) h = ([], b, ap (λ r. b ∷ r) h.0, below-nil, refl, h.2, h.1)
 
-characters-suc : (n : ℕ) (front : List ℕ) → ((b : ℕ) → Alike (Byte (characters_reader n (front ++ b ∷ []))) (Characters n (front ++ b ∷ []))) → Alike (Byte (characters_reader (suc n) front)) (Characters (suc n) front)
+characters-suc : (n : ℕ) (front : List ℕ) → ((b : ℕ) → Alike (Byte (characters_reader n (front ++ b ∷ [])))
+    (Characters n (front ++ b ∷ []))) → Alike (Byte (characters_reader (suc n) front)) (Characters (suc n) front)
 characters-suc n front ih w es x = (takes w x, says w x)
   where
     Test : ℕ → Type 0
     Test b = ((nat_le 128 b ≡ true) × (128 ≤ b)) ⊎ ((nat_le 128 b ≡ false) × (b < 128))
 
-    taken : (b : ℕ) (w : List ℕ) (x : Reached (Option (List ℕ))) → Characters (suc n) front (b ∷ w) es x → Test b → Runs (characters_reader (suc n) front b) w es x
+    taken : (b : ℕ) (w : List ℕ) (x : Reached (Option (List ℕ))) → Characters (suc n) front (b ∷ w) es x → Test b
+        → Runs (characters_reader (suc n) front b) w es x
     taken b w (whole o) ([], last, d, i, l, k, e, f) (inl t) =
         let g : b ≡ last = ap head_of d in
         rw t.0 (ap rest_of d, f, e ∙ ap (λ r. Some (front ++ (r - 128) ∷ [])) (sym g))
@@ -101,12 +107,24 @@ characters-suc n front ih w es x = (takes w x, says w x)
     taken b w (whole o) (c ∷ init, last, d, i, l, k, e, f) (inl t) = let g : b ≡ c = ap head_of d in absurd (omega (arith, t.1, below-head c init i))
     taken b w (whole o) (c ∷ init, last, d, i, l, k, e, f) (inr t) =
         let g : b ≡ c = ap head_of d in
-        rw t.0 ((ih b w es (whole o)).0 (init, last, ap rest_of d, below-rest c init i, l, omega (arith, k), e ∙ ap Some (ap (λ r. front ++ r ∷ (init ++ (last - 128) ∷ [])) (sym g) ∙ sym (append_assoc front (b ∷ []) (init ++ (last - 128) ∷ []))), f))
+        rw t.0 ((ih b w es (whole o)).0 (
+          init,
+          last,
+          ap rest_of d,
+          below-rest c init i,
+          l,
+          omega (arith, k),
+          e
+              ∙ ap Some (ap (λ r. front ++ r ∷ (init ++ (last - 128) ∷ [])) (sym g)
+              ∙ sym (append_assoc front (b ∷ []) (init ++ (last - 128) ∷ []))),
+          f,
+        ))
     taken b w cut h (inl t) = absurd (omega (arith, t.1, below-head b w h.0))
     taken b w cut h (inr t) = rw t.0 ((ih b w es cut).0 (below-rest b w h.0, omega (arith, h.1), h.2))
     taken b w (wrong c) ([], last, d, i, k, e, f) t = absurd (omega (arith, k))
     taken b w (wrong c) (a ∷ init, last, d, i, k, e, f) (inl t) = let g : b ≡ a = ap head_of d in absurd (omega (arith, t.1, below-head a init i))
-    taken b w (wrong c) (a ∷ init, last, d, i, k, e, f) (inr t) = rw t.0 ((ih b w es (wrong c)).0 (init, last, ap rest_of d, below-rest a init i, omega (arith, k), e, f))
+    taken b w (wrong c) (a ∷ init, last, d, i, k, e, f) (inr t) =
+        rw t.0 ((ih b w es (wrong c)).0 (init, last, ap rest_of d, below-rest a init i, omega (arith, k), e, f))
 
     takes : (w : List ℕ) (x : Reached (Option (List ℕ))) → Characters (suc n) front w es x → Runs (Byte (characters_reader (suc n) front)) w es x
     takes [] (whole o) (init, last, d, i, l, k, e, f) = absurd (nil-snoc init last d)
@@ -114,14 +132,26 @@ characters-suc n front ih w es x = (takes w x, says w x)
     takes [] (wrong c) (init, last, d, i, k, e, f) = absurd (nil-snoc init last d)
     takes (b ∷ w) x h = taken b w x h (leb_tells 128 b)
 
-    said : (b : ℕ) (w : List ℕ) (x : Reached (Option (List ℕ))) → Test b → Runs (characters_reader (suc n) front b) w es x → Characters (suc n) front (b ∷ w) es x
-    said b w (whole o) (inl t) h = let k : Runs (Done (Some (front ++ (b - 128) ∷ []))) w es (whole o) = rw t.0 at h in ([], b, ap (λ r. b ∷ r) k.0, below-nil, t.1, omega arith, k.2, k.1)
+    said : (b : ℕ) (w : List ℕ) (x : Reached (Option (List ℕ))) → Test b → Runs (characters_reader (suc n) front b) w es x
+        → Characters (suc n) front (b ∷ w) es x
+    said b w (whole o) (inl t) h = let k : Runs (Done (Some (front ++ (b - 128) ∷ []))) w es (whole o) = rw t.0 at h in
+        ([], b, ap (λ r. b ∷ r) k.0, below-nil, t.1, omega arith, k.2, k.1)
     said b w cut (inl t) h = absurd (rw t.0 at h)
     said b w (wrong c) (inl t) h = absurd (rw t.0 at h)
     said b w (whole o) (inr t) h = on ((ih b w es (whole o)).1 (rw t.0 at h))
       where
         on : Characters n (front ++ b ∷ []) w es (whole o) → Characters (suc n) front (b ∷ w) es (whole o)
-        on (init, last, d, i, l, k, e, f) = (b ∷ init, last, ap (λ r. b ∷ r) d, below-cons b init t.1 i, l, omega (arith, k), e ∙ ap Some (append_assoc front (b ∷ []) (init ++ (last - 128) ∷ [])), f)
+        on (init, last, d, i, l, k, e, f) = (
+          b ∷ init,
+          last,
+          ap (λ r. b ∷ r) d,
+          below-cons b init t.1 i,
+          l,
+          omega (arith, k),
+          e
+              ∙ ap Some (append_assoc front (b ∷ []) (init ++ (last - 128) ∷ [])),
+          f,
+        )
     said b w cut (inr t) h = let k = (ih b w es cut).1 (rw t.0 at h) in (below-cons b w t.1 k.0, omega (arith, k.1), k.2)
     said b w (wrong c) (inr t) h = on ((ih b w es (wrong c)).1 (rw t.0 at h))
       where
@@ -140,7 +170,8 @@ all-characters (suc n) front = characters-suc n front (λ b. all-characters n (f
 
 module _ (nullable : Bool) (room : ℕ) where
   -- where the first byte is neither 0x00 nor 0x80
-  plain-in : (b : ℕ) (w : List ℕ) (es : List EventData) (x : Reached (Option (List ℕ))) → b ≢ 0 → b ≢ 0x80 → ascii_text nullable room (b ∷ w) es x → Characters room [] (b ∷ w) es x
+  plain-in : (b : ℕ) (w : List ℕ) (es : List EventData) (x : Reached (Option (List ℕ))) → b ≢ 0 → b ≢ 0x80
+      → ascii_text nullable room (b ∷ w) es x → Characters room [] (b ∷ w) es x
   plain-in b w es (whole None) z s (h, f) = absurd (s (ap head_of h.1))
   plain-in b w es (whole (Some [])) z s (h, f) = by nullable h
     where
@@ -183,7 +214,8 @@ module _ (nullable : Bool) (room : ℕ) where
         (a ∷ init, last - 128, refl, d ∙ ap (λ r. (a ∷ init) ++ r ∷ []) (omega arith)),
       )
 
-  plain-out : (b : ℕ) (w : List ℕ) (es : List EventData) (x : Reached (Option (List ℕ))) → b ≢ 0 → b ≢ 0x80 → AreBytes (b ∷ w) → Characters room [] (b ∷ w) es x → ascii_text nullable room (b ∷ w) es x
+  plain-out : (b : ℕ) (w : List ℕ) (es : List EventData) (x : Reached (Option (List ℕ))) → b ≢ 0 → b ≢ 0x80 → AreBytes (b ∷ w)
+      → Characters room [] (b ∷ w) es x → ascii_text nullable room (b ∷ w) es x
   plain-out b w es (whole o) z s bs (init, last, d, i, l, k, e, f) =
       let t : last < 256 = All-head (λ a. a < 256) last [] (All-front (λ a. a < 256) init (last ∷ []) (subst (λ r. All (λ a. a < 256) r) d bs)).1 in
       (subst (λ r. SpellsAscii nullable room r (b ∷ w)) (sym e) (spelled b w init last z s d i l t k), f)
@@ -196,24 +228,28 @@ apart e = absurd (omega arith)
 apart' : ◌≡◌ {A = ℕ} 128 0 → ⊥
 apart' e = absurd (omega arith)
 
-zero-in : (nullable : Bool) (room : ℕ) (w : List ℕ) (es : List EventData) (x : Reached (Option (List ℕ))) → ascii_text nullable room (0 ∷ w) es x → Runs (after_zero_reader nullable) w es x
+zero-in : (nullable : Bool) (room : ℕ) (w : List ℕ) (es : List EventData) (x : Reached (Option (List ℕ)))
+    → ascii_text nullable room (0 ∷ w) es x → Runs (after_zero_reader nullable) w es x
 zero-in nullable room w es (whole None) (h, f) = absurd (apart (ap head_of h.1))
 zero-in false room w es (whole (Some [])) (h, f) = absurd (apart (ap head_of h))
 zero-in true room w es (whole (Some [])) (h, f) = let e : w ≡ 0x80 ∷ [] = ap rest_of h in rw e (refl, f, refl)
 zero-in nullable room w es (whole (Some (c ∷ v))) ((n, all, l, ([], last, d, e)), f) = let k : 0 ≡ last + 128 = ap head_of e in absurd (omega arith)
-zero-in nullable room w es (whole (Some (c ∷ v))) ((n, all, l, (a ∷ init, last, d, e)), f) = let k : 0 ≡ a = ap head_of e in let j : c ≡ a = ap head_of d in absurd (n (j ∙ sym k))
+zero-in nullable room w es (whole (Some (c ∷ v))) ((n, all, l, (a ∷ init, last, d, e)), f) = let k : 0 ≡ a = ap head_of e in
+    let j : c ≡ a = ap head_of d in absurd (n (j ∙ sym k))
 zero-in nullable room w es cut (inl (n, l, z), f) = absurd (z (w, refl))
 zero-in false room w es cut (inr h, f) = absurd (grind arith)
 zero-in true room w es cut (inr h, f) = let e : w ≡ [] = ap rest_of h.1 in rw e f
 zero-in false room w es (wrong c) (inl (h, i), f) = (ap rest_of h, f, i)
 zero-in true room w es (wrong c) (inl ((byte, n, h), i), f) = let e : w ≡ byte ∷ [] = ap rest_of h in rw e (by (eqb_tells byte 0x80))
   where
-    by : ((nat_eq byte 0x80 ≡ true) × (byte ≡ 0x80)) ⊎ ((nat_eq byte 0x80 ≡ false) × (byte ≢ 0x80)) → Runs {A = Option (List ℕ)} (if nat_eq byte 0x80 then Done (Some []) else Stop R9) [] es (wrong c)
+    by : ((nat_eq byte 0x80 ≡ true) × (byte ≡ 0x80)) ⊎ ((nat_eq byte 0x80 ≡ false) × (byte ≢ 0x80))
+        → Runs {A = Option (List ℕ)} (if nat_eq byte 0x80 then Done (Some []) else Stop R9) [] es (wrong c)
     by (inl t) = absurd (n t.1)
     by (inr t) = rw t.0 (refl, f, i)
 zero-in nullable room w es (wrong c) (inr ((front, last, d, n, l, z, t), i), f) = absurd (z (w, refl))
 
-zero-out : (nullable : Bool) (room : ℕ) (w : List ℕ) (es : List EventData) (x : Reached (Option (List ℕ))) → Runs (after_zero_reader nullable) w es x → ascii_text nullable room (0 ∷ w) es x
+zero-out : (nullable : Bool) (room : ℕ) (w : List ℕ) (es : List EventData) (x : Reached (Option (List ℕ)))
+    → Runs (after_zero_reader nullable) w es x → ascii_text nullable room (0 ∷ w) es x
 zero-out false room w es (whole o) h = absurd h
 zero-out false room w es cut h = absurd h
 zero-out false room w es (wrong c) h = (inl (ap (λ r. 0 ∷ r) h.0, h.2), h.1)
@@ -222,7 +258,8 @@ zero-out true room [] es cut h = (inr (refl, refl), h)
 zero-out true room [] es (wrong c) h = absurd h
 zero-out true room (b ∷ w) es x h = by x h (eqb_tells b 0x80)
   where
-    by : (x : Reached (Option (List ℕ))) → Runs {A = Option (List ℕ)} (if nat_eq b 0x80 then Done (Some []) else Stop R9) w es x → ((nat_eq b 0x80 ≡ true) × (b ≡ 0x80)) ⊎ ((nat_eq b 0x80 ≡ false) × (b ≢ 0x80)) → ascii_text true room (0 ∷ b ∷ w) es x
+    by : (x : Reached (Option (List ℕ))) → Runs {A = Option (List ℕ)} (if nat_eq b 0x80 then Done (Some []) else Stop R9) w es x
+        → ((nat_eq b 0x80 ≡ true) × (b ≡ 0x80)) ⊎ ((nat_eq b 0x80 ≡ false) × (b ≢ 0x80)) → ascii_text true room (0 ∷ b ∷ w) es x
     by (whole o) h (inl t) =
         let k : Runs {A = Option (List ℕ)} (Done (Some [])) w es (whole o) = rw t.0 at h in
         (subst (λ r. SpellsAscii true room r (0 ∷ b ∷ w)) (sym k.2) (rw (t.1, k.0) refl), k.1)
@@ -234,12 +271,14 @@ zero-out true room (b ∷ w) es x h = by x h (eqb_tells b 0x80)
         let k : Runs {A = Option (List ℕ)} (Stop R9) w es (wrong c) = rw t.0 at h in
         (inl ((b, t.1, ap (λ r. 0 ∷ b ∷ r) k.0), k.2), k.1)
 
-stop-in : (nullable : Bool) (room : ℕ) (w : List ℕ) (es : List EventData) (x : Reached (Option (List ℕ))) → ascii_text nullable room (0x80 ∷ w) es x → Runs (Done (bare_stop nullable)) w es x
+stop-in : (nullable : Bool) (room : ℕ) (w : List ℕ) (es : List EventData) (x : Reached (Option (List ℕ)))
+    → ascii_text nullable room (0x80 ∷ w) es x → Runs (Done (bare_stop nullable)) w es x
 stop-in false room w es (whole None) (h, f) = absurd (grind arith)
 stop-in true room w es (whole None) (h, f) = (ap rest_of h.1, f, refl)
 stop-in false room w es (whole (Some [])) (h, f) = (ap rest_of h, f, refl)
 stop-in true room w es (whole (Some [])) (h, f) = absurd (apart' (ap head_of h))
-stop-in nullable room w es (whole (Some (c ∷ v))) ((n, all, l, ([], last, d, e)), f) = let k : 128 ≡ last + 128 = ap head_of e in let j : c ≡ last = ap head_of d in absurd (n (omega arith))
+stop-in nullable room w es (whole (Some (c ∷ v))) ((n, all, l, ([], last, d, e)), f) = let k : 128 ≡ last + 128 = ap head_of e in
+    let j : c ≡ last = ap head_of d in absurd (n (omega arith))
 stop-in nullable room w es (whole (Some (c ∷ v))) ((n, all, l, (a ∷ init, last, d, e)), f) =
     let k : 128 ≡ a = ap head_of e in let j : c ≡ a = ap head_of d in let i : c < 128 = All-head (λ a. a < 128) c v all in absurd (omega arith)
 stop-in nullable room w es cut (inl (n, l, z), f) = let i : 128 < 128 = below-head 0x80 w n in absurd (omega arith)
@@ -247,9 +286,11 @@ stop-in nullable room w es cut (inr h, f) = absurd (apart' (ap head_of h.1))
 stop-in false room w es (wrong c) (inl (h, i), f) = absurd (apart' (ap head_of h))
 stop-in true room w es (wrong c) (inl ((byte, n, h), i), f) = absurd (apart' (ap head_of h))
 stop-in nullable room w es (wrong c) (inr (([], last, d, n, l, z, t), i), f) = absurd (t (ap (λ r. 0x80 ∷ r) (ap rest_of d)))
-stop-in nullable room w es (wrong c) (inr ((a ∷ front, last, d, n, l, z, t), i), f) = let k : 128 ≡ a = ap head_of d in let i : a < 128 = below-head a front n in absurd (omega arith)
+stop-in nullable room w es (wrong c) (inr ((a ∷ front, last, d, n, l, z, t), i), f) = let k : 128 ≡ a = ap head_of d in
+    let i : a < 128 = below-head a front n in absurd (omega arith)
 
-stop-out : (nullable : Bool) (room : ℕ) (w : List ℕ) (es : List EventData) (x : Reached (Option (List ℕ))) → Runs (Done (bare_stop nullable)) w es x → ascii_text nullable room (0x80 ∷ w) es x
+stop-out : (nullable : Bool) (room : ℕ) (w : List ℕ) (es : List EventData) (x : Reached (Option (List ℕ)))
+    → Runs (Done (bare_stop nullable)) w es x → ascii_text nullable room (0x80 ∷ w) es x
 stop-out false room w es (whole o) h = (subst (λ r. SpellsAscii false room r (0x80 ∷ w)) (sym h.2) (ap (λ r. 0x80 ∷ r) h.0), h.1)
 stop-out true room w es (whole o) h = (subst (λ r. SpellsAscii true room r (0x80 ∷ w)) (sym h.2) (refl, ap (λ r. 0x80 ∷ r) h.0), h.1)
 stop-out nullable room w es cut h = absurd h
@@ -262,19 +303,22 @@ module _ (nullable : Bool) (room : ℕ) where
   Eighty : ℕ → Type 0
   Eighty b = ((nat_eq b 0x80 ≡ true) × (b ≡ 0x80)) ⊎ ((nat_eq b 0x80 ≡ false) × (b ≢ 0x80))
 
-  first-in : (b : ℕ) (w : List ℕ) (es : List EventData) (x : Reached (Option (List ℕ))) → Zero b → Eighty b → ascii_text nullable room (b ∷ w) es x → Runs (first_character_reader nullable room b) w es x
+  first-in : (b : ℕ) (w : List ℕ) (es : List EventData) (x : Reached (Option (List ℕ))) → Zero b → Eighty b
+      → ascii_text nullable room (b ∷ w) es x → Runs (first_character_reader nullable room b) w es x
   unfolding Zero Eighty
   first-in b w es x (inl z) s h = rw z.0 (zero-in nullable room w es x (subst (λ r. ascii_text nullable room (r ∷ w) es x) z.1 h))
   first-in b w es x (inr z) (inl s) h = rw (z.0, s.0) (stop-in nullable room w es x (subst (λ r. ascii_text nullable room (r ∷ w) es x) s.1 h))
   first-in b w es x (inr z) (inr s) h = rw (z.0, s.0) ((all-characters room [] (b ∷ w) es x).0 (plain-in nullable room b w es x z.1 s.1 h))
 
-  first-out : (b : ℕ) (w : List ℕ) (es : List EventData) (x : Reached (Option (List ℕ))) → AreBytes (b ∷ w) → Zero b → Eighty b → Runs (first_character_reader nullable room b) w es x → ascii_text nullable room (b ∷ w) es x
+  first-out : (b : ℕ) (w : List ℕ) (es : List EventData) (x : Reached (Option (List ℕ))) → AreBytes (b ∷ w) → Zero b → Eighty b
+      → Runs (first_character_reader nullable room b) w es x → ascii_text nullable room (b ∷ w) es x
   unfolding Zero Eighty
   first-out b w es x bs (inl z) s h = subst (λ r. ascii_text nullable room (r ∷ w) es x) (sym z.1) (zero-out nullable room w es x (rw z.0 at h))
   first-out b w es x bs (inr z) (inl s) h = subst (λ r. ascii_text nullable room (r ∷ w) es x) (sym s.1) (stop-out nullable room w es x (rw (z.0, s.0) at h))
   first-out b w es x bs (inr z) (inr s) h = plain-out nullable room b w es x z.1 s.1 bs ((all-characters room [] (b ∷ w) es x).1 (rw (z.0, s.0) at h))
 
-  ascii-takes : (w : List ℕ) (es : List EventData) (x : Reached (Option (List ℕ))) → ascii_text nullable room w es x → Runs (Byte (first_character_reader nullable room)) w es x
+  ascii-takes : (w : List ℕ) (es : List EventData) (x : Reached (Option (List ℕ))) → ascii_text nullable room w es x
+      → Runs (Byte (first_character_reader nullable room)) w es x
   unfolding Zero Eighty
   ascii-takes [] es (whole None) (h, f) = absurd (cc h.1)
   ascii-takes [] es (whole (Some [])) (h, f) = by nullable h
@@ -292,7 +336,8 @@ module _ (nullable : Bool) (room : ℕ) where
   ascii-takes [] es (wrong c) (inr ((front, last, d, n, l, z, t), i), f) = absurd (nil-snoc front last d)
   ascii-takes (b ∷ w) es x h = first-in b w es x (eqb_tells b 0) (eqb_tells b 0x80) h
 
-  ascii-says : (w : List ℕ) (es : List EventData) (x : Reached (Option (List ℕ))) → AreBytes w → Runs (Byte (first_character_reader nullable room)) w es x → ascii_text nullable room w es x
+  ascii-says : (w : List ℕ) (es : List EventData) (x : Reached (Option (List ℕ))) → AreBytes w
+      → Runs (Byte (first_character_reader nullable room)) w es x → ascii_text nullable room w es x
   unfolding Zero Eighty
   ascii-says [] es (whole o) bs h = absurd h
   ascii-says [] es cut bs h = (inl (below-nil, omega arith, λ (rest, e). cc e), h)

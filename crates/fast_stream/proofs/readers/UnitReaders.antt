@@ -90,7 +90,9 @@ entity-none c front = record { takes = takes; says = λ w es x b h. says w es x 
     says w es cut h = absurd h
     says w es (wrong d) h = (rw h.0 below-nil, rw h.0 refl, h.2, h.1)
 
-entity-step : (c : Code) (n : ℕ) (front : List ℕ) → ((b : ℕ) → Reads (entity_reader c n (front ++ b ∷ [])) (entity_phrase c n (front ++ b ∷ []))) → Reads (entity_reader c (suc n) front) (entity_phrase c (suc n) front)
+entity-step : (c : Code) (n : ℕ) (front : List ℕ) → ((b : ℕ)
+    → Reads (entity_reader c n (front ++ b ∷ [])) (entity_phrase c n (front ++ b ∷ [])))
+    → Reads (entity_reader c (suc n) front) (entity_phrase c (suc n) front)
 entity-step c n front ih = record { takes = takes; says = says }
   where
     Test : ℕ → Type 0
@@ -101,7 +103,8 @@ entity-step c n front ih = record { takes = takes; says = says }
 
     taken : (b : ℕ) (w : List ℕ) (es : List EventData) (x : Reached (List ℕ)) → entity_phrase c (suc n) front (b ∷ w) es x → Test b → Runs (after b) w es x
     taken b w es (whole m) h (inl i) = let e : w ≡ [] = entity-stops b w i.1 h.0 in rw i.0 (e, h.3, h.2 ∙ ap (λ r. front ++ b ∷ r) e)
-    taken b w es (whole m) h (inr i) = rw i.0 ((ih b).takes w es (whole m) (entity-rest b w i.1 h.0, omega (arith, h.1), h.2 ∙ sym (append_assoc front (b ∷ []) w), h.3))
+    taken b w es (whole m) h (inr i) = rw i.0 ((ih b).takes w es (whole m)
+        (entity-rest b w i.1 h.0, omega (arith, h.1), h.2 ∙ sym (append_assoc front (b ∷ []) w), h.3))
     taken b w es cut h (inl i) = absurd (omega (arith, i.1, below-head b w h.0))
     taken b w es cut h (inr i) = rw i.0 ((ih b).takes w es cut (below-rest b w h.0, omega (arith, h.1), h.2))
     taken b w es (wrong d) h (inl i) = absurd (omega (arith, i.1, below-head b w h.0))
@@ -113,21 +116,25 @@ entity-step c n front ih = record { takes = takes; says = says }
     takes [] es (wrong d) h = absurd (omega (arith, h.1))
     takes (b ∷ w) es x h = taken b w es x h (leb_tells 128 b)
 
-    stopped : (b : ℕ) (w : List ℕ) (es : List EventData) (x : Reached (List ℕ)) → 128 ≤ b → Ends (front ++ b ∷ []) w es x → entity_phrase c (suc n) front (b ∷ w) es x
+    stopped : (b : ℕ) (w : List ℕ) (es : List EventData) (x : Reached (List ℕ)) → 128 ≤ b → Ends (front ++ b ∷ []) w es x
+        → entity_phrase c (suc n) front (b ∷ w) es x
     stopped b w es (whole m) l h = rw h.0 (entity-one b l, omega arith, h.2, h.1)
     stopped b w es cut l h = absurd h
     stopped b w es (wrong d) l h = absurd h
 
-    longer : (b : ℕ) (w : List ℕ) (es : List EventData) (x : Reached (List ℕ)) → b < 128 → entity_phrase c n (front ++ b ∷ []) w es x → entity_phrase c (suc n) front (b ∷ w) es x
+    longer : (b : ℕ) (w : List ℕ) (es : List EventData) (x : Reached (List ℕ)) → b < 128 → entity_phrase c n (front ++ b ∷ []) w es x
+        → entity_phrase c (suc n) front (b ∷ w) es x
     longer b w es (whole m) l h = (entity-cons b w l h.0, omega (arith, h.1), h.2 ∙ append_assoc front (b ∷ []) w, h.3)
     longer b w es cut l h = (below-cons b w l h.0, omega (arith, h.1), h.2)
     longer b w es (wrong d) l h = (below-cons b w l h.0, omega (arith, h.1), h.2, h.3)
 
-    said : (b : ℕ) (w : List ℕ) (es : List EventData) (x : Reached (List ℕ)) → AreBytes w → Test b → Runs (after b) w es x → entity_phrase c (suc n) front (b ∷ w) es x
+    said : (b : ℕ) (w : List ℕ) (es : List EventData) (x : Reached (List ℕ)) → AreBytes w → Test b → Runs (after b) w es x
+        → entity_phrase c (suc n) front (b ∷ w) es x
     said b w es x bs (inl i) h = stopped b w es x i.1 (rw i.0 at h)
     said b w es x bs (inr i) h = longer b w es x i.1 ((ih b).says w es x bs (rw i.0 at h))
 
-    says : (w : List ℕ) (es : List EventData) (x : Reached (List ℕ)) → AreBytes w → Runs (entity_reader c (suc n) front) w es x → entity_phrase c (suc n) front w es x
+    says : (w : List ℕ) (es : List EventData) (x : Reached (List ℕ)) → AreBytes w → Runs (entity_reader c (suc n) front) w es x
+        → entity_phrase c (suc n) front w es x
     says [] es (whole m) bs h = absurd h
     says [] es cut bs h = (below-nil, omega arith, h)
     says [] es (wrong d) bs h = absurd h
@@ -143,7 +150,8 @@ unfolding settles gives
 settled-whole (Ok b) w es a h = (h.0, h.1, ap Ok (sym h.2))
 settled-whole (Err c) w es a h = absurd h
 
-pub settled-wrong : {A : Type 0} (r : Result A Code) (w : List ℕ) (es : List EventData) (c : Code) → settles r w es (wrong c) → (w ≡ []) × (es ≡ []) × (r ≡ Err c)
+pub settled-wrong : {A : Type 0} (r : Result A Code) (w : List ℕ) (es : List EventData) (c : Code) → settles r w es (wrong c)
+    → (w ≡ []) × (es ≡ []) × (r ≡ Err c)
 unfolding settles gives
 settled-wrong (Ok b) w es c h = absurd h
 settled-wrong (Err d) w es c h = (h.0, h.1, ap Err (sym h.2))

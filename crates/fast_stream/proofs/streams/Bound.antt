@@ -14,12 +14,14 @@ use Rattle.fast_dict.specs.meaning.Dictionary.{Dictionary, fresh}
 use Rattle.fast_stream.specs.meaning.Events.{EventData, MessageStart, MessageEnd, events}
 use Rattle.fast_stream.specs.meaning.Phrases.{Reached, whole, cut, wrong}
 use Rattle.fast_stream.specs.meaning.Grammar.{Grammar, give, fault, hand, integer, ascii_text, raw, presence_map, narrow}
-use Rattle.fast_stream.specs.meaning.Messages.{begin, State, Found, body_term, template_of, reset_if, message_of, message_behind, message_term, message, SpellsMessage}
+use Rattle.fast_stream.specs.meaning.Messages.{begin, State, Found, body_term, template_of, reset_if, message_of, message_behind}
+use Rattle.fast_stream.specs.meaning.Messages.{message_term, message, SpellsMessage}
 use Rattle.fast_stream.specs.meaning.Streams.{End, between, inside, faulted, SpellsAll, Chain, Stream}
 use Rattle.fast_stream.specs.meaning.Account.{account_at}
 use Rattle.fast_stream.proofs.terms.MessageEvents.{named}
 use Rattle.fast_stream.proofs.streams.Reading.{reads-first}
-use Rattle.fast_stream.proofs.terms.Costs.{Paid, paid-phrase, Costs, costs-more, costs-bind, costs-hand, costs-result, costs-field, counted_in, product-body, sum-body}
+use Rattle.fast_stream.proofs.terms.Costs.{Paid, paid-phrase, Costs, costs-more, costs-bind, costs-hand, costs-result, costs-field}
+use Rattle.fast_stream.proofs.terms.Costs.{counted_in, product-body, sum-body}
 
 no_operator : (n : ℕ) → length {A = EventData} [] ≤ n
 no_operator n = omega arith
@@ -61,10 +63,12 @@ module _ (t : Tree) (l : Limits) where
   abbrev T : ℕ
   T = l.max_total
 
-  costs-message_of : (W n at : ℕ) (u : TemplateData) (s : State) → s.context.counted ≤ 0 → ((s : State) → s.context.counted ≤ T → Costs W T s.context.counted n (body_term (bounds l) u.body s) counted_in)
+  costs-message_of : (W n at : ℕ) (u : TemplateData) (s : State) → s.context.counted ≤ 0
+      → ((s : State) → s.context.counted ≤ T → Costs W T s.context.counted n (body_term (bounds l) u.body s) counted_in)
       → Costs W T s.context.counted (2 + n) (message_of (bounds l) at u s) (λ _. T)
   costs-message_of W n at u s i h = costs-more (2 + n) (omega arith) (costs-hand (MessageStart at) (costs-bind n 1
-      (subst (λ c. Costs W T c n (body_term (bounds l) u.body (reset_if u.reset s)) counted_in) (resets u.reset s) (h (reset_if u.reset s) (few (reset_if u.reset s).context.counted s.context.counted (resets u.reset s) i)))
+      (subst (λ c. Costs W T c n (body_term (bounds l) u.body (reset_if u.reset s)) counted_in) (resets u.reset s)
+      (h (reset_if u.reset s) (few (reset_if u.reset s).context.counted s.context.counted (resets u.reset s) i)))
       (λ r j. costs-hand MessageEnd (record { paid = (wide (counted_in r * W) (T * W) (mul-le-mul_right W j), le_refl T) }))))
     where
       few : (c d : ℕ) → c ≡ d → d ≤ 0 → c ≤ T
@@ -74,37 +78,56 @@ module _ (t : Tree) (l : Limits) where
       wide x y h = omega (arith, h)
 
   -- a message of a template, for all that is counted
-  most-message_of : (W n most at : ℕ) (u : TemplateData) (s : State) → s.context.counted ≤ 0 → ((s : State) → s.context.counted ≤ T → Costs W T s.context.counted n (body_term (bounds l) u.body s) counted_in)
+  most-message_of : (W n most at : ℕ) (u : TemplateData) (s : State) → s.context.counted ≤ 0
+      → ((s : State) → s.context.counted ≤ T → Costs W T s.context.counted n (body_term (bounds l) u.body s) counted_in)
       → (2 + n) + T * W ≤ most → Costs 0 0 s.context.counted most (message_of (bounds l) at u s) (λ _. 0)
   most-message_of W n most at u s i h e = costs-more most e (record {
     paid =
-        in-all W T (message_of (bounds l) at u s) (λ _. T) (s.context.counted * W) (2 + n) (s.context.counted * 0) (omega arith) (costs-message_of W n at u s i h).paid;
+        in-all W T (message_of (bounds l) at u s) (λ _. T) (s.context.counted * W) (2 + n) (s.context.counted * 0) (omega arith)
+        (costs-message_of W n at u s i h).paid;
   })
 
   -- a message, whatever its template
-  most-message : (most : ℕ) → ((at : ℕ) (u : TemplateData) (s : State) → slice_get t.templates at ≡ Some u → s.context.counted ≤ 0 → Costs 0 0 s.context.counted most (message_of (bounds l) at u s) (λ _. 0))
+  most-message : (most : ℕ) → ((at : ℕ) (u : TemplateData) (s : State) → slice_get t.templates at ≡ Some u → s.context.counted ≤ 0
+      → Costs 0 0 s.context.counted most (message_of (bounds l) at u s) (λ _. 0))
       → (d : Dictionary) → AtMost most (message_term t (bounds l) d)
   unfolding message_term
-  most-message most f d = record { at-most = record { paid = (free 0 most, λ m. (costs-more {c = 0} most (omega arith) (costs-bind 0 most (costs-field 0 0 (bounds l) identifier (begin d (bits m)) (le_refl 0)) (λ id i. behind m id i))).paid) } }
+  most-message most f d = record {
+    at-most = record {
+      paid = (
+        free 0 most,
+        λ m. (costs-more {c = 0} most (omega arith)
+            (costs-bind 0 most (costs-field 0 0 (bounds l) identifier (begin d (bits m)) (le_refl 0)) (λ id i. behind m id i))).paid,
+      );
+    };
+  }
     where
       free : (c n : ℕ) → c * 0 ≤ n + 0 * 0
       free c n = omega arith
 
       behind : (m : List ℕ) (id : Found) → counted_in id ≤ 0 → Costs 0 0 (counted_in id) most (message_behind t (bounds l) m id) (λ _. 0)
-      behind m id i = costs-result (template_of t id.0) most i (λ u e. record { paid = (free (counted_in id) most, (f u.0 u.1 id.1 (named t id.0 u e) i).paid) })
+      behind m id i = costs-result (template_of t id.0) most i
+          (λ u e. record { paid = (free (counted_in id) most, (f u.0 u.1 id.1 (named t id.0 u e) i).paid) })
 
   -- the bound of a term is one of its phrase
-  bounded : (most : ℕ) (d : Dictionary) (w : List ℕ) (es : List EventData) (x : Reached (MessageData × Dictionary)) → AtMost most (message_term t (bounds l) d) → message t l d w es x → length es ≤ most
+  bounded : (most : ℕ) (d : Dictionary) (w : List ℕ) (es : List EventData) (x : Reached (MessageData × Dictionary))
+      → AtMost most (message_term t (bounds l) d) → message t l d w es x → length es ≤ most
   bounded most d w es x h i = plain (length es) most (paid-phrase 0 0 l.strict (message_term t (bounds l) d) (λ _. 0) (0 * 0) most h.at-most.paid w es x i)
     where
       plain : (n most : ℕ) → n + 0 * 0 ≤ most + 0 * 0 → n ≤ most
       plain n most h = omega (arith, h)
 
-  pub message-bound : (d : Dictionary) (w : List ℕ) (es : List EventData) (x : Reached (MessageData × Dictionary)) → message t l d w es x → length es ≤ message_cap t l
+  pub message-bound : (d : Dictionary) (w : List ℕ) (es : List EventData) (x : Reached (MessageData × Dictionary)) → message t l d w es x
+      → length es ≤ message_cap t l
   message-bound d w es x h = le-min
-      (bounded (product_cap event_weights t l) d w es x (most-message (product_cap event_weights t l) (λ at u s e i. most-message_of 0 (body_size event_weights l u.body) (product_cap event_weights t l) at u s i (product-body l u.body)
-      (unpaid (body_size event_weights l u.body) l.max_total (product_cap event_weights t l) (greatest-at (λ v. 2 + body_size event_weights l v.body) t.templates at u e))) d) h)
-      (bounded (sum_cap event_weights t l) d w es x (most-message (sum_cap event_weights t l) (λ at u s e i. most-message_of (body_widest event_weights u.body) (body_outer event_weights u.body) (sum_cap event_weights t l) at u s i
+      (bounded (product_cap event_weights t l) d w es x (most-message (product_cap event_weights t l)
+      (λ at u s e i. most-message_of 0 (body_size event_weights l u.body) (product_cap event_weights t l) at u s i
+      (product-body l u.body)
+      (unpaid (body_size event_weights l u.body) l.max_total (product_cap event_weights t l)
+      (greatest-at (λ v. 2 + body_size event_weights l v.body) t.templates at u e))) d) h)
+      (bounded (sum_cap event_weights t l) d w es x (most-message (sum_cap event_weights t l)
+      (λ at u s e i. most-message_of (body_widest event_weights u.body) (body_outer event_weights u.body)
+      (sum_cap event_weights t l) at u s i
       (sum-body l (body_widest event_weights u.body) u.body (le_refl (body_widest event_weights u.body)))
       (greatest-at (λ v. 2 + body_outer event_weights v.body + l.max_total * body_widest event_weights v.body) t.templates at u e)) d) h)
     where
@@ -130,14 +153,17 @@ module _ (t : Tree) (l : Limits) where
   unfolding SpellsMessage
   all-bound [] d d' w h = no_operator (length w * M)
   all-bound (m ∷ ms) d d' w (u, v, mid, h, i, e) = rw (e, length-append u v, length-append (events t m) (flat_map (events t) ms))
-      (pay (length (events t m)) (length (flat_map (events t) ms)) (length u) (length v) (message-bound d u (events t m) (whole (m, mid)) h) (all-bound ms mid d' v i) (takes-a-byte d u (events t m) (m, mid) h))
+      (pay (length (events t m)) (length (flat_map (events t) ms)) (length u) (length v)
+      (message-bound d u (events t m) (whole (m, mid)) h) (all-bound ms mid d' v i) (takes-a-byte d u (events t m) (m, mid) h))
 
   chain-bound : (w : List ℕ) (es : List EventData) (d : Dictionary) → Chain t l w es d → length es ≤ length w * M
   chain-bound w es d (ms, h, e) = rw e (all-bound ms (fresh t.entries) d w h)
 
   -- a chain, and one message more of at least a byte
-  open-bound : (u v : List ℕ) (fs gs : List EventData) (d : Dictionary) (x : Reached (MessageData × Dictionary)) → Chain t l u fs d → message t l d v gs x → 1 ≤ length v → length (fs ++ gs) ≤ length (u ++ v) * M
-  open-bound u v fs gs d x h i j = rw (length-append fs gs, length-append u v) (swap (length fs) (length gs) (length u) (length v) (chain-bound u fs d h) (message-bound d v gs x i) j)
+  open-bound : (u v : List ℕ) (fs gs : List EventData) (d : Dictionary) (x : Reached (MessageData × Dictionary)) → Chain t l u fs d
+      → message t l d v gs x → 1 ≤ length v → length (fs ++ gs) ≤ length (u ++ v) * M
+  open-bound u v fs gs d x h i j = rw (length-append fs gs, length-append u v)
+      (swap (length fs) (length gs) (length u) (length v) (chain-bound u fs d h) (message-bound d v gs x i) j)
     where
       swap : (x y a b : ℕ) → x ≤ a * M → y ≤ M → 1 ≤ b → x + y ≤ (a + b) * M
       swap x y a b h i j = rw (add_comm x y, add_comm a b) (pay y x b a i h j)

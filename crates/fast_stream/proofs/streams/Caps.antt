@@ -21,23 +21,28 @@ pub stream_begins : (t : Tree) (l : Limits) (w : List ℕ) (es : List EventData)
 unfolding Stream
 stream_begins t l w es between (d, (ms, h, i)) = (length ms, (ms, d, h, refl))
 stream_begins t l w es inside (u, v, fs, gs, d, (ms, h, j), i, some, split, k) = (suc (length ms), (u, v, ms, gs, d, h, i, some, split, refl))
-stream_begins t l w es (faulted c place) (u, v, rest, fs, gs, d, (ms, h, j), i, at, split, k) = (suc (length ms), (u, v, rest, ms, gs, d, h, i, at, split, refl))
+stream_begins t l w es (faulted c place) (u, v, rest, fs, gs, d, (ms, h, j), i, at, split, k) =
+    (suc (length ms), (u, v, rest, ms, gs, d, h, i, at, split, refl))
 
 module _ (t : Tree) (l : Limits) where
-  whole_bound : (ms : List MessageData) (d d' : Dictionary) (w : List ℕ) → SpellsAll t l d ms w d' → length (flat_map (events t) ms) ≤ length ms * message_cap t l
+  whole_bound : (ms : List MessageData) (d d' : Dictionary) (w : List ℕ) → SpellsAll t l d ms w d'
+      → length (flat_map (events t) ms) ≤ length ms * message_cap t l
   unfolding SpellsMessage
   whole_bound [] d d' w h = none (length {A = MessageData} [] * message_cap t l)
     where
       none : (n : ℕ) → length {A = EventData} [] ≤ n
       none n = omega arith
   whole_bound (m ∷ ms) d d' w (u, v, mid, h, i, e) = rw (length-append (events t m) (flat_map (events t) ms), suc-mul (length ms) (message_cap t l))
-      (both (length (events t m)) (length (flat_map (events t) ms)) (message_cap t l) (length ms * message_cap t l) (message-bound t l d u (events t m) (whole (m, mid)) h) (whole_bound ms mid d' v i))
+      (both (length (events t m)) (length (flat_map (events t) ms)) (message_cap t l) (length ms * message_cap t l)
+      (message-bound t l d u (events t m) (whole (m, mid)) h) (whole_bound ms mid d' v i))
     where
       both : (x y m n : ℕ) → x ≤ m → y ≤ n → x + y ≤ n + m
       both x y m n h i = omega (arith, h, i)
 
-  last_bound : (ms : List MessageData) (gs : List EventData) → length (flat_map (events t) ms) ≤ length ms * message_cap t l → length gs ≤ message_cap t l → length (flat_map (events t) ms ++ gs) ≤ suc (length ms) * message_cap t l
-  last_bound ms gs h i = rw (length-append (flat_map (events t) ms) gs, suc-mul (length ms) (message_cap t l)) (both (length (flat_map (events t) ms)) (length gs) (length ms * message_cap t l) (message_cap t l) h i)
+  last_bound : (ms : List MessageData) (gs : List EventData) → length (flat_map (events t) ms) ≤ length ms * message_cap t l
+      → length gs ≤ message_cap t l → length (flat_map (events t) ms ++ gs) ≤ suc (length ms) * message_cap t l
+  last_bound ms gs h i = rw (length-append (flat_map (events t) ms) gs, suc-mul (length ms) (message_cap t l))
+      (both (length (flat_map (events t) ms)) (length gs) (length ms * message_cap t l) (message_cap t l) h i)
     where
       both : (x y m n : ℕ) → x ≤ m → y ≤ n → x + y ≤ m + n
       both x y m n h i = omega (arith, h, i)
@@ -48,10 +53,18 @@ module _ (t : Tree) (l : Limits) where
   begun_bound w es between n h (ms, d, i, count) =
       rw (count, (one_answer t l w es (flat_map (events t) ms) between between h (d, (ms, i, refl))).0) (whole_bound ms _ d w i)
   begun_bound w es inside n h (u, v, ms, gs, d, i, j, some, split, count) =
-      rw (count, (one_answer t l w es (flat_map (events t) ms ++ gs) inside inside h (u, v, flat_map (events t) ms, gs, d, (ms, i, refl), j, some, split, refl)).0)
+      rw (
+        count,
+        (one_answer t l w es (flat_map (events t) ms ++ gs) inside inside h
+            (u, v, flat_map (events t) ms, gs, d, (ms, i, refl), j, some, split, refl)).0,
+      )
       (last_bound ms gs (whole_bound ms _ d u i) (message-bound t l d v gs cut j))
   begun_bound w es (faulted c place) n h (u, v, rest, ms, gs, d, i, j, at, split, count) =
-      rw (count, (one_answer t l w es (flat_map (events t) ms ++ gs) (faulted c place) (faulted c place) h (u, v, rest, flat_map (events t) ms, gs, d, (ms, i, refl), j, at, split, refl)).0)
+      rw (
+        count,
+        (one_answer t l w es (flat_map (events t) ms ++ gs) (faulted c place) (faulted c place) h
+            (u, v, rest, flat_map (events t) ms, gs, d, (ms, i, refl), j, at, split, refl)).0,
+      )
       (last_bound ms gs (whole_bound ms _ d u i) (message-bound t l d v gs (wrong c) j))
 
 -- The parts of a body.
@@ -77,8 +90,11 @@ widest_joined u end b = none_wider (body_widest u b)
 widest_joined u (step i is) b = ap (λ n. max (widest u i) n) (widest_joined u is b) ∙ sym (max_assoc (widest u i) (body_widest u is) (body_widest u b))
 
 -- An element of a sequence.
-pub element_size : (u : Weights) (l : Limits) (at : Label) (f : FieldData) (body : Body) → 1 ≤ l.max_elements → 2 + body_size u l body ≤ size u l (sequence at f body)
-element_size u l at f body some = up (2 + body_size u l body) (l.max_elements * (2 + body_size u l body)) u.sequence (subst (λ n. n ≤ l.max_elements * (2 + body_size u l body)) (one-mul (2 + body_size u l body)) (mul-le-mul_right (2 + body_size u l body) some))
+pub element_size : (u : Weights) (l : Limits) (at : Label) (f : FieldData) (body : Body) → 1 ≤ l.max_elements
+    → 2 + body_size u l body ≤ size u l (sequence at f body)
+element_size u l at f body some = up (2 + body_size u l body) (l.max_elements * (2 + body_size u l body)) u.sequence
+    (subst (λ n. n ≤ l.max_elements * (2 + body_size u l body)) (one-mul (2 + body_size u l body))
+    (mul-le-mul_right (2 + body_size u l body) some))
   where
     up : (x y s : ℕ) → x ≤ y → x ≤ s + y
     up x y s h = omega (arith, h)

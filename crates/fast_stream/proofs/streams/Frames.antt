@@ -12,7 +12,8 @@ use Rattle.fast_dict.specs.meaning.Operators.{ranged}
 use Rattle.fast_stream.specs.meaning.Events.{GroupStart, GroupEnd, SequenceStart, ElementEnd, SequenceEnd, MessageStart, MessageEnd}
 use Rattle.fast_stream.specs.meaning.Grammar.{Grammar, give, hand, ◌>>=◌, of_result}
 use Rattle.fast_stream.specs.meaning.Messages.{Context, State, Found, field_in, count_more, length_in, decimal_with, reset_if}
-use Rattle.fast_stream.specs.device.Continuations.{handed_then, segment_then, elements_then, group_if_then, sequence_from_then, instruction_then, body_then, message_of_then}
+use Rattle.fast_stream.specs.device.Continuations.{handed_then, segment_then, elements_then, group_if_then, sequence_from_then}
+use Rattle.fast_stream.specs.device.Continuations.{instruction_then, body_then, message_of_then}
 use Rattle.fast_stream.specs.device.Frames.{Frame, open_group, open_element, unwind, resume}
 pub use Rattle.fast_stream.specs.device.Frames.{opened, elements_turn}
 
@@ -27,7 +28,8 @@ at_field l fs at f is s = refl
 
 abbrev pub mantissa_turn : Bounds → List Frame → ℕ → FieldData → Body → Found → Grammar Dictionary
 mantissa_turn l fs n m is (None, s) = resume l fs is s
-mantissa_turn l fs n m is (Some e, s) = of_result (ranged exponent_range R1 (integer_of e)) >>= (λ x. field_in l m s >>= (λ r. handed_then n (resume l fs is) (decimal_with x r.0) r.1))
+mantissa_turn l fs n m is (Some e, s) = of_result (ranged exponent_range R1 (integer_of e)) >>=
+    (λ x. field_in l m s >>= (λ r. handed_then n (resume l fs is) (decimal_with x r.0) r.1))
 
 pub at_parts : (l : Bounds) (fs : List Frame) (at : Label) (e m : FieldData) (is : Body) (s : State)
     → resume l fs (step (parts at e m) is) s ≡ (field_in l e s >>= mantissa_turn l fs at.node m is)
@@ -60,17 +62,21 @@ counting n s = record s { context = count_more n s.context }
 
 abbrev pub sequence_turn : Bounds → List Frame → ℕ → Body → Body → Found → Grammar Dictionary
 sequence_turn l fs n body is (None, s) = resume l fs is s
-sequence_turn l fs n body is (Some v, s) = of_result (length_in l s.context v) >>= (λ count. hand (SequenceStart n count) (elements_turn l fs count body is (counting count s)))
+sequence_turn l fs n body is (Some v, s) = of_result (length_in l s.context v) >>=
+    (λ count. hand (SequenceStart n count) (elements_turn l fs count body is (counting count s)))
 
 elements-same : (l : Bounds) (fs : List Frame) (n : ℕ) (body is : Body) (s : State)
-    → elements_then (segment_then body (body_then l body)) n s.context (λ d. hand SequenceEnd (resume l fs is (record s { context = d }))) ≡ elements_turn l fs n body is s
+    → elements_then (segment_then body (body_then l body)) n s.context
+    (λ d. hand SequenceEnd (resume l fs is (record s { context = d }))) ≡ elements_turn l fs n body is s
 unfolding resume unwind
 elements-same l fs zero body is s = refl
 elements-same l fs (suc n) body is s = refl
 
-pub sequence-same : (l : Bounds) (fs : List Frame) (n : ℕ) (body is : Body) (r : Found) → sequence_from_then l n (segment_then body (body_then l body)) (resume l fs is) r ≡ sequence_turn l fs n body is r
+pub sequence-same : (l : Bounds) (fs : List Frame) (n : ℕ) (body is : Body) (r : Found)
+    → sequence_from_then l n (segment_then body (body_then l body)) (resume l fs is) r ≡ sequence_turn l fs n body is r
 sequence-same l fs n body is (None, s) = refl
-sequence-same l fs n body is (Some v, s) = ap (λ k. of_result (length_in l s.context v) >>= k) (fun_ext (λ c. ap (λ q. hand (SequenceStart n c) q) (elements-same l fs c body is (counting c s))))
+sequence-same l fs n body is (Some v, s) = ap (λ k. of_result (length_in l s.context v) >>= k)
+    (fun_ext (λ c. ap (λ q. hand (SequenceStart n c) q) (elements-same l fs c body is (counting c s))))
 
 pub at_sequence : (l : Bounds) (fs : List Frame) (at : Label) (f : FieldData) (body is : Body) (s : State)
     → resume l fs (step (sequence at f body) is) s ≡ (field_in l f s >>= sequence_turn l fs at.node body is)
@@ -92,6 +98,7 @@ pub close_message : (l : Bounds) (d : Context) → unwind l [] d ≡ hand Messag
 unfolding unwind
 close_message l d = refl
 
-pub begin_message : (l : Bounds) (n : ℕ) (t : TemplateData) (s : State) → message_of_then l n t s ≡ hand (MessageStart n) (resume l [] t.body (reset_if t.reset s))
+pub begin_message : (l : Bounds) (n : ℕ) (t : TemplateData) (s : State)
+    → message_of_then l n t s ≡ hand (MessageStart n) (resume l [] t.body (reset_if t.reset s))
 unfolding message_of_then resume unwind
 begin_message l n t s = refl

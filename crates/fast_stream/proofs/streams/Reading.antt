@@ -33,13 +33,16 @@ begins-with-byte t l d = refl
 pub reads-first : (t : Tree) (l : Limits) (d : Dictionary) → Reads (Byte (message_first t l d)) (message t l d)
 reads-first t l d = subst (λ r. Reads r (message t l d)) (begins-with-byte t l d) (reads-grammar l.strict (message_term t (bounds l) d))
 
-told : (t : Tree) (l : Limits) (d : Dictionary) (w : List ℕ) (es : List EventData) (m : MessageData) (d' : Dictionary) → message t l d w es (whole (m, d')) → es ≡ events t m
+told : (t : Tree) (l : Limits) (d : Dictionary) (w : List ℕ) (es : List EventData) (m : MessageData) (d' : Dictionary)
+    → message t l d w es (whole (m, d')) → es ≡ events t m
 told t l d w es m d' h = message-events t l d w es (m, d') h
 
 begun-same : (t : Tree) (l : Limits) (d : Dictionary) (b : ℕ) → left (message_first t l d b) ≡ message_begun t l d b
 unfolding message_begun
 begun-same t l d b =
-    ap (λ r. after_byte (left r) b) (sym (begins-with-byte t l d)) ∙ ap (λ r. after_byte r b) (sym (ap (λ g. reader_of l.strict g) (message-same t (bounds l) d) ∙ reader-then l.strict (message_term t (bounds l) d) (λ r. give r.1)))
+    ap (λ r. after_byte (left r) b) (sym (begins-with-byte t l d))
+    ∙ ap (λ r. after_byte r b) (sym (ap (λ g. reader_of l.strict g) (message-same t (bounds l) d)
+    ∙ reader-then l.strict (message_term t (bounds l) d) (λ r. give r.1)))
 
 all-begun : (t : Tree) (l : Limits) → (λ d b. left (message_first t l d b)) ≡ message_begun t l
 all-begun t l = fun_ext (λ d. fun_ext (λ b. begun-same t l d b))
@@ -55,13 +58,15 @@ pub one_answer : (t : Tree) (l : Limits) (w : List ℕ) (es es' : List EventData
 one_answer t l w es es' e e' h h' = one-answer t l (message_first t l) (reads-first t l) (told t l) w es es' e e' h h'
 
 -- One message more.
-pub chain_more : (t : Tree) (l : Limits) (u v : List ℕ) (fs : List EventData) (d d' : Dictionary) (m : MessageData) → Chain t l u fs d → SpellsMessage t l d m v d' → Chain t l (u ++ v) (fs ++ events t m) d'
+pub chain_more : (t : Tree) (l : Limits) (u v : List ℕ) (fs : List EventData) (d d' : Dictionary) (m : MessageData) → Chain t l u fs d
+    → SpellsMessage t l d m v d' → Chain t l (u ++ v) (fs ++ events t m) d'
 unfolding SpellsMessage
 chain_more t l u v fs d d' m h i = more t l (message_first t l) (reads-first t l) (told t l) u v fs (events t m) d d' m h i
 
 -- Bytes in pieces: what is read from the second is read from where the first left off.
 pub reading-append : (t : Tree) (l : Limits) (w v : List ℕ)
-    → ((reading t l (w ++ v)).0 ≡ (reading t l w).0 ++ (run (message_begun t l) (length w) (reading t l w).1 v).0) × ((reading t l (w ++ v)).1 ≡ (run (message_begun t l) (length w) (reading t l w).1 v).1)
+    → ((reading t l (w ++ v)).0 ≡ (reading t l w).0 ++ (run (message_begun t l) (length w) (reading t l w).1 v).0)
+    × ((reading t l (w ++ v)).1 ≡ (run (message_begun t l) (length w) (reading t l w).1 v).1)
 reading-append t l w v = run-append (message_begun t l) 0 (length w) (at_start (fresh t.entries)) w v (omega arith)
 
 -- Each stream of bytes has an answer.
@@ -75,6 +80,8 @@ unfolding Stream
 read_back t l w v es m d d' h i = let k = chain_more t l w v es d d' m h (spelled-lenient t l d m v d' i) in ((d', k), k)
 
 -- More bytes behind a fault change nothing.
-pub faults-stay : (t : Tree) (l : Limits) (w v : List ℕ) (es : List EventData) (c : Code) (place : ℕ) → Stream t l w es (faulted c place) → Stream t l (w ++ v) es (faulted c place)
+pub faults-stay : (t : Tree) (l : Limits) (w v : List ℕ) (es : List EventData) (c : Code) (place : ℕ) → Stream t l w es (faulted c place)
+    → Stream t l (w ++ v) es (faulted c place)
 unfolding Stream
-faults-stay t l w v es c place (u, u', rest, fs, gs, d, h, i, n, k, e) = (u, u', rest ++ v, fs, gs, d, h, i, n, ap (λ r. r ++ v) k ∙ append_assoc (u ++ u') rest v, e)
+faults-stay t l w v es c place (u, u', rest, fs, gs, d, h, i, n, k, e) =
+    (u, u', rest ++ v, fs, gs, d, h, i, n, ap (λ r. r ++ v) k ∙ append_assoc (u ++ u') rest v, e)

@@ -23,11 +23,15 @@ left r = bind r (λ x. Done x.1)
 module _ {D : Type 0} (first : D → ℕ → Reader D) where
   -- Bytes one after the other.
   pub run-append : (n k : ℕ) (s : Position D) (w v : List ℕ) → k ≡ n + length w
-      → ((run first n s (w ++ v)).0 ≡ (run first n s w).0 ++ (run first k (run first n s w).1 v).0) × ((run first n s (w ++ v)).1 ≡ (run first k (run first n s w).1 v).1)
+      → ((run first n s (w ++ v)).0 ≡ (run first n s w).0 ++ (run first k (run first n s w).1 v).0)
+      × ((run first n s (w ++ v)).1 ≡ (run first k (run first n s w).1 v).1)
   run-append n k s [] v e = let f : n ≡ k = omega arith in rw f (refl, refl)
   run-append n k s (b ∷ w) v e =
-      let h = run-append (suc n) k (step first n s b).1 w v (omega arith) in
-      (ap (λ r. (step first n s b).0 ++ r) h.0 ∙ sym (append_assoc (step first n s b).0 (run first (suc n) (step first n s b).1 w).0 (run first k (run first (suc n) (step first n s b).1 w).1 v).0), h.1)
+      let h = run-append (suc n) k (step first n s b).1 w v (omega arith) in (
+        ap (λ r. (step first n s b).0 ++ r) h.0 ∙ sym (append_assoc (step first n s b).0 (run first (suc n) (step first n s b).1 w).0
+            (run first k (run first (suc n) (step first n s b).1 w).1 v).0),
+        h.1,
+      )
 
   -- The run from a reader on, of whose result the second half is left.
   abbrev pub go : {M : Type 0} → ℕ → Reader (M × D) → List ℕ → List EventData × Position D
@@ -63,7 +67,8 @@ module _ {D : Type 0} (first : D → ℕ → Reader D) where
 -- A phrase that is a message's, and takes a byte, beside its reader.
 module _ (t : Tree) (l : Limits) (first : Dictionary → ℕ → Reader (MessageData × Dictionary))
     (reads : (d : Dictionary) → Reads (Byte (first d)) (message t l d))
-    (told : (d : Dictionary) (w : List ℕ) (es : List EventData) (m : MessageData) (d' : Dictionary) → message t l d w es (whole (m, d')) → es ≡ events t m) where
+    (told : (d : Dictionary) (w : List ℕ) (es : List EventData) (m : MessageData) (d' : Dictionary) → message t l d w es (whole (m, d'))
+    → es ≡ events t m) where
   abbrev pub begun : Dictionary → ℕ → Reader Dictionary
   begun d b = left (first d b)
 
@@ -71,17 +76,23 @@ module _ (t : Tree) (l : Limits) (first : Dictionary → ℕ → Reader (Message
   start = at_start (fresh t.entries)
 
   run-all : (n k : ℕ) (ms : List MessageData) (d d' : Dictionary) (w v : List ℕ) → k ≡ n + length w → SpellsAll t l d ms w d'
-      → ((run begun n (at_start d) (w ++ v)).0 ≡ flat_map (events t) ms ++ (run begun k (at_start d') v).0) × ((run begun n (at_start d) (w ++ v)).1 ≡ (run begun k (at_start d') v).1)
+      → ((run begun n (at_start d) (w ++ v)).0 ≡ flat_map (events t) ms ++ (run begun k (at_start d') v).0)
+      × ((run begun n (at_start d) (w ++ v)).1 ≡ (run begun k (at_start d') v).1)
   unfolding SpellsMessage
   run-all n k [] d d' w v e h = let f : k ≡ n = omega (arith, e, ap length h.0) in rw (h.0, h.1, f) (refl, refl)
   run-all n k (m ∷ ms) d d' w v e (u, u', mid, h, i, j) =
       let f : k ≡ n + length u + length u' = omega (arith, e, ap length j, length-append u u') in
       let p = on u ((reads d).takes u (events t m) (whole (m, mid)) h) in
       let q = run-all (n + length u) k ms mid d' u' v f i in
-      rw (j, append_assoc u u' v) (p.0 ∙ ap (λ r. events t m ++ r) q.0 ∙ sym (append_assoc (events t m) (flat_map (events t) ms) (run begun k (at_start d') v).0), p.1 ∙ q.1)
+      rw (j, append_assoc u u' v) (
+        p.0 ∙ ap (λ r. events t m ++ r) q.0
+            ∙ sym (append_assoc (events t m) (flat_map (events t) ms) (run begun k (at_start d') v).0),
+        p.1 ∙ q.1,
+      )
     where
       on : (u : List ℕ) → Runs (Byte (first d)) u (events t m) (whole (m, mid))
-          → ((run begun n (at_start d) (u ++ (u' ++ v))).0 ≡ events t m ++ (run begun (n + length u) (at_start mid) (u' ++ v)).0) × ((run begun n (at_start d) (u ++ (u' ++ v))).1 ≡ (run begun (n + length u) (at_start mid) (u' ++ v)).1)
+          → ((run begun n (at_start d) (u ++ (u' ++ v))).0 ≡ events t m ++ (run begun (n + length u) (at_start mid) (u' ++ v)).0)
+          × ((run begun n (at_start d) (u ++ (u' ++ v))).1 ≡ (run begun (n + length u) (at_start mid) (u' ++ v)).1)
       on [] h = absurd h
       on (b ∷ u) h = go-whole begun (suc n) (n + length (b ∷ u)) (first d b) u (u' ++ v) (events t m) m mid (omega arith) h
 
@@ -89,21 +100,25 @@ module _ (t : Tree) (l : Limits) (first : Dictionary → ℕ → Reader (Message
   Answers w es e = ((run begun 0 start w).0 ≡ es) × (end_of (run begun 0 start w).1 ≡ e)
 
   chained : (w v : List ℕ) (es : List EventData) (d : Dictionary) → Chain t l w es d
-      → ((run begun 0 start (w ++ v)).0 ≡ es ++ (run begun (length w) (at_start d) v).0) × ((run begun 0 start (w ++ v)).1 ≡ (run begun (length w) (at_start d) v).1)
+      → ((run begun 0 start (w ++ v)).0 ≡ es ++ (run begun (length w) (at_start d) v).0)
+      × ((run begun 0 start (w ++ v)).1 ≡ (run begun (length w) (at_start d) v).1)
   chained w v es d (ms, h, e) = rw e (run-all 0 (length w) ms (fresh t.entries) d w v (omega arith) h)
 
   -- Whatever the stream is said to be, the run says.
   pub run-complete : (w : List ℕ) (es : List EventData) (e : End) → Stream t l w es e → Answers w es e
   unfolding Stream
   run-complete w es between (d, h) =
-      let q = chained w [] es d h in
-      (ap (λ r. (run begun 0 start r).0) (sym (append-nil w)) ∙ q.0 ∙ append-nil es, ap (λ r. end_of (run begun 0 start r).1) (sym (append-nil w)) ∙ ap (λ s. end_of s) q.1)
+      let q = chained w [] es d h in (
+        ap (λ r. (run begun 0 start r).0) (sym (append-nil w)) ∙ q.0 ∙ append-nil es,
+        ap (λ r. end_of (run begun 0 start r).1) (sym (append-nil w)) ∙ ap (λ s. end_of s) q.1,
+      )
   run-complete w es inside (u, v, fs, gs, d, h, i, j, k, e) =
       let q = chained u v fs d h in
       let p = on v j ((reads d).takes v gs cut i) in
       rw (k, e) (q.0 ∙ ap (λ r. fs ++ r) p.0, ap (λ s. end_of s) q.1 ∙ p.1)
     where
-      on : (v : List ℕ) → 0 < length v → Runs (Byte (first d)) v gs cut → ((run begun (length u) (at_start d) v).0 ≡ gs) × (end_of (run begun (length u) (at_start d) v).1 ≡ inside)
+      on : (v : List ℕ) → 0 < length v → Runs (Byte (first d)) v gs cut
+          → ((run begun (length u) (at_start d) v).0 ≡ gs) × (end_of (run begun (length u) (at_start d) v).1 ≡ inside)
       on [] z h = absurd (omega (arith, z))
       on (b ∷ v) z h = go-cut begun (suc (length u)) (first d b) v gs h
   run-complete w es (faulted c place) (u, v, rest, fs, gs, d, h, i, n, k, e) =
@@ -111,7 +126,9 @@ module _ (t : Tree) (l : Limits) (first : Dictionary → ℕ → Reader (Message
       let p = on v (n ∙ length-append u v) ((reads d).takes v gs (wrong c) i) in
       rw (k, append_assoc u v rest, e) (q.0 ∙ ap (λ r. fs ++ r) p.0, ap (λ s. end_of s) (q.1 ∙ p.1))
     where
-      on : (v : List ℕ) → place ≡ length u + length v → Runs (Byte (first d)) v gs (wrong c) → ((run begun (length u) (at_start d) (v ++ rest)).0 ≡ gs) × ((run begun (length u) (at_start d) (v ++ rest)).1 ≡ at_fault c place)
+      on : (v : List ℕ) → place ≡ length u + length v → Runs (Byte (first d)) v gs (wrong c)
+          → ((run begun (length u) (at_start d) (v ++ rest)).0 ≡ gs)
+          × ((run begun (length u) (at_start d) (v ++ rest)).1 ≡ at_fault c place)
       on [] z h = absurd h
       on (b ∷ v) z h = go-wrong begun (suc (length u)) place (first d b) v rest gs c (omega arith) h
 
@@ -120,15 +137,21 @@ module _ (t : Tree) (l : Limits) (first : Dictionary → ℕ → Reader (Message
   one-answer w es es' e e' h h' = let p = run-complete w es e h in let q = run-complete w es' e' h' in (sym p.0 ∙ q.0, sym p.1 ∙ q.1)
 
   -- One message more.
-  snoc : (ms : List MessageData) (m : MessageData) (d mid d' : Dictionary) (u v : List ℕ) → SpellsAll t l d ms u mid → SpellsMessage t l mid m v d' → SpellsAll t l d (ms ++ m ∷ []) (u ++ v) d'
+  snoc : (ms : List MessageData) (m : MessageData) (d mid d' : Dictionary) (u v : List ℕ) → SpellsAll t l d ms u mid
+      → SpellsMessage t l mid m v d' → SpellsAll t l d (ms ++ m ∷ []) (u ++ v) d'
   snoc [] m d mid d' u v h i = (v, [], d', rw h.1 at i, (refl, refl), rw h.0 (sym (append-nil v)))
   snoc (m' ∷ ms) m d mid d' u v (u₁, u₂, d₁, h, j, k) i = (u₁, u₂ ++ v, d₁, h, snoc ms m d₁ mid d' u₂ v j i, rw k (append_assoc u₁ u₂ v))
 
-  pub more : (u v : List ℕ) (fs gs : List EventData) (d d' : Dictionary) (m : MessageData) → Chain t l u fs d → message t l d v gs (whole (m, d')) → Chain t l (u ++ v) (fs ++ gs) d'
+  pub more : (u v : List ℕ) (fs gs : List EventData) (d d' : Dictionary) (m : MessageData) → Chain t l u fs d
+      → message t l d v gs (whole (m, d')) → Chain t l (u ++ v) (fs ++ gs) d'
   unfolding SpellsMessage
   more u v fs gs d d' m (ms, h, e) i =
-      let k = told d v gs m d' i in
-      (ms ++ m ∷ [], snoc ms m (fresh t.entries) d d' u v h (rw k at i), ap₂ (λ r s. r ++ s) e k ∙ ap (λ r. flat_map (events t) ms ++ r) (sym (append-nil (events t m))) ∙ sym (flat_map-append (events t) ms (m ∷ [])))
+      let k = told d v gs m d' i in (
+        ms ++ m ∷ [],
+        snoc ms m (fresh t.entries) d d' u v h (rw k at i),
+        ap₂ (λ r s. r ++ s) e k
+            ∙ ap (λ r. flat_map (events t) ms ++ r) (sym (append-nil (events t m))) ∙ sym (flat_map-append (events t) ms (m ∷ [])),
+      )
 
   abbrev pub Some_stream : List ℕ → List EventData → List ℕ → Type 0
   Some_stream u fs v = (es : List EventData) × (e : End) × Stream t l (u ++ v) (fs ++ es) e
@@ -155,8 +178,24 @@ module _ (t : Tree) (l : Limits) (first : Dictionary → ℕ → Reader (Message
       let bs = All-front (λ c. c < 256) p q (rw k at b) in
       (gs, inside, (u, v, fs, gs, d, i, rw e ((reads d).says p gs cut bs.0 j.0), z, refl, refl))
   total-step n u v fs d ih z h b i p q gs (wrong c) j k =
-      let bs = All-front (λ c. c < 256) p q (rw k at b) in
-      (gs, faulted c (length (u ++ p)), (u, p, q, fs, gs, d, i, (reads d).says p gs (wrong c) bs.0 j.0, refl, ap (λ r. u ++ r) k ∙ sym (append_assoc u p q), refl))
+      let bs = All-front (λ c. c < 256) p q (rw k at b) in (
+        gs,
+        faulted c (length (u ++ p)),
+        (
+          u,
+          p,
+          q,
+          fs,
+          gs,
+          d,
+          i,
+          (reads d).says p gs (wrong c) bs.0 j.0,
+          refl,
+          ap (λ r. u ++ r) k
+              ∙ sym (append_assoc u p q),
+          refl,
+        ),
+      )
 
   total-from : (n : ℕ) (u v : List ℕ) (fs : List EventData) (d : Dictionary) → length v ≤ n → AreBytes v → Chain t l u fs d → Some_stream u fs v
   unfolding Stream

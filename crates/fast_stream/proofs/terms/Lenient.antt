@@ -29,8 +29,14 @@ keeps-bind h j = record { kept = λ w es b (u, v, fs, gs, a, i, k, d, e). (u, v,
 module _ (b : Bool) where
   pub keeps-integer : (range : Range) (nullable : Bool) (c : Code) → Keeps (Units.integer true range nullable c) (Units.integer b range nullable c)
   keeps-integer range nullable c = record {
-    kept = λ w es o h.
-        (record { form = record { entity = h.0.form.entity; short = h.0.form.short; shortest = λ t. h.0.form.shortest refl }; meaning = h.0.meaning; fits = h.0.fits }, h.1);
+    kept = λ w es o h. (
+      record {
+        form = record { entity = h.0.form.entity; short = h.0.form.short; shortest = λ t. h.0.form.shortest refl };
+        meaning = h.0.meaning;
+        fits = h.0.fits;
+      },
+      h.1,
+    );
   }
 
   pub keeps-map : Keeps (Units.presence_map true) (Units.presence_map b)
@@ -56,6 +62,7 @@ keeps-grammar s (presence_map g) = keeps-bind (keeps-map s) (λ x. keeps-grammar
 keeps-grammar s (narrow n m g) = keeps-bind (keeps-width s n m) (λ _. keeps-grammar s g)
 
 -- A message spelled in strict mode is spelled in each mode.
-pub spelled-lenient : (t : Tree) (l : Limits) (d : Dictionary) (m : MessageData) (w : List ℕ) (d' : Dictionary) → SpellsMessage t (in_mode true l) d m w d' → SpellsMessage t l d m w d'
+pub spelled-lenient : (t : Tree) (l : Limits) (d : Dictionary) (m : MessageData) (w : List ℕ) (d' : Dictionary)
+    → SpellsMessage t (in_mode true l) d m w d' → SpellsMessage t l d m w d'
 unfolding SpellsMessage
 spelled-lenient t l d m w d' h = (keeps-grammar l.strict (message_term t (bounds l) d)).kept w (events t m) (m, d') h

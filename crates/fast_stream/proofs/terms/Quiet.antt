@@ -11,12 +11,14 @@ use Rattle.fast_tree.specs.declared.operators.Operator.{Operator}
 use Rattle.fast_tree.specs.declared.operators.Operator.TheVariants.{None as no_operator, Constant, Delta}
 use Rattle.fast_tree.specs.meaning.Tree.{FieldData}
 use Rattle.fast_dict.specs.meaning.Dictionary.{PreviousData}
-use Rattle.fast_dict.specs.meaning.Operators.{gives_none, nothing, decide, integer_step, exponent_step, mantissa_step, Kept, kept_length, subtraction_step, text_step}
+use Rattle.fast_dict.specs.meaning.Operators.{gives_none, nothing, decide, integer_step, exponent_step, mantissa_step, Kept, kept_length}
+use Rattle.fast_dict.specs.meaning.Operators.{subtraction_step, text_step}
 use Rattle.fast_stream.specs.meaning.Events.{EventData}
 use Rattle.fast_stream.specs.meaning.Phrases.{Reached, whole, cut, wrong, Phrase, gives, settles}
 use Rattle.fast_stream.specs.meaning.Units
 use Rattle.fast_stream.specs.meaning.Grammar.{Grammar, give, fault, hand, integer, ascii_text, raw, presence_map, narrow, ◌>>=◌, of_result}
-use Rattle.fast_stream.specs.meaning.Fields.{sized, text, sent_text, decimal_from, item_in, integer_change, mantissa_change, decimal_change, part_change, text_change, change_in, sent, field_by, field_term}
+use Rattle.fast_stream.specs.meaning.Fields.{sized, text, sent_text, decimal_from, item_in, integer_change, mantissa_change, decimal_change}
+use Rattle.fast_stream.specs.meaning.Fields.{part_change, text_change, change_in, sent, field_by, field_term}
 use Rattle.fast_stream.specs.meaning.Messages.{map_bits}
 
 -- A phrase hands over no event, whatever it comes to.
@@ -102,7 +104,8 @@ quiet-result (Err c) = tt
 -- The terms of a field, from the innermost on.
 quiet-sized : (room : ℕ) (n : Option ℤ) → IsQuiet (sized room n)
 quiet-sized room None = tt
-quiet-sized room (Some n) = quiet-bind (of_result (if nat_le (nat_abs n) room then Ok (nat_abs n) else Err L1)) (λ size. raw size (λ v. give (Some v))) (quiet-result (if nat_le (nat_abs n) room then Ok (nat_abs n) else Err L1)) (λ size v. tt)
+quiet-sized room (Some n) = quiet-bind (of_result (if nat_le (nat_abs n) room then Ok (nat_abs n) else Err L1))
+    (λ size. raw size (λ v. give (Some v))) (quiet-result (if nat_le (nat_abs n) room then Ok (nat_abs n) else Err L1)) (λ size v. tt)
 
 quiet-text : (kind : Kind) (nullable : Bool) (room : ℕ) → IsQuiet (text kind nullable room)
 quiet-text Ascii nullable room = λ x. tt
@@ -135,8 +138,10 @@ quiet-part_change f p kept (Some part) = quiet-result (text_step f kept part)
 
 quiet-text_change : (l : Bounds) (f : FieldData) (p : PreviousData) (k : Option ℤ) → IsQuiet (text_change l f p k)
 quiet-text_change l f p None = quiet-result (gives_none p)
-quiet-text_change l f p (Some k) = quiet-bind (of_result (subtraction_step f p k)) (λ kept. text f.kind false (l.max_text - kept_length kept) >>= part_change f p kept) (quiet-result (subtraction_step f p k))
-    (λ kept. quiet-bind (text f.kind false (l.max_text - kept_length kept)) (part_change f p kept) (quiet-text f.kind false (l.max_text - kept_length kept)) (quiet-part_change f p kept))
+quiet-text_change l f p (Some k) = quiet-bind (of_result (subtraction_step f p k))
+    (λ kept. text f.kind false (l.max_text - kept_length kept) >>= part_change f p kept) (quiet-result (subtraction_step f p k))
+    (λ kept. quiet-bind (text f.kind false (l.max_text - kept_length kept)) (part_change f p kept)
+    (quiet-text f.kind false (l.max_text - kept_length kept)) (quiet-part_change f p kept))
 
 quiet-change : (family : Family) (l : Bounds) (f : FieldData) (p : PreviousData) → IsQuiet (change_in family l f p)
 quiet-change (integers range) l f p = quiet-integer_change f p
@@ -144,7 +149,8 @@ quiet-change decimals l f p = quiet-decimal_change f p
 quiet-change texts l f p = quiet-text_change l f p
 
 quiet-sent : (l : Bounds) (f : FieldData) (p : PreviousData) → IsQuiet (sent l f p)
-quiet-sent l f p = quiet-bind (item_in (family f.kind) l f) (λ x. of_result (decide f p true x)) (quiet-item (family f.kind) l f) (λ x. quiet-result (decide f p true x))
+quiet-sent l f p = quiet-bind (item_in (family f.kind) l f) (λ x. of_result (decide f p true x)) (quiet-item (family f.kind) l f)
+    (λ x. quiet-result (decide f p true x))
 
 quiet-by : (operator : Operator) (bit : Bool) (l : Bounds) (f : FieldData) (p : PreviousData) → IsQuiet (field_by operator bit l f p)
 quiet-by no_operator bit l f p = quiet-sent l f p

@@ -1,5 +1,6 @@
 -- Readers of the units, and from them the reader of a term.
-use Rattle.std.specs.Prelude.{◌≡◌, ℕ, zero, suc, ◌-◌, ◌%◌, ◌≤◌, ◌<◌, Bool, true, false, ◌&&◌, nat_le, nat_eq, if◌then◌else◌, List, [], ◌∷◌, ◌++◌, length, ℤ, pos, negsuc, int_le, Option, Some, None, Result, Ok, Err}
+use Rattle.std.specs.Prelude.{◌≡◌, ℕ, zero, suc, ◌-◌, ◌%◌, ◌≤◌, ◌<◌, Bool, true, false, ◌&&◌, nat_le, nat_eq, if◌then◌else◌, List, [], ◌∷◌}
+use Rattle.std.specs.Prelude.{◌++◌, length, ℤ, pos, negsuc, int_le, Option, Some, None, Result, Ok, Err}
 use Rattle.std.specs.Ordering.{int_eq}
 use Rattle.fast_wire.specs.meaning.Entities.{HaveNoStop, IsEntity}
 use Rattle.fast_wire.specs.meaning.Integers.{Range, value}
@@ -99,7 +100,8 @@ bare_stop true = None
 
 -- a string at its first byte
 abbrev pub first_character_reader : Bool → ℕ → ℕ → Reader (Option (List ℕ))
-first_character_reader nullable room b = if nat_eq b 0 then after_zero_reader nullable else if nat_eq b 0x80 then Done (bare_stop nullable) else characters_reader room [] b
+first_character_reader nullable room b = if nat_eq b 0 then after_zero_reader nullable else if nat_eq b 0x80 then Done
+    (bare_stop nullable) else characters_reader room [] b
 
 -- an ASCII string
 unfoldable pub ascii_text_reader : Bool → ℕ → Reader (Option (List ℕ))

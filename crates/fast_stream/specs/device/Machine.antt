@@ -15,7 +15,8 @@ use Rattle.fast_stream.specs.meaning.Fields.{text, sent_text, decimal_from, mant
 use Rattle.fast_stream.specs.meaning.Messages.{Context, State, Found, found, decimal_with}
 use Rattle.fast_stream.specs.device.Readers.{Reader}
 use Rattle.fast_stream.specs.device.GrammarReaders.{reader_of}
-use Rattle.fast_stream.specs.device.Continuations.{handed_then, mantissa_after_then, sequence_from_then, segment_then, body_then, message_behind_then, message_then}
+use Rattle.fast_stream.specs.device.Continuations.{handed_then, mantissa_after_then, sequence_from_then, segment_then, body_then}
+use Rattle.fast_stream.specs.device.Continuations.{message_behind_then, message_then}
 use Rattle.fast_stream.specs.device.Running.{Position, at_start, amid, at_fault, after_byte}
 use Rattle.fast_stream.specs.device.Frames.{Frame, resume}
 

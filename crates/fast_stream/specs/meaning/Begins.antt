@@ -13,10 +13,12 @@ use Rattle.fast_stream.specs.meaning.Streams.{End, between, inside, faulted, Spe
 abbrev pub Begins : Tree → Limits → List ℕ → End → ℕ → Type 0
 Begins t l w between n = (ms : List MessageData) × (d : Dictionary) × SpellsAll t l (fresh t.entries) ms w d × (n ≡ length ms)
 Begins t l w inside n =
-    (u v : List ℕ) × (ms : List MessageData) × (gs : List EventData) × (d : Dictionary) × SpellsAll t l (fresh t.entries) ms u d × message t l d v gs cut × (0 < length v) × (w ≡ u ++ v)
+    (u v : List ℕ) × (ms : List MessageData) × (gs : List EventData) × (d : Dictionary) × SpellsAll t l (fresh t.entries) ms u d
+    × message t l d v gs cut × (0 < length v) × (w ≡ u ++ v)
     × (n ≡ suc (length ms))
 Begins t l w (faulted c place) n =
-    (u v rest : List ℕ) × (ms : List MessageData) × (gs : List EventData) × (d : Dictionary) × SpellsAll t l (fresh t.entries) ms u d × message t l d v gs (wrong c) × (place ≡ length (u ++ v))
+    (u v rest : List ℕ) × (ms : List MessageData) × (gs : List EventData) × (d : Dictionary) × SpellsAll t l (fresh t.entries) ms u d
+    × message t l d v gs (wrong c) × (place ≡ length (u ++ v))
     × (w ≡ (u ++ v) ++ rest) × (n ≡ suc (length ms))
 
 -- a body in two parts

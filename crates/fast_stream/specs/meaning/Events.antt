@@ -1,7 +1,8 @@
 -- The events that a sink receives, and those of a complete message. In the code Event is the view of the Rust enum.
 use Rattle.std.specs.Prelude.{ℕ, List, [], ◌∷◌, ◌++◌, slice_get, Option, Some, None}
 use Rattle.fast_value.specs.meaning.Kinds.{ScalarData}
-use Rattle.fast_value.specs.meaning.Messages.{ItemData, one, group as group_item, sequence as sequence_item, Slots, no_slots, absent, present, Elements, no_elements, element, MessageData, count}
+use Rattle.fast_value.specs.meaning.Messages.{ItemData, one, group as group_item, sequence as sequence_item, Slots, no_slots, absent}
+use Rattle.fast_value.specs.meaning.Messages.{present, Elements, no_elements, element, MessageData, count}
 use Rattle.fast_tree.specs.meaning.Tree.{Instruction, field, parts, group, sequence, Body, end, step, TemplateData, Tree}
 
 -- an event that a sink receives

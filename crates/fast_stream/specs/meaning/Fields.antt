@@ -11,7 +11,8 @@ use Rattle.fast_tree.specs.declared.operators.Operator.{Operator}
 use Rattle.fast_tree.specs.declared.operators.Operator.TheVariants.{None as no_operator, Constant, Delta}
 use Rattle.fast_tree.specs.meaning.Tree.{FieldData}
 use Rattle.fast_dict.specs.meaning.Dictionary.{Dictionary, PreviousData, previous_at, write_at}
-use Rattle.fast_dict.specs.meaning.Operators.{Outcome, gives_none, Sent, nothing, null, value, decide, integer_step, exponent_step, mantissa_step, Kept, kept_length, subtraction_step, text_step}
+use Rattle.fast_dict.specs.meaning.Operators.{Outcome, gives_none, Sent, nothing, null, value, decide, integer_step, exponent_step}
+use Rattle.fast_dict.specs.meaning.Operators.{mantissa_step, Kept, kept_length, subtraction_step, text_step}
 use Rattle.fast_stream.specs.meaning.Phrases.{whole, Phrase}
 use Rattle.fast_stream.specs.meaning.Grammar.{Grammar, give, integer, ascii_text, raw, ◌>>=◌, of_result, phrase_of}
 
@@ -140,4 +141,7 @@ field_phrase l f p bit = phrase_of l.strict (field_term (bounds l) f p bit)
 -- The bytes encode the value, or absence, of the field; of the dictionary its entry alone changes.
 -- FAST 1.1: Transfer Encoding, Field Instructions.
 abbrev pub SpellsField : Limits → FieldData → Dictionary → Bool → Option ScalarData → List ℕ → Dictionary → Type 0
-SpellsField l f d bit v w d' = (next : PreviousData) × field_phrase l f (previous_at f.entry d) bit w [] (whole (record { value = v; next = next })) × (d' ≡ write_at f.entry next d)
+SpellsField l f d bit v w d' = (next : PreviousData) × field_phrase l f (previous_at f.entry d) bit w [] (whole (record {
+  value = v;
+  next = next;
+})) × (d' ≡ write_at f.entry next d)

@@ -1,6 +1,7 @@
 -- The data of the events of the Rust types.
 use Rattle.fast_value.specs.meaning.Values.{scalar_data}
-use Rattle.fast_stream.specs.meaning.Events.{EventData, MessageStart, FieldValue, GroupStart, GroupEnd, SequenceStart, ElementStart, ElementEnd, SequenceEnd, MessageEnd}
+use Rattle.fast_stream.specs.meaning.Events.{EventData, MessageStart, FieldValue, GroupStart, GroupEnd, SequenceStart, ElementStart}
+use Rattle.fast_stream.specs.meaning.Events.{ElementEnd, SequenceEnd, MessageEnd}
 use Rattle.fast_stream.specs.declared.events.Event.{Event}
 use Rattle.fast_stream.specs.declared.events.Event.TheVariants as Lent
 

@@ -1,16 +1,20 @@
 -- Segments and messages as terms.
-use Rattle.std.specs.Prelude.{ℕ, zero, suc, ◌+◌, Bool, true, false, if◌then◌else◌, nat_eq, nat_le, nat_abs, List, [], ◌∷◌, ℤ, pos, Option, Some, None, Result, Ok, Err}
+use Rattle.std.specs.Prelude.{ℕ, zero, suc, ◌+◌, Bool, true, false, if◌then◌else◌, nat_eq, nat_le, nat_abs, List, [], ◌∷◌, ℤ, pos, Option}
+use Rattle.std.specs.Prelude.{Some, None, Result, Ok, Err}
 use Rattle.fast_wire.specs.meaning.Maps.{bits, first_bit, later_bits}
 use Rattle.fast_value.specs.meaning.Kinds.{exponent_range, ScalarData, I, Dec, integer_of}
 use Rattle.fast_value.specs.declared.settings.Limits.{Limits}
 use Rattle.fast_value.specs.meaning.Limits.{Bounds, bounds}
-use Rattle.fast_value.specs.meaning.Messages.{ItemData, one, group as group_item, sequence as sequence_item, Slots, no_slots, absent, present, Elements, no_elements, element, MessageData}
+use Rattle.fast_value.specs.meaning.Messages.{ItemData, one, group as group_item, sequence as sequence_item, Slots, no_slots, absent}
+use Rattle.fast_value.specs.meaning.Messages.{present, Elements, no_elements, element, MessageData}
 use Rattle.fast_value.specs.declared.codes.Code.{Code}
 use Rattle.fast_value.specs.declared.codes.Code.TheVariants.{D9, L2, L5, R1}
-use Rattle.fast_tree.specs.meaning.Tree.{FieldData, identifier, uses_bit, Instruction, field, parts, group, sequence, Body, end, step, bits_of, has_map, message_bits, TemplateData, Tree}
+use Rattle.fast_tree.specs.meaning.Tree.{FieldData, identifier, uses_bit, Instruction, field, parts, group, sequence, Body, end, step}
+use Rattle.fast_tree.specs.meaning.Tree.{bits_of, has_map, message_bits, TemplateData, Tree}
 use Rattle.fast_dict.specs.meaning.Dictionary.{Dictionary, previous_at, write_at, reset}
 use Rattle.fast_dict.specs.meaning.Operators.{Outcome, ranged}
-use Rattle.fast_stream.specs.meaning.Events.{MessageStart, FieldValue, GroupStart, GroupEnd, SequenceStart, ElementStart, ElementEnd, SequenceEnd, MessageEnd, events}
+use Rattle.fast_stream.specs.meaning.Events.{MessageStart, FieldValue, GroupStart, GroupEnd, SequenceStart, ElementStart, ElementEnd}
+use Rattle.fast_stream.specs.meaning.Events.{SequenceEnd, MessageEnd, events}
 use Rattle.fast_stream.specs.meaning.Phrases.{whole, Phrase}
 use Rattle.fast_stream.specs.meaning.Grammar.{Grammar, give, hand, presence_map, narrow, ◌>>=◌, of_result, phrase_of}
 use Rattle.fast_stream.specs.meaning.Fields.{field_term}
@@ -40,7 +44,13 @@ Found = Option ScalarData × State
 
 -- A field uses the next bit if it has one, and changes its own entry alone.
 abbrev pub found : FieldData → State → Outcome → Found
-found f s o = (o.value, record { context = with_dictionary (write_at f.entry o.next s.context.dictionary) s.context; bits = if uses_bit f then later_bits s.bits else s.bits })
+found f s o = (
+  o.value,
+  record {
+    context = with_dictionary (write_at f.entry o.next s.context.dictionary) s.context;
+    bits = if uses_bit f then later_bits s.bits else s.bits;
+  },
+)
 
 -- a field at a state
 -- FAST 1.1: Transfer Encoding, Presence Map Utilization.

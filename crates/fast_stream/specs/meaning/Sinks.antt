@@ -10,4 +10,5 @@ Takes {S} takes s (e ∷ es) s' = (mid : S) × takes s e mid × Takes takes mid 
 
 -- Some of the events were accepted, and the sink stopped at the next one.
 abbrev pub TakesUpTo : {S : Type 0} → (S → EventData → S → Type 0) → (S → EventData → S → Type 0) → S → List EventData → S → Type 0
-TakesUpTo {S} takes stops s es s' = (front rest : List EventData) × (e : EventData) × (mid : S) × (es ≡ front ++ e ∷ rest) × Takes takes s front mid × stops mid e s'
+TakesUpTo {S} takes stops s es s' = (front rest : List EventData) × (e : EventData) × (mid : S) × (es ≡ front ++ e ∷ rest)
+    × Takes takes s front mid × stops mid e s'

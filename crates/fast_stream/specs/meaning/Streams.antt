@@ -31,8 +31,10 @@ Chain t l w es d = (ms : List MessageData) × SpellsAll t l (fresh t.entries) ms
 -- FAST 1.1: Transfer Encoding, Streams and Messages.
 unfoldable pub Stream : Tree → Limits → List ℕ → List EventData → End → Type 0
 Stream t l w es between = (d : Dictionary) × Chain t l w es d
-Stream t l w es inside = (u v : List ℕ) × (fs gs : List EventData) × (d : Dictionary) × Chain t l u fs d × message t l d v gs cut × (0 < length v) × (w ≡ u ++ v) × (es ≡ fs ++ gs)
-Stream t l w es (faulted c place) = (u v rest : List ℕ) × (fs gs : List EventData) × (d : Dictionary) × Chain t l u fs d × message t l d v gs (wrong c) × (place ≡ length (u ++ v)) × (w ≡ (u ++ v) ++ rest) × (es ≡ fs ++ gs)
+Stream t l w es inside = (u v : List ℕ) × (fs gs : List EventData) × (d : Dictionary) × Chain t l u fs d × message t l d v gs cut
+    × (0 < length v) × (w ≡ u ++ v) × (es ≡ fs ++ gs)
+Stream t l w es (faulted c place) = (u v rest : List ℕ) × (fs gs : List EventData) × (d : Dictionary) × Chain t l u fs d
+    × message t l d v gs (wrong c) × (place ≡ length (u ++ v)) × (w ≡ (u ++ v) ++ rest) × (es ≡ fs ++ gs)
 
 -- all are below 256
 abbrev pub AreBytes : List ℕ → Type 0

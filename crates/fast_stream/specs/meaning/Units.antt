@@ -1,5 +1,6 @@
 -- The units as phrases: integers, ASCII strings, raw runs of bytes, presence maps.
-use Rattle.std.specs.Prelude.{◌≡◌, ◌≢◌, ◌⊎◌, ℕ, ◌<◌, ◌≤◌, Bool, true, false, IsTrue, nat_le, if◌then◌else◌, List, [], ◌∷◌, ◌++◌, length, ℤ, Option, Some, Result, Ok, Err}
+use Rattle.std.specs.Prelude.{◌≡◌, ◌≢◌, ◌⊎◌, ℕ, ◌<◌, ◌≤◌, Bool, true, false, IsTrue, nat_le, if◌then◌else◌, List, [], ◌∷◌, ◌++◌, length, ℤ}
+use Rattle.std.specs.Prelude.{Option, Some, Result, Ok, Err}
 use Rattle.fast_wire.specs.meaning.Entities.{HaveNoStop, IsEntity, IsOverlong}
 use Rattle.fast_wire.specs.meaning.Integers.{Range, IsWithin, value, Means, IsInteger, SpellsInt}
 use Rattle.fast_wire.specs.meaning.Texts.{SpellsAscii}
@@ -58,7 +59,8 @@ raw n w es (wrong c) = ⊥
 abbrev pub presence_map : Bool → List ℕ → List EventData → Reached (List ℕ) → Type 0
 presence_map strict w es (whole m) = IsMap strict w × (m ≡ w) × (es ≡ [])
 presence_map strict w es cut = HaveNoStop w × (length w < map_limit) × (es ≡ [])
-presence_map strict w es (wrong c) = (HaveNoStop w × (length w ≡ map_limit) × (c ≡ L3) ⊎ IsEntity w × (length w ≤ map_limit) × IsTrue strict × HasSpareByte w × (c ≡ R7)) × (es ≡ [])
+presence_map strict w es (wrong c) = (HaveNoStop w × (length w ≡ map_limit) × (c ≡ L3) ⊎ IsEntity w × (length w ≤ map_limit)
+    × IsTrue strict × HasSpareByte w × (c ≡ R7)) × (es ≡ [])
 
 -- In strict mode a map has no more bytes than its segment's n bits need.
 -- FAST 1.1: Error Codes, R8.

@@ -53,7 +53,8 @@ keeps_value operator = false
 -- The entries by number. The identifier has 0; the others follow from 1 on, each once.
 abbrev pub EntryNumber : List Entry → Scope → Use → Option ℕ → Type 0
 EntryNumber entries s u None = keeps_value u.written.operator ≡ false
-EntryNumber entries s u (Some n) = (k : ℕ) × (e : Entry) × (keeps_value u.written.operator ≡ true) × IsEntry s u e × (slice_get entries k ≡ Some e) × (n ≡ suc k)
+EntryNumber entries s u (Some n) = (k : ℕ) × (e : Entry) × (keeps_value u.written.operator ≡ true) × IsEntry s u e
+    × (slice_get entries k ≡ Some e) × (n ≡ suc k)
 
 -- the scope of a template
 -- FAST 1.1: Template Definition, Dictionaries and Previous Values.

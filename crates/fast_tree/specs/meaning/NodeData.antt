@@ -41,7 +41,10 @@ instruction_from at first is (a_sequence length body) = sequence at length (body
 -- the instructions of nodes, of which the first has this number
 abbrev pub instructions_of : ℕ → List NodeData → List Instruction
 instructions_of own [] = []
-instructions_of own (n ∷ ns) = instruction_from (record { node = own; name = n.name }) (suc own) (instructions_of (suc own) ns) n.shape ∷ instructions_of (suc own) ns
+instructions_of own (n ∷ ns) = instruction_from (record {
+  node = own;
+  name = n.name;
+}) (suc own) (instructions_of (suc own) ns) n.shape ∷ instructions_of (suc own) ns
 
 -- The data of a template: its body is a list of node numbers.
 pub record TemplateOutline : Type 0 where

@@ -103,4 +103,5 @@ has_map body = nat_lt 0 (bits_of body)
 
 -- No two templates have the same identifier.
 abbrev pub HasDistinctIds : Tree → Type 0
-HasDistinctIds t = (i j id : ℕ) (a b : TemplateData) → slice_get t.templates i ≡ Some a → slice_get t.templates j ≡ Some b → a.id ≡ Some id → b.id ≡ Some id → i ≡ j
+HasDistinctIds t = (i j id : ℕ) (a b : TemplateData) → slice_get t.templates i ≡ Some a → slice_get t.templates j ≡ Some b → a.id ≡ Some id
+    → b.id ≡ Some id → i ≡ j

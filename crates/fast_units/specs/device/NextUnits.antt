@@ -37,14 +37,17 @@ IsRefusedInt strict range nullable Wire.D2 w = IsOutside strict range nullable w
 
 -- The buffered bytes and those after them are read until an entity is complete, or has ten bytes without a stop bit, or is split.
 abbrev pub IsGathered : List ℕ → List ℕ → List ℕ → Progress (Unit {0}) → Type 0
-IsGathered front rest after (Whole u n) = (0 < n) × (n ≤ length rest) × IsEntity (front ++ take n rest) × (length (front ++ take n rest) ≤ 10) × (after ≡ front ++ take n rest)
+IsGathered front rest after (Whole u n) = (0 < n) × (n ≤ length rest) × IsEntity (front ++ take n rest)
+    × (length (front ++ take n rest) ≤ 10) × (after ≡ front ++ take n rest)
 IsGathered front rest after (Wrong c n) = (0 < n) × (n ≤ length rest) × HaveNoStop (front ++ take n rest) × (length (front ++ take n rest) ≡ 10) × (c ≡ D2)
 IsGathered front rest after Cut = HaveNoStop (front ++ rest) × (length (front ++ rest) < 10) × (after ≡ front ++ rest)
 
 -- The result of the buffered bytes and those after them as an integer. None is buffered once it is complete, and all are if it is split.
 abbrev pub IsNextInteger : {T : Type 0} → (T → Option ℤ) → Bool → Range → Bool → Code → List ℕ → List ℕ → List ℕ → Progress T → Type 0
-IsNextInteger meant strict range nullable outside front rest after (Whole x n) = (0 < n) × (n ≤ length rest) × SpellsInt strict range nullable (meant x) (front ++ take n rest) × (after ≡ [])
-IsNextInteger meant strict range nullable outside front rest after (Wrong c n) = (0 < n) × (n ≤ length rest) × WrongInt strict range nullable outside (front ++ take n rest) c
+IsNextInteger meant strict range nullable outside front rest after (Whole x n) = (0 < n) × (n ≤ length rest)
+    × SpellsInt strict range nullable (meant x) (front ++ take n rest) × (after ≡ [])
+IsNextInteger meant strict range nullable outside front rest after (Wrong c n) = (0 < n) × (n ≤ length rest)
+    × WrongInt strict range nullable outside (front ++ take n rest) c
 IsNextInteger meant strict range nullable outside front rest after Cut = HaveNoStop (front ++ rest) × (length (front ++ rest) < 10) × (after ≡ front ++ rest)
 
 -- the string in the scratch, or NULL
@@ -60,7 +63,8 @@ BeginsWithCharacter (byte ∷ w) = (byte ≢ 0x00) × (byte ≢ 0x80)
 -- The result of the buffered bytes and those after them as a string, and the bytes in the scratch then: the string once it is complete, and
 -- all bytes if it is split.
 abbrev pub IsNextText : Bool → ℕ → List ℕ → List ℕ → List ℕ → Progress Bool → Type 0
-IsNextText nullable room front rest after (Whole is_text n) = (0 < n) × (n ≤ length rest) × SpellsAscii nullable room (text_or_null after is_text) (front ++ take n rest)
+IsNextText nullable room front rest after (Whole is_text n) = (0 < n) × (n ≤ length rest)
+    × SpellsAscii nullable room (text_or_null after is_text) (front ++ take n rest)
 IsNextText nullable room front rest after (Wrong c n) = (0 < n) × (n ≤ length rest) × ascii_text nullable room (front ++ take n rest) [] (wrong c)
 IsNextText nullable room front rest after Cut = ascii_text nullable room (front ++ rest) [] cut × (after ≡ front ++ rest)
 
@@ -72,6 +76,7 @@ run_at Scratch scratch piece = scratch
 -- The result of the buffered bytes and those after them as a run of this size, which its reader reads: it is complete, and is in the
 -- scratch or the piece, or it is split, and all bytes are buffered.
 abbrev pub IsNextRun : Reader (List ℕ) → ℕ → List ℕ → List ℕ → List ℕ → Progress Run → Type 0
-IsNextRun r size front rest after (Whole run n) = (0 < n) × (n ≤ length rest) × Turns r (front ++ take n rest) (Done (run_at run after (take n rest))) × (length (run_at run after (take n rest)) ≡ size)
+IsNextRun r size front rest after (Whole run n) = (0 < n) × (n ≤ length rest)
+    × Turns r (front ++ take n rest) (Done (run_at run after (take n rest))) × (length (run_at run after (take n rest)) ≡ size)
 IsNextRun r size front rest after (Wrong c n) = ⊥
 IsNextRun r size front rest after Cut = Stays r (front ++ rest) × (after ≡ front ++ rest) × (length after < size)

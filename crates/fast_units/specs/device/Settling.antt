@@ -52,6 +52,7 @@ pub record GivesField (r : Reader Outcome) (w : List ℕ) (f : FieldData) (sourc
 
 -- The result of the buffered bytes and those after them as the last unit of a field.
 abbrev pub IsLastUnit : Reader Outcome → FieldData → List ℕ → List ℕ → Dictionary → Dictionary → List ℕ → Progress ValueSource → Type 0
-IsLastUnit r f front rest old new scratch (Whole source n) = (0 < n) × (n ≤ length rest) × GivesField r (front ++ take n rest) f source old new scratch (take n rest)
+IsLastUnit r f front rest old new scratch (Whole source n) = (0 < n) × (n ≤ length rest)
+    × GivesField r (front ++ take n rest) f source old new scratch (take n rest)
 IsLastUnit r f front rest old new scratch (Wrong c n) = (0 < n) × (n ≤ length rest) × Turns r (front ++ take n rest) (Stop c)
 IsLastUnit r f front rest old new scratch Cut = Stays r (front ++ rest) × (new ≡ old)

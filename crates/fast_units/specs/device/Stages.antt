@@ -35,12 +35,15 @@ IsStageOf l f p (Mantissa e) = (family f.kind ≡ decimals) × (f.operator ≢ D
 IsStageOf l f p (MantissaDelta e) = (family f.kind ≡ decimals) × (f.operator ≡ Delta)
 IsStageOf l f p (Vector n) = (family f.kind ≡ texts) × (f.kind ≢ Ascii) × (f.operator ≢ Delta) × (f.operator ≢ Constant) × (n ≤ l.max_text)
 IsStageOf l f p (Part k) = (family f.kind ≡ texts) × (f.operator ≡ Delta) × ((kept : Kept) × (subtraction_step f p k ≡ Ok kept))
-IsStageOf l f p (PartVector k n) = (family f.kind ≡ texts) × (f.kind ≢ Ascii) × (f.operator ≡ Delta) × ((kept : Kept) × (subtraction_step f p k ≡ Ok kept) × (n ≤ l.max_text - kept_length kept))
+IsStageOf l f p (PartVector k n) = (family f.kind ≡ texts) × (f.kind ≢ Ascii) × (f.operator ≡ Delta)
+    × ((kept : Kept) × (subtraction_step f p k ≡ Ok kept) × (n ≤ l.max_text - kept_length kept))
 
 -- The result of the buffered bytes and those after them as a unit of a field, by the reader of this unit and the rest.
 abbrev pub IsFieldUnit : Limits → Reader Outcome → FieldData → List ℕ → List ℕ → Dictionary → Dictionary → List ℕ → Progress FieldStep → Type 0
-IsFieldUnit l r f front rest old new scratch (Whole (Settled source) n) = (0 < n) × (n ≤ length rest) × GivesField r (front ++ take n rest) f source old new scratch (take n rest)
-IsFieldUnit l r f front rest old new scratch (Whole (Next stage) n) = (0 < n) × (n ≤ length rest) × (new ≡ old) × IsStageOf (bounds l) f (previous_at f.entry old) stage
+IsFieldUnit l r f front rest old new scratch (Whole (Settled source) n) = (0 < n) × (n ≤ length rest)
+    × GivesField r (front ++ take n rest) f source old new scratch (take n rest)
+IsFieldUnit l r f front rest old new scratch (Whole (Next stage) n) = (0 < n) × (n ≤ length rest) × (new ≡ old)
+    × IsStageOf (bounds l) f (previous_at f.entry old) stage
     × Turns r (front ++ take n rest) (reader_of l.strict (term_behind (bounds l) f (previous_at f.entry old) stage))
 IsFieldUnit l r f front rest old new scratch (Wrong c n) = (0 < n) × (n ≤ length rest) × Turns r (front ++ take n rest) (Stop c)
 IsFieldUnit l r f front rest old new scratch Cut = Stays r (front ++ rest) × (new ≡ old)

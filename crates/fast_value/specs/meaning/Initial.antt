@@ -20,12 +20,14 @@ IsNumeral ds = All IsAsciiDigit ds × (1 ≤ length ds) × (length ds ≤ 20)
 -- The string is 1 to 20 digits, with an optional minus in front, and stands for the integer, which is in range.
 -- FAST 1.1: Template Definition, Type Conversion.
 abbrev pub IsInteger : Range → List ℕ → ℤ → Type 0
-IsInteger range text x = (ds : List ℕ) × IsNumeral ds × IsWithin range x × ((text ≡ ds) × (x ≡ pos (digits_value ds)) ⊎ (text ≡ 0x2D ∷ ds) × (x ≡ neg_ℤ (pos (digits_value ds))))
+IsInteger range text x = (ds : List ℕ) × IsNumeral ds × IsWithin range x
+    × ((text ≡ ds) × (x ≡ pos (digits_value ds)) ⊎ (text ≡ 0x2D ∷ ds) × (x ≡ neg_ℤ (pos (digits_value ds))))
 
 -- a mantissa, optionally followed by `e` and an exponent
 -- FAST 1.1: Template Definition, Type Conversion.
 abbrev pub IsDecimal : List ℕ → ℤ → ℤ → Type 0
-IsDecimal text e m = IsInteger (signed_range 63) text m × (e ≡ pos 0) ⊎ ((front back : List ℕ) × (text ≡ front ++ 0x65 ∷ back) × IsInteger (signed_range 63) front m × IsInteger exponent_range back e)
+IsDecimal text e m = IsInteger (signed_range 63) text m × (e ≡ pos 0)
+    ⊎ ((front back : List ℕ) × (text ≡ front ++ 0x65 ∷ back) × IsInteger (signed_range 63) front m × IsInteger exponent_range back e)
 
 -- The character is the hexadecimal digit, in either case, of the number.
 -- FAST 1.1: Template Definition, Type Conversion.

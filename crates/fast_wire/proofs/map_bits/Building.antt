@@ -1,5 +1,6 @@
 -- Bits set in the cells of a map.
-use Rattle.std.proofs.Common.{◌≡◌, ◌≢◌, ℕ, zero, suc, ◌+◌, ◌*◌, ◌-◌, ◌%◌, ◌/◌, ◌^◌, ◌<◌, ◌⊎◌, inl, inr, max, Bool, true, List, [], ◌∷◌, ◌++◌, refl, ap, sym, subst, ◌∙◌, length, get_or, set, replicate, arith, lit<}
+use Rattle.std.proofs.Common.{◌≡◌, ◌≢◌, ℕ, zero, suc, ◌+◌, ◌*◌, ◌-◌, ◌%◌, ◌/◌, ◌^◌, ◌<◌, ◌⊎◌, inl, inr, max, Bool, true, List, [], ◌∷◌}
+use Rattle.std.proofs.Common.{◌++◌, refl, ap, sym, subst, ◌∙◌, length, get_or, set, replicate, arith, lit<}
 use Rattle.std.specs.Prelude.{nat_eq, bit_or}
 use Rattle.std.proofs.lemmas.Bool.{cases_eq}
 use Rattle.std.proofs.lemmas.List.{get_or-set_same, get_or-set_other, length-set}
@@ -34,17 +35,27 @@ row w p q r s t u v = cc
 
 -- the bit at place r of the first cell
 first_cell : (x : ℕ) (cells : List ℕ) (r : ℕ) → r < 7 → bits (bit_or x (64 / 2 ^ r) ∷ cells) ≡ set (bits (x ∷ cells)) r true
-first_cell x cells zero h = row (bits cells) (bit_made x 64 6 refl) (bit_kept x 64 5 refl) (bit_kept x 64 4 refl) (bit_kept x 64 3 refl) (bit_kept x 64 2 refl) (bit_kept x 64 1 refl) (bit_kept x 64 0 refl)
-first_cell x cells (suc zero) h = row (bits cells) (bit_kept x 32 6 refl) (bit_made x 32 5 refl) (bit_kept x 32 4 refl) (bit_kept x 32 3 refl) (bit_kept x 32 2 refl) (bit_kept x 32 1 refl) (bit_kept x 32 0 refl)
-first_cell x cells (suc (suc zero)) h = row (bits cells) (bit_kept x 16 6 refl) (bit_kept x 16 5 refl) (bit_made x 16 4 refl) (bit_kept x 16 3 refl) (bit_kept x 16 2 refl) (bit_kept x 16 1 refl) (bit_kept x 16 0 refl)
-first_cell x cells (suc (suc (suc zero))) h = row (bits cells) (bit_kept x 8 6 refl) (bit_kept x 8 5 refl) (bit_kept x 8 4 refl) (bit_made x 8 3 refl) (bit_kept x 8 2 refl) (bit_kept x 8 1 refl) (bit_kept x 8 0 refl)
-first_cell x cells (suc (suc (suc (suc zero)))) h = row (bits cells) (bit_kept x 4 6 refl) (bit_kept x 4 5 refl) (bit_kept x 4 4 refl) (bit_kept x 4 3 refl) (bit_made x 4 2 refl) (bit_kept x 4 1 refl) (bit_kept x 4 0 refl)
-first_cell x cells (suc (suc (suc (suc (suc zero))))) h = row (bits cells) (bit_kept x 2 6 refl) (bit_kept x 2 5 refl) (bit_kept x 2 4 refl) (bit_kept x 2 3 refl) (bit_kept x 2 2 refl) (bit_made x 2 1 refl) (bit_kept x 2 0 refl)
-first_cell x cells (suc (suc (suc (suc (suc (suc zero)))))) h = row (bits cells) (bit_kept x 1 6 refl) (bit_kept x 1 5 refl) (bit_kept x 1 4 refl) (bit_kept x 1 3 refl) (bit_kept x 1 2 refl) (bit_kept x 1 1 refl) (bit_made x 1 0 refl)
+first_cell x cells zero h = row (bits cells) (bit_made x 64 6 refl) (bit_kept x 64 5 refl) (bit_kept x 64 4 refl) (bit_kept x 64 3 refl)
+    (bit_kept x 64 2 refl) (bit_kept x 64 1 refl) (bit_kept x 64 0 refl)
+first_cell x cells (suc zero) h = row (bits cells) (bit_kept x 32 6 refl) (bit_made x 32 5 refl) (bit_kept x 32 4 refl)
+    (bit_kept x 32 3 refl) (bit_kept x 32 2 refl) (bit_kept x 32 1 refl) (bit_kept x 32 0 refl)
+first_cell x cells (suc (suc zero)) h = row (bits cells) (bit_kept x 16 6 refl) (bit_kept x 16 5 refl) (bit_made x 16 4 refl)
+    (bit_kept x 16 3 refl) (bit_kept x 16 2 refl) (bit_kept x 16 1 refl) (bit_kept x 16 0 refl)
+first_cell x cells (suc (suc (suc zero))) h = row (bits cells) (bit_kept x 8 6 refl) (bit_kept x 8 5 refl) (bit_kept x 8 4 refl)
+    (bit_made x 8 3 refl) (bit_kept x 8 2 refl) (bit_kept x 8 1 refl) (bit_kept x 8 0 refl)
+first_cell x cells (suc (suc (suc (suc zero)))) h = row (bits cells) (bit_kept x 4 6 refl) (bit_kept x 4 5 refl) (bit_kept x 4 4 refl)
+    (bit_kept x 4 3 refl) (bit_made x 4 2 refl) (bit_kept x 4 1 refl) (bit_kept x 4 0 refl)
+first_cell x cells (suc (suc (suc (suc (suc zero))))) h =
+    row (bits cells) (bit_kept x 2 6 refl) (bit_kept x 2 5 refl) (bit_kept x 2 4 refl) (bit_kept x 2 3 refl) (bit_kept x 2 2 refl)
+    (bit_made x 2 1 refl) (bit_kept x 2 0 refl)
+first_cell x cells (suc (suc (suc (suc (suc (suc zero)))))) h =
+    row (bits cells) (bit_kept x 1 6 refl) (bit_kept x 1 5 refl) (bit_kept x 1 4 refl) (bit_kept x 1 3 refl) (bit_kept x 1 2 refl)
+    (bit_kept x 1 1 refl) (bit_made x 1 0 refl)
 first_cell x cells (suc (suc (suc (suc (suc (suc (suc r))))))) h = absurd (omega arith)
 
 -- the bit at place r of the cell q
-cell_set : (cells : List ℕ) (q r : ℕ) → r < 7 → q < length cells → bits (set cells q (bit_or (get_or cells q 0) (64 / 2 ^ r))) ≡ set (bits cells) (7 * q + r) true
+cell_set : (cells : List ℕ) (q r : ℕ) → r < 7 → q < length cells
+    → bits (set cells q (bit_or (get_or cells q 0) (64 / 2 ^ r))) ≡ set (bits cells) (7 * q + r) true
 cell_set [] q r h l = absurd (omega arith)
 cell_set (x ∷ cells) zero r h l =
     let e : r ≡ 0 + r = omega arith in
@@ -53,7 +64,8 @@ cell_set (x ∷ cells) (suc q) r h l =
     let seven : 7 * suc q + r ≡ suc (suc (suc (suc (suc (suc (suc (7 * q + r))))))) = omega arith in
     ap (λ w. seven_bits x ++ w) (cell_set cells q r h (omega arith)) ∙ ap (λ (n : ℕ). set (bits (x ∷ cells)) n true) (sym seven)
 
-pub bit_set : (cells : List ℕ) (i : ℕ) → i / 7 < length cells → bits (set cells (i / 7) (bit_or (get_or cells (i / 7) 0) (64 / 2 ^ (i % 7)))) ≡ set (bits cells) i true
+pub bit_set : (cells : List ℕ) (i : ℕ) → i / 7 < length cells
+    → bits (set cells (i / 7) (bit_or (get_or cells (i / 7) 0) (64 / 2 ^ (i % 7)))) ≡ set (bits cells) i true
 bit_set cells i l =
     let e : 7 * (i / 7) + i % 7 ≡ i = omega arith in
     cell_set cells (i / 7) (i % 7) (omega arith) l ∙ ap (λ (n : ℕ). set (bits cells) n true) e
@@ -95,7 +107,8 @@ module _ (cells : List ℕ) (len q m : ℕ) (b : IsBuilt cells len) (h : q < map
       absurd (omega (arith, le_or_r (get_or cells q 0) m))
   needed_by (inr n) many z =
       let e : max len (q + 1) ≡ len = omega arith in
-      let o : get_or (set cells q made) (max len (q + 1) - 1) 0 ≡ get_or cells (max len (q + 1) - 1) 0 = get_or-set_other cells q (max len (q + 1) - 1) made 0 n in
+      let o : get_or (set cells q made) (max len (q + 1) - 1) 0 ≡ get_or cells (max len (q + 1) - 1) 0 =
+      get_or-set_other cells q (max len (q + 1) - 1) made 0 n in
       b.needed (omega arith) (subst (λ n. get_or cells (n - 1) 0 ≡ 0) e (sym o ∙ z))
 
   pub built_more : m < 128 → IsBuilt (set cells q made) (max len (q + 1))

@@ -1,5 +1,6 @@
 -- The shortest map of built cells.
-use Rattle.std.proofs.Common.{◌≡◌, ℕ, zero, suc, ◌+◌, ◌*◌, ◌-◌, ◌%◌, ◌/◌, ◌^◌, ◌<◌, ◌≤◌, ◌⊎◌, inl, inr, true, false, List, [], ◌∷◌, ◌++◌, refl, ap, sym, ◌∙◌, length, take, get_or, arith, length-append}
+use Rattle.std.proofs.Common.{◌≡◌, ℕ, zero, suc, ◌+◌, ◌*◌, ◌-◌, ◌%◌, ◌/◌, ◌^◌, ◌<◌, ◌≤◌, ◌⊎◌, inl, inr, true, false, List, [], ◌∷◌, ◌++◌}
+use Rattle.std.proofs.Common.{refl, ap, sym, ◌∙◌, length, take, get_or, arith, length-append}
 use Rattle.std.specs.Prelude.{bit_or}
 use Rattle.std.proofs.lemmas.Bool.{cases_order}
 use Rattle.std.proofs.lemmas.List.{get_or_past, get_or_push, get_or_append_left, get_or-take, length-take-le, take_all}
@@ -29,7 +30,8 @@ module _ (cells : List ℕ) (len : ℕ) (b : IsBuilt cells len) where
 
   last_is : last ≡ 128 + get_or cells (len - 1) 0
   last_is =
-      let s : bit_or (1 * 2 ^ 7) (get_or cells (len - 1) 0) ≡ 1 * 2 ^ 7 + get_or cells (len - 1) 0 = or_shifted 1 7 (get_or cells (len - 1) 0) (b.unstopped (len - 1) 0 within) in
+      let s : bit_or (1 * 2 ^ 7) (get_or cells (len - 1) 0) ≡ 1 * 2 ^ 7 + get_or cells (len - 1) 0 =
+      or_shifted 1 7 (get_or cells (len - 1) 0) (b.unstopped (len - 1) 0 within) in
       or_comm (get_or cells (len - 1) 0) 128 ∙ s
 
   long : length finished ≡ len

@@ -1,5 +1,6 @@
 -- A map in strict mode ends with a byte that has a bit set, or is one byte.
-use Rattle.std.proofs.Common.{◌≡◌, ◌≢◌, ℕ, suc, ◌+◌, ◌*◌, ◌-◌, ◌%◌, ◌/◌, ◌^◌, ◌<◌, ◌≤◌, ◌⊎◌, inl, inr, true, false, List, refl, ap, sym, ◌∙◌, length, get_or, arith}
+use Rattle.std.proofs.Common.{◌≡◌, ◌≢◌, ℕ, suc, ◌+◌, ◌*◌, ◌-◌, ◌%◌, ◌/◌, ◌^◌, ◌<◌, ◌≤◌, ◌⊎◌, inl, inr, true, false, List, refl, ap, sym}
+use Rattle.std.proofs.Common.{◌∙◌, length, get_or, arith}
 use Rattle.std.proofs.lemmas.Bool.{cases_lt, cases_eq}
 use Rattle.std.proofs.lemmas.Bool.Decides.{Decides-eqb}
 use Rattle.fast_wire.specs.meaning.Maps.{bits, IsMap, bytes_for}
@@ -17,14 +18,17 @@ record SetBit (byte : ℕ) : Type 0 where
 at : (byte place : ℕ) → place < 7 → byte / 2 ^ (6 - place) % 2 ≡ 1 → SetBit byte
 at byte place h e = record { place = place; within = h; set = (Decides-eqb (byte / 2 ^ (6 - place) % 2) 1).1 e }
 
-by_six : (byte : ℕ) → byte % 128 ≢ 0 → byte / 2 % 2 ≢ 1 → byte / 4 % 2 ≢ 1 → byte / 8 % 2 ≢ 1 → byte / 16 % 2 ≢ 1 → byte / 32 % 2 ≢ 1 → byte / 64 % 2 ≢ 1 → byte / 1 % 2 ≡ 1
+by_six : (byte : ℕ) → byte % 128 ≢ 0 → byte / 2 % 2 ≢ 1 → byte / 4 % 2 ≢ 1 → byte / 8 % 2 ≢ 1 → byte / 16 % 2 ≢ 1 → byte / 32 % 2 ≢ 1
+    → byte / 64 % 2 ≢ 1 → byte / 1 % 2 ≡ 1
 by_six byte some b c d e f g = omega arith
 
 set_bit : (byte : ℕ) → byte % 128 ≢ 0 → SetBit byte
-set_bit byte some = one (cases_eq (byte / 2 % 2) 1) (cases_eq (byte / 4 % 2) 1) (cases_eq (byte / 8 % 2) 1) (cases_eq (byte / 16 % 2) 1) (cases_eq (byte / 32 % 2) 1) (cases_eq (byte / 64 % 2) 1)
+set_bit byte some = one (cases_eq (byte / 2 % 2) 1) (cases_eq (byte / 4 % 2) 1) (cases_eq (byte / 8 % 2) 1) (cases_eq (byte / 16 % 2) 1)
+    (cases_eq (byte / 32 % 2) 1) (cases_eq (byte / 64 % 2) 1)
   where
     one : (byte / 2 % 2 ≡ 1) ⊎ (byte / 2 % 2 ≡ 1 → ⊥) → (byte / 4 % 2 ≡ 1) ⊎ (byte / 4 % 2 ≡ 1 → ⊥) → (byte / 8 % 2 ≡ 1) ⊎ (byte / 8 % 2 ≡ 1 → ⊥)
-        → (byte / 16 % 2 ≡ 1) ⊎ (byte / 16 % 2 ≡ 1 → ⊥) → (byte / 32 % 2 ≡ 1) ⊎ (byte / 32 % 2 ≡ 1 → ⊥) → (byte / 64 % 2 ≡ 1) ⊎ (byte / 64 % 2 ≡ 1 → ⊥) → SetBit byte
+        → (byte / 16 % 2 ≡ 1) ⊎ (byte / 16 % 2 ≡ 1 → ⊥) → (byte / 32 % 2 ≡ 1) ⊎ (byte / 32 % 2 ≡ 1 → ⊥)
+        → (byte / 64 % 2 ≡ 1) ⊎ (byte / 64 % 2 ≡ 1 → ⊥) → SetBit byte
     one (inl h) c d e f g = at byte 5 (omega arith) h
     one (inr b) (inl h) d e f g = at byte 4 (omega arith) h
     one (inr b) (inr c) (inl h) e f g = at byte 3 (omega arith) h

@@ -26,6 +26,13 @@ last_of (x ∷ front) byte last = last_behind x (front ++ byte ∷ last ∷ []) 
 -- whether the last byte is spare, by its lower seven bits
 pub spare_by_mask : (w : List ℕ) → 1 < length w → (eqb (bit_and (get_or w (length w - 1) 0) 127) 0 ≡ true) ↔ HasSpareByte w
 spare_by_mask w l = (
-  λ t. let s = last_split w l in (s.0, s.1, get_or w (length w - 1) 0, s.2, sym (and_mask (get_or w (length w - 1) 0) 7) ∙ (Decides-eqb (bit_and (get_or w (length w - 1) 0) 127) 0).0 t),
+  λ t. let s = last_split w l in (
+    s.0,
+    s.1,
+    get_or w (length w - 1) 0,
+    s.2,
+    sym (and_mask (get_or w (length w - 1) 0) 7)
+        ∙ (Decides-eqb (bit_and (get_or w (length w - 1) 0) 127) 0).0 t,
+  ),
   λ (front, byte, last, d, e). (Decides-eqb (bit_and (get_or w (length w - 1) 0) 127) 0).1 (and_mask (get_or w (length w - 1) 0) 7 ∙ rw d (rw last_of e)),
 )

@@ -14,7 +14,8 @@ pub not_so : (b : Bool) (P : Type 0) → (IsTrue b ↔ P) → b ≡ false → P 
 not_so b P d e p = let t : b ≡ true = d.1 p in absurd (cc)
 
 -- the nullable form of an integer over the greatest one
-pub above_top : (strict : Bool) (top x : ℕ) (w : List ℕ) → IsInteger strict (unsigned_up_to top) w → number w ≡ suc x → top < x → IsOutside strict (unsigned_up_to top) true w
+pub above_top : (strict : Bool) (top x : ℕ) (w : List ℕ) → IsInteger strict (unsigned_up_to top) w → number w ≡ suc x → top < x
+    → IsOutside strict (unsigned_up_to top) true w
 above_top strict top x w i e h = (pos x, i, ap pos e, λ k. absurd (omega (arith, ints, k.1)))
 
 -- powers of 128 are shifts by seven
@@ -31,7 +32,8 @@ natural_is sum len few small =
     to_z_pos w128 sum (omega arith)
 
 -- two's complement in 128 bits
-pub complement_is : (sum len : ℕ) → len ≤ 10 → sum < 2 ^ (7 * len) → to_z w128 (of_z w128 (to_z w128 sum -ℤ to_z w128 (1 * 2 ^ (7 * len) % 2 ^ 128))) ≡ pos sum -ℤ pos (2 ^ (7 * len))
+pub complement_is : (sum len : ℕ) → len ≤ 10 → sum < 2 ^ (7 * len)
+    → to_z w128 (of_z w128 (to_z w128 sum -ℤ to_z w128 (1 * 2 ^ (7 * len) % 2 ^ 128))) ≡ pos sum -ℤ pos (2 ^ (7 * len))
 complement_is sum len few small =
     let p : 2 ^ (7 * len) ≤ 2 ^ 70 = pow-le-pow_right {n = 2} (lit< tt) {i = 7 * len} {j = 70} (omega arith) in
     let s : 1 * 2 ^ (7 * len) % 2 ^ 128 ≡ 2 ^ (7 * len) = one_shl (7 * len) 128 (omega arith) in

@@ -1,5 +1,6 @@
 -- The number of an entity, byte after byte.
-use Rattle.std.proofs.Common.{◌≡◌, ℕ, ◌+◌, ◌*◌, ◌%◌, ◌^◌, ◌<◌, ◌≤◌, List, [], ◌∷◌, ◌++◌, ap, sym, ◌∙◌, length, take, get_or, arith, length-append, add-one, mul_assoc, lit<}
+use Rattle.std.proofs.Common.{◌≡◌, ℕ, ◌+◌, ◌*◌, ◌%◌, ◌^◌, ◌<◌, ◌≤◌, List, [], ◌∷◌, ◌++◌, ap, sym, ◌∙◌, length, take, get_or, arith}
+use Rattle.std.proofs.Common.{length-append, add-one, mul_assoc, lit<}
 use Rattle.std.proofs.Math.Nat.{mod-lt, pow-suc, pow-le-pow_right, mul-le-mul_right}
 use Rattle.std.proofs.lemmas.List.{take_more}
 use Rattle.std.proofs.lemmas.Nat.{or_shifted, and_mask, shl_whole, pow-add}
@@ -53,7 +54,8 @@ pub record IsNumberSoFar (sum i : ℕ) (w : List ℕ) : Type 0 where
   pub small : sum < 2 ^ (7 * i)
 
 -- The step of a loop over the bytes, at a width of `width` bits and at most n bytes before this one.
-pub one_byte_more : (width n i sum r : ℕ) (w : List ℕ) → i < length w → i ≤ n → 7 * n + 7 ≤ width → IsNumberSoFar sum i w → r ≡ bit_and (get_or w i 0) 127 → IsNumberSoFar (bit_or (sum * 128 % 2 ^ width) r) (i + 1) w
+pub one_byte_more : (width n i sum r : ℕ) (w : List ℕ) → i < length w → i ≤ n → 7 * n + 7 ≤ width → IsNumberSoFar sum i w
+    → r ≡ bit_and (get_or w i 0) 127 → IsNumberSoFar (bit_or (sum * 128 % 2 ^ width) r) (i + 1) w
 one_byte_more width n i sum r w h within fits before e =
     let value = before.value in
     let small = before.small in

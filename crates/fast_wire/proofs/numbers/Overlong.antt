@@ -1,5 +1,6 @@
 -- Which entities are overlong.
-use Rattle.std.proofs.Common.{◌≡◌, ℕ, zero, suc, ◌+◌, ◌*◌, ◌%◌, ◌^◌, ◌<◌, ◌≤◌, List, [], ◌∷◌, refl, ap, sym, ◌∙◌, ◌⊎◌, inl, inr, length, length-append, take, get_or, arith, lit<, eqb, leb}
+use Rattle.std.proofs.Common.{◌≡◌, ℕ, zero, suc, ◌+◌, ◌*◌, ◌%◌, ◌^◌, ◌<◌, ◌≤◌, List, [], ◌∷◌, refl, ap, sym, ◌∙◌, ◌⊎◌, inl, inr, length}
+use Rattle.std.proofs.Common.{length-append, take, get_or, arith, lit<, eqb, leb}
 use Rattle.std.specs.Prelude.{ℤ, pos, ◌-ℤ◌, ◌↔◌, Bool, true, false, if◌then◌else◌, IsTrue, bit_and}
 use Rattle.std.proofs.Math.Nat.{one-le-pow, mul-le-mul_right, pow-suc, le_of_mul-le-mul_right}
 use Rattle.std.proofs.lemmas.Int.{ints}
@@ -122,7 +123,8 @@ overlong_is_sign w entity (x, y, r, d, e) =
     let k : x ≡ (if has_sign (y ∷ r) then 127 else 0) = sign_told x (y ∷ r) (has_sign (y ∷ r)) (has_sign (x ∷ y ∷ r)) x_small refl refl (e ∙ ap signed d) in
     rw d k
 
-pub overlong_by_sign : (w : List ℕ) (s : ℕ) → IsEntity w → 1 < length w → s ≡ (if has_sign (get_or w 1 0 ∷ []) then 127 else 0) → (eqb (get_or w 0 0) s ≡ true) ↔ IsOverlong signed w
+pub overlong_by_sign : (w : List ℕ) (s : ℕ) → IsEntity w → 1 < length w → s ≡ (if has_sign (get_or w 1 0 ∷ []) then 127 else 0)
+    → (eqb (get_or w 0 0) s ≡ true) ↔ IsOverlong signed w
 overlong_by_sign w s entity l e = (
   λ t. sign_is_overlong w l ((Decides-eqb (get_or w 0 0) s).0 t ∙ e),
   λ o. (Decides-eqb (get_or w 0 0) s).1 (overlong_is_sign w entity o ∙ sym e),
@@ -153,17 +155,24 @@ none_by_sign bytes other n entity o =
 pub clear_repeats : (first second : ℕ) → first ≡ 0 → (eqb (bit_and second 64) 0 ≡ true) ↔ (first ≡ (if has_sign (second ∷ []) then 127 else 0))
 clear_repeats first second is = by (cases_Bool (eqb (bit_and second 64) 0))
   where
-    by : (eqb (bit_and second 64) 0 ≡ true) ⊎ (eqb (bit_and second 64) 0 ≡ false) → (eqb (bit_and second 64) 0 ≡ true) ↔ (first ≡ sevens_of (has_sign (second ∷ [])))
+    by : (eqb (bit_and second 64) 0 ≡ true) ⊎ (eqb (bit_and second 64) 0 ≡ false)
+        → (eqb (bit_and second 64) 0 ≡ true) ↔ (first ≡ sevens_of (has_sign (second ∷ [])))
     by (inl t) = (λ u. is ∙ sym (ap sevens_of (sign_clear (second ∷ []) ((Decides-eqb (bit_and second 64) 0).0 t))), λ e. t)
     by (inr f) =
-        let s : sevens_of (has_sign (second ∷ [])) ≡ 127 = ap sevens_of (sign_set (second ∷ []) (not_from_Decides (eqb (bit_and second 64) 0) (Decides-eqb (bit_and second 64) 0) f)) in
+        let s : sevens_of (has_sign (second ∷ [])) ≡ 127 = ap sevens_of
+        (sign_set (second ∷ []) (not_from_Decides (eqb (bit_and second 64) 0) (Decides-eqb (bit_and second 64) 0) f)) in
         (λ t. absurd (cc (sym f ∙ t)), λ e. absurd (omega (arith, is, e, s)))
 
 pub set_repeats : (first second : ℕ) → first ≡ 127 → (not (eqb (bit_and second 64) 0) ≡ true) ↔ (first ≡ (if has_sign (second ∷ []) then 127 else 0))
 set_repeats first second is = by (cases_Bool (eqb (bit_and second 64) 0))
   where
-    by : (eqb (bit_and second 64) 0 ≡ true) ⊎ (eqb (bit_and second 64) 0 ≡ false) → (not (eqb (bit_and second 64) 0) ≡ true) ↔ (first ≡ sevens_of (has_sign (second ∷ [])))
+    by : (eqb (bit_and second 64) 0 ≡ true) ⊎ (eqb (bit_and second 64) 0 ≡ false)
+        → (not (eqb (bit_and second 64) 0) ≡ true) ↔ (first ≡ sevens_of (has_sign (second ∷ [])))
     by (inl t) =
         let s : sevens_of (has_sign (second ∷ [])) ≡ 0 = ap sevens_of (sign_clear (second ∷ []) ((Decides-eqb (bit_and second 64) 0).0 t)) in
         (λ u. absurd (cc (sym (ap not t) ∙ u)), λ e. absurd (omega (arith, is, e, s)))
-    by (inr f) = (λ u. is ∙ sym (ap sevens_of (sign_set (second ∷ []) (not_from_Decides (eqb (bit_and second 64) 0) (Decides-eqb (bit_and second 64) 0) f))), λ e. ap not f)
+    by (inr f) = (
+      λ u. is ∙ sym (ap sevens_of (sign_set (second ∷ [])
+          (not_from_Decides (eqb (bit_and second 64) 0) (Decides-eqb (bit_and second 64) 0) f))),
+      λ e. ap not f,
+    )

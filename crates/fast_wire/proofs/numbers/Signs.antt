@@ -11,7 +11,8 @@ use Rattle.fast_wire.proofs.numbers.Numbers.{number-lt}
 bit-64 : (b : ℕ) → bit_and b 64 ≡ (b / 64 % 2) * 64
 bit-64 b =
     let e : b / 64 * 64 + b % 64 ≡ b = omega arith in
-    let k : bit_and (b / 64 * 2 ^ 6 + b % 64) (1 * 2 ^ 6 + 0) ≡ bit_and (b / 64) 1 * 2 ^ 6 + bit_and (b % 64) 0 = and_block 6 (b / 64) 1 (b % 64) 0 (omega arith) (lit< tt) in
+    let k : bit_and (b / 64 * 2 ^ 6 + b % 64) (1 * 2 ^ 6 + 0) ≡ bit_and (b / 64) 1 * 2 ^ 6 + bit_and (b % 64) 0 =
+    and_block 6 (b / 64) 1 (b % 64) 0 (omega arith) (lit< tt) in
     let one : bit_and (b / 64) 1 ≡ b / 64 % 2 = and_mask (b / 64) 1 in
     let none : bit_and (b % 64) 0 ≡ b % 64 % 1 = and_mask (b % 64) 0 in
     ap (λ (n : ℕ). bit_and n 64) (sym e) ∙ k ∙ omega arith

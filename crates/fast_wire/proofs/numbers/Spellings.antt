@@ -1,5 +1,6 @@
 -- Laws of what entities spell.
-use Rattle.std.proofs.Common.{◌≡◌, ℕ, suc, ◌+◌, ◌*◌, ◌-◌, ◌%◌, ◌^◌, ◌<◌, ◌≤◌, ◌⊎◌, inl, inr, Bool, true, false, List, [], ◌∷◌, refl, ap, sym, subst, ◌∙◌, length, arith, lit<, length-append}
+use Rattle.std.proofs.Common.{◌≡◌, ℕ, suc, ◌+◌, ◌*◌, ◌-◌, ◌%◌, ◌^◌, ◌<◌, ◌≤◌, ◌⊎◌, inl, inr, Bool, true, false, List, [], ◌∷◌, refl, ap}
+use Rattle.std.proofs.Common.{sym, subst, ◌∙◌, length, arith, lit<, length-append}
 use Rattle.std.specs.Prelude.{ℤ, pos, negsuc, ◌-ℤ◌, Option, Some, None, if◌then◌else◌}
 use Rattle.std.proofs.Math.Nat.{pow-suc, pow-le-pow_right, mul-le-mul_right}
 use Rattle.std.proofs.lemmas.Int.{ints}
@@ -118,7 +119,8 @@ pub strict_is_shortest : StrictIsShortest
 strict_is_shortest strict range nullable x v w p q = by (cases_lt (length v) (length w))
   where
     by : (length v < length w) ⊎ (length w ≤ length v) → length w ≤ length v
-    by (inl l) = absurd (p.form.shortest refl (longer range.is_signed v w (same_sent nullable (value range v) (value range w) x q.meaning p.meaning) (entity_is_long v q.form.entity) l))
+    by (inl l) = absurd (p.form.shortest refl (longer range.is_signed v w
+        (same_sent nullable (value range v) (value range w) x q.meaning p.meaning) (entity_is_long v q.form.entity) l))
     by (inr l) = l
 
 -- an entity without its first byte
@@ -169,10 +171,12 @@ same_bytes (a ∷ x ∷ v) (b ∷ y ∷ w) p q c d l n =
     n ∙ ap (λ (k : ℕ). (b % 128) * 128 ^ k + number (y ∷ w)) (sym k) in
     let s = same_from_place (a % 128) (number (x ∷ v)) (b % 128) (number (y ∷ w)) (128 ^ length (x ∷ v)) (number-lt (x ∷ v)) m t in
     let first : a ≡ b = omega (arith, first_of_more a x v p, first_of_more b y w q, s.0) in
-    let rest : x ∷ v ≡ y ∷ w = same_bytes (x ∷ v) (y ∷ w) (tail_entity a x v p) (tail_entity b y w q) (All-tail (λ byte. byte < 256) a (x ∷ v) c) (All-tail (λ byte. byte < 256) b (y ∷ w) d) k s.1 in
+    let rest : x ∷ v ≡ y ∷ w = same_bytes (x ∷ v) (y ∷ w) (tail_entity a x v p) (tail_entity b y w q)
+    (All-tail (λ byte. byte < 256) a (x ∷ v) c) (All-tail (λ byte. byte < 256) b (y ∷ w) d) k s.1 in
     cc
 
-same_number : (s t u : Bool) (v w : List ℕ) → has_sign v ≡ t → has_sign w ≡ u → (if s then signed v else pos (number v)) ≡ (if s then signed w else pos (number w)) → length v ≡ length w → number v ≡ number w
+same_number : (s t u : Bool) (v w : List ℕ) → has_sign v ≡ t → has_sign w ≡ u
+    → (if s then signed v else pos (number v)) ≡ (if s then signed w else pos (number w)) → length v ≡ length w → number v ≡ number w
 same_number false t u v w p q e l = cc
 same_number true false false v w p q e l = let k : pos (number v) ≡ pos (number w) = sym (signed_clear v p) ∙ e ∙ signed_clear w q in cc
 same_number true false true v w p q e l =

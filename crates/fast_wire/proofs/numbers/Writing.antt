@@ -11,7 +11,8 @@ use Rattle.fast_wire.proofs.numbers.Numbers.{number-push, number-lt}
 use Rattle.fast_wire.proofs.numbers.Signs.{sign_low, sign_high, signed_clear, signed_set}
 
 -- one group more
-pub group_more : (n i b : ℕ) (w : List ℕ) → 1 ≤ i → number w ≡ n / 2 ^ (7 * i) → b ≡ bit_and (n / 2 ^ (7 * (i - 1))) 127 → number (w ++ b ∷ []) ≡ n / 2 ^ (7 * (i - 1))
+pub group_more : (n i b : ℕ) (w : List ℕ) → 1 ≤ i → number w ≡ n / 2 ^ (7 * i) → b ≡ bit_and (n / 2 ^ (7 * (i - 1))) 127
+    → number (w ++ b ∷ []) ≡ n / 2 ^ (7 * (i - 1))
 group_more n i b w some value is =
     let q = n / 2 ^ (7 * (i - 1)) in
     let e : 7 * (i - 1) + 7 ≡ 7 * i = omega arith in
@@ -71,7 +72,8 @@ signed_natural w some h =
     let l : length w ≡ suc (length w - 1) = omega arith in
     signed_natural_by w (length w - 1) (has_sign w) l refl h
 
-signed_negative_by : (w : List ℕ) (k c : ℕ) (b : Bool) → length w ≡ suc k → has_sign w ≡ b → c * 2 < 2 ^ (7 * length w) → number w ≡ 2 ^ (7 * length w) - 1 - c → signed w ≡ negsuc c
+signed_negative_by : (w : List ℕ) (k c : ℕ) (b : Bool) → length w ≡ suc k → has_sign w ≡ b → c * 2 < 2 ^ (7 * length w)
+    → number w ≡ 2 ^ (7 * length w) - 1 - c → signed w ≡ negsuc c
 signed_negative_by w k c false l e h is =
     let p : 2 ^ (7 * length w) ≡ 2 ^ (7 * suc k) = ap (λ (m : ℕ). 2 ^ (7 * m)) l in
     absurd (omega (arith, sign_low w k l e, half_twice k))
@@ -86,13 +88,15 @@ signed_negative w c some h is =
 
 -- the same, where the length is told by another number
 pub full_at : (w : List ℕ) (len : ℕ) (x : ℤ) → length w ≡ len → signed w ≡ x → (1 < len → 2 ^ (7 * (len - 1)) ≤ mag x * 2) → IsOverlong signed w → ⊥
-full_at w len x l e full = full_signed w (subst (λ n. 1 < n → 2 ^ (7 * (n - 1)) ≤ mag (signed w) * 2) (sym l) (λ h. subst (λ z. 2 ^ (7 * (len - 1)) ≤ mag z * 2) (sym e) (full h)))
+full_at w len x l e full = full_signed w (subst (λ n. 1 < n → 2 ^ (7 * (n - 1)) ≤ mag (signed w) * 2) (sym l)
+    (λ h. subst (λ z. 2 ^ (7 * (len - 1)) ≤ mag z * 2) (sym e) (full h)))
 
 pub natural_at : (w : List ℕ) (len sum : ℕ) → length w ≡ len → number w ≡ sum → 0 < len → sum * 2 < 2 ^ (7 * len) → signed w ≡ pos sum
 natural_at w len sum l e some h =
     signed_natural w (omega arith) (subst (λ n. number w * 2 < 2 ^ (7 * n)) (sym l) (subst (λ n. n * 2 < 2 ^ (7 * len)) (sym e) h)) ∙ ap pos e
 
-pub negative_at : (w : List ℕ) (len c : ℕ) → length w ≡ len → number w ≡ 1 * 2 ^ (7 * len) % 2 ^ 128 - 1 - c → 0 < len → len ≤ 10 → c * 2 < 2 ^ (7 * len) → signed w ≡ negsuc c
+pub negative_at : (w : List ℕ) (len c : ℕ) → length w ≡ len → number w ≡ 1 * 2 ^ (7 * len) % 2 ^ 128 - 1 - c → 0 < len → len ≤ 10
+    → c * 2 < 2 ^ (7 * len) → signed w ≡ negsuc c
 negative_at w len c l e some few h =
     let shift : 1 * 2 ^ (7 * len) % 2 ^ 128 ≡ 2 ^ (7 * len) = one_shl (7 * len) 128 (omega arith) in
     signed_negative w c (omega arith) (subst (λ n. c * 2 < 2 ^ (7 * n)) (sym l) h)

@@ -1,5 +1,6 @@
 -- What a block's mask says.
-use Rattle.std.proofs.Common.{◌≡◌, ℕ, ◌+◌, ◌-◌, ◌%◌, ◌^◌, ◌<◌, ◌≤◌, List, ap, sym, subst, ◌∙◌, length, get_or, arith, leb, w8, true, false, cond, not, map, replicate}
+use Rattle.std.proofs.Common.{◌≡◌, ℕ, ◌+◌, ◌-◌, ◌%◌, ◌^◌, ◌<◌, ◌≤◌, List, ap, sym, subst, ◌∙◌, length, get_or, arith, leb, w8, true, false}
+use Rattle.std.proofs.Common.{cond, not, map, replicate}
 use Rattle.std.specs.List.{prefix_len}
 use lib.Lanes.{chunk, mask_l, zip2, top}
 use mir.Val.{hbits}
@@ -8,7 +9,8 @@ use Rattle.std.proofs.lemmas.List.{length-map}
 use Rattle.std.proofs.lemmas.Bool.Decides.{nat_tests}
 use Rattle.std.proofs.lemmas.List.Sums.{prefix_len_passes, prefix_len_stops, prefix_len-le-length}
 
-pub mask_is : (v : List ℕ) → length v ≡ 16 → mask_l (map (top (hbits w8)) (zip2 (λ a b. cond (leb a b) (2 ^ 8 - 1) 0) (replicate 16 128) v)) % 2 ^ 64 ≡ mask_l (map (leb 128) v)
+pub mask_is : (v : List ℕ) → length v ≡ 16 → mask_l (map (top (hbits w8))
+    (zip2 (λ a b. cond (leb a b) (2 ^ 8 - 1) 0) (replicate 16 128) v)) % 2 ^ 64 ≡ mask_l (map (leb 128) v)
 mask_is v h =
     let e = tops_compared w8 leb (replicate 16 128) v ∙ zip2_splat_left leb 128 16 v h in
     ap (λ ms. mask_l ms % 2 ^ 64) e ∙ mask_l-mod (map (leb 128) v) 64 (omega (arith, length-map v (leb 128)))

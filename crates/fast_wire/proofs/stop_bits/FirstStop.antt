@@ -1,5 +1,6 @@
 -- The first stop bit of eight bytes, by the zeros below it.
-use Rattle.std.proofs.Common.{◌≡◌, ◌≢◌, ℕ, zero, suc, ◌+◌, ◌*◌, ◌-◌, ◌%◌, ◌/◌, ◌^◌, ◌<◌, ◌≤◌, ◌⊎◌, inl, inr, List, [], ◌∷◌, ◌++◌, refl, ap, sym, subst, ◌∙◌, length, map, replicate, arith, lit<, length-append, append_assoc}
+use Rattle.std.proofs.Common.{◌≡◌, ◌≢◌, ℕ, zero, suc, ◌+◌, ◌*◌, ◌-◌, ◌%◌, ◌/◌, ◌^◌, ◌<◌, ◌≤◌, ◌⊎◌, inl, inr, List, [], ◌∷◌, ◌++◌, refl, ap}
+use Rattle.std.proofs.Common.{sym, subst, ◌∙◌, length, map, replicate, arith, lit<, length-append, append_assoc}
 use Rattle.std.specs.Prelude.{All, bit_and}
 use Rattle.std.specs.Int.{w32, w64, from_be_bytes, from_le_bytes}
 use lib.Count.{count_trailing_zeros}
@@ -24,14 +25,16 @@ word-append [] v = omega arith
 word-append (b ∷ u) v =
     let p : 2 ^ (8 * length u + 8 * length v) ≡ 2 ^ (8 * length u) * 2 ^ (8 * length v) = pow-add 2 (8 * length u) (8 * length v) in
     let e : 8 * length (u ++ v) ≡ 8 * length u + 8 * length v = omega (arith, length-append u v) in
-    let m : b * (2 ^ (8 * length u) * 2 ^ (8 * length v)) ≡ b * 2 ^ (8 * length u) * 2 ^ (8 * length v) = sym (mul_assoc b (2 ^ (8 * length u)) (2 ^ (8 * length v))) in
+    let m : b * (2 ^ (8 * length u) * 2 ^ (8 * length v)) ≡ b * 2 ^ (8 * length u) * 2 ^ (8 * length v) =
+    sym (mul_assoc b (2 ^ (8 * length u)) (2 ^ (8 * length v))) in
     rw (e, p, word-append u v, m, add-mul) (omega arith)
 
 pub word-lt : (w : List ℕ) → AreBytes w → word_of w < 2 ^ (8 * length w)
 word-lt [] bytes = omega arith
 word-lt (b ∷ w) bytes =
     let h : word_of w < 2 ^ (8 * length w) = word-lt w (All-tail (λ byte. byte < 256) b w bytes) in
-    let k : b * 2 ^ (8 * length w) ≤ 255 * 2 ^ (8 * length w) = mul-le-mul_right (2 ^ (8 * length w)) (omega (arith, All-head (λ byte. byte < 256) b w bytes)) in
+    let k : b * 2 ^ (8 * length w) ≤ 255 * 2 ^ (8 * length w) =
+    mul-le-mul_right (2 ^ (8 * length w)) (omega (arith, All-head (λ byte. byte < 256) b w bytes)) in
     let e : 8 * suc (length w) ≡ 8 * length w + 8 = omega arith in
     let p : 2 ^ (8 * length w + 8) ≡ 2 ^ (8 * length w) * 256 = pow-add 2 (8 * length w) 8 in
     rw (e, p) (omega arith)
@@ -67,7 +70,8 @@ pub front_are_bytes : (u v : List ℕ) → AreBytes (u ++ v) → AreBytes u
 front_are_bytes u v bytes = λ k d h. subst (λ n. n < 256) (get_or_append_left u v d k h) (bytes k d (omega (arith, length-append u v)))
 
 last_is_byte : (front : List ℕ) (last : ℕ) → AreBytes (front ++ last ∷ []) → last < 256
-last_is_byte front last bytes = subst (λ n. n < 256) (get_or_push front last 0 (length front) refl) (bytes (length front) 0 (omega (arith, length-append front (last ∷ []))))
+last_is_byte front last bytes = subst (λ n. n < 256) (get_or_push front last 0 (length front) refl)
+    (bytes (length front) 0 (omega (arith, length-append front (last ∷ []))))
 
 -- the zeros below the lowest one
 even_zeros : (k n x : ℕ) → n ≡ 2 * x → count_trailing_zeros (suc k) n ≡ suc (count_trailing_zeros k x)
@@ -248,13 +252,16 @@ told w l bytes some = by (first_entity w (λ e. some (stops ∙ e)))
 abbrev pub short_stops_of : ℕ → ℕ
 short_stops_of x = bit_and x 0x8080_8080
 
-pub told_short : (w : List ℕ) → length w ≡ 4 → AreBytes w → short_stops_of (from_le_bytes w32 w) ≢ 0 → Told w (count_trailing_zeros 32 (short_stops_of (from_le_bytes w32 w)))
+pub told_short : (w : List ℕ) → length w ≡ 4 → AreBytes w → short_stops_of (from_le_bytes w32 w) ≢ 0
+    → Told w (count_trailing_zeros 32 (short_stops_of (from_le_bytes w32 w)))
 told_short w l bytes some = by (first_entity w (λ e. some (stops ∙ e)))
   where
     stops : short_stops_of (from_le_bytes w32 w) ≡ turned_of (map stop w)
-    stops = ap short_stops_of (turned-loaded_short w l) ∙ ap (λ n. bit_and (turned_of w) (turned_of (replicate n 128))) (sym l) ∙ and_turned w 128 (lit< tt) bytes
+    stops = ap short_stops_of (turned-loaded_short w l) ∙ ap (λ n. bit_and (turned_of w) (turned_of (replicate n 128))) (sym l)
+        ∙ and_turned w 128 (lit< tt) bytes
 
-    count_by : (front rest : List ℕ) → w ≡ front ++ rest → IsEntity front → count_trailing_zeros 32 (short_stops_of (from_le_bytes w32 w)) + 1 ≡ 8 * length front
+    count_by : (front rest : List ℕ) → w ≡ front ++ rest → IsEntity front
+        → count_trailing_zeros 32 (short_stops_of (from_le_bytes w32 w)) + 1 ≡ 8 * length front
     count_by front rest e (before, last, is, none, h) =
         let all : w ≡ before ++ last ∷ rest = e ∙ ap (λ v. v ++ rest) is ∙ append_assoc before (last ∷ []) rest in
         let fronts : AreBytes front = front_are_bytes front rest (subst AreBytes e bytes) in

@@ -17,7 +17,8 @@ pub record IsShortEntity (sum len : ℕ) (w : List ℕ) : Type 0 where
 
 -- The bytes begin with an entity of this length, whose number is that of eight bytes that make up the word.
 abbrev pub IsWordInFront : ℕ → ℕ → List ℕ → Type 0
-IsWordInFront word len bytes = (n : ℕ) → ((w : List ℕ) → length w ≡ 8 → All (λ byte. byte < 256) w → word ≡ word_of w → n ≡ number w) → IsShortEntity n len bytes
+IsWordInFront word len bytes = (n : ℕ) → ((w : List ℕ) → length w ≡ 8 → All (λ byte. byte < 256) w → word ≡ word_of w → n ≡ number w)
+    → IsShortEntity n len bytes
 
 -- At least eight bytes, whose first eight make up the word, the first one the lowest.
 pub record IsFrontWord (word : ℕ) (bytes : List ℕ) : Type 0 where

@@ -1,5 +1,6 @@
 -- Integers as entities.
-use Rattle.std.specs.Prelude.{◌≡◌, ℕ, suc, ◌≤◌, ◌^◌, Bool, true, false, IsTrue, if◌then◌else◌, List, length, ℤ, pos, negsuc, ◌-ℤ◌, neg_ℤ, ◌≤ℤ◌, Option, Some, None, IfSome}
+use Rattle.std.specs.Prelude.{◌≡◌, ℕ, suc, ◌≤◌, ◌^◌, Bool, true, false, IsTrue, if◌then◌else◌, List, length, ℤ, pos, negsuc, ◌-ℤ◌, neg_ℤ}
+use Rattle.std.specs.Prelude.{◌≤ℤ◌, Option, Some, None, IfSome}
 use Rattle.fast_wire.specs.meaning.Entities.{IsEntity, number, signed, IsOverlong}
 
 -- The form of an entity, in two's complement or not, and the least and the greatest integer that it may encode.

@@ -1,5 +1,6 @@
 -- Presence maps.
-use Rattle.std.specs.Prelude.{◌≡◌, ◌≢◌, ℕ, ◌+◌, ◌-◌, ◌/◌, ◌%◌, ◌^◌, ◌<◌, ◌≤◌, max, Bool, false, IsTrue, nat_eq, List, [], ◌∷◌, ◌++◌, map, length, flat_map, slice_index}
+use Rattle.std.specs.Prelude.{◌≡◌, ◌≢◌, ℕ, ◌+◌, ◌-◌, ◌/◌, ◌%◌, ◌^◌, ◌<◌, ◌≤◌, max, Bool, false, IsTrue, nat_eq, List, [], ◌∷◌, ◌++◌, map}
+use Rattle.std.specs.Prelude.{length, flat_map, slice_index}
 use Rattle.fast_wire.specs.meaning.Entities.{HaveNoStop, IsEntity}
 
 -- a map's greatest length in bytes

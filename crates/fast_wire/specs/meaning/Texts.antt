@@ -36,4 +36,5 @@ SpellsVector strict nullable room (Some v) w = (size : List ℕ) × SpellsSize s
 -- FAST 1.1: Transfer Encoding, Scaled Numbers.
 abbrev pub SpellsDec : Bool → Range → Range → Bool → Option (ℤ × ℤ) → List ℕ → Type 0
 SpellsDec strict exponents mantissas nullable None w = SpellsInt strict exponents nullable None w
-SpellsDec strict exponents mantissas nullable (Some x) w = (u v : List ℕ) × SpellsInt strict exponents nullable (Some x.0) u × SpellsInt strict mantissas false (Some x.1) v × (w ≡ u ++ v)
+SpellsDec strict exponents mantissas nullable (Some x) w = (u v : List ℕ) × SpellsInt strict exponents nullable (Some x.0) u
+    × SpellsInt strict mantissas false (Some x.1) v × (w ≡ u ++ v)

@@ -7,9 +7,22 @@ use Rattle.fast_c.proofs.decoding.fast_decoder_open.Goals as goal
 pub returns-in-Ok : goal.returns-in-Ok
 returns-in-Ok c =
     let it = c.in-Ok.decoding.value in
-    record { result = Ok it; ok = subst (λ (l : Limits). IsMade c.args.set.value l it) c.limits_of-limits.ensures c.in-Ok.ensures.ok; err = tt; told = refl; unchanged = tt }
+    record {
+      result = Ok it;
+      ok = subst (λ (l : Limits). IsMade c.args.set.value l it) c.limits_of-limits.ensures c.in-Ok.ensures.ok;
+      err = tt;
+      told = refl;
+      unchanged = tt;
+    }
 
 pub returns-in-Err : goal.returns-in-Err
 returns-in-Err c =
     let why = c.in-Err.status in
-    record { result = Err why; ok = tt; err = subst (λ (l : Limits). IsNotMade c.args.set.value l why) c.limits_of-limits.ensures c.in-Err.ensures.err; told = c.number.ensures; unchanged = refl }
+    record {
+      result = Err why;
+      ok = tt;
+      err = subst (λ (l : Limits). IsNotMade c.args.set.value l why) c.limits_of-limits.ensures
+          c.in-Err.ensures.err;
+      told = c.number.ensures;
+      unchanged = refl;
+    }

@@ -11,7 +11,14 @@ returns-then-ends_inside c =
       bytes = fed;
       next = next;
       feeds = c.feed-fed.ensures;
-      told = ap (λ (status : ℕ). record { taken = fed.taken; records = fed.records; texts = fed.texts; consumed = fed.consumed; between = fed.between; status = status }) c.number.ensures ∙ ap (λ (b : Bool). if b then told_cut fed else fed) inside;
+      told = ap (λ (status : ℕ). record {
+        taken = fed.taken;
+        records = fed.records;
+        texts = fed.texts;
+        consumed = fed.consumed;
+        between = fed.between;
+        status = status;
+      }) c.number.ensures ∙ ap (λ (b : Bool). if b then told_cut fed else fed) inside;
       left = ap (λ (b : Bool). if b then cut_off next else next) inside;
     }
 

@@ -12,17 +12,27 @@ use Rattle.fast_c.proofs.encoding.made.Goals as goal
 
 pub returns-in-Ok-clause-ok : goal.returns-in-Ok-clause-ok
 returns-in-Ok-clause-ok c =
-    let l = c.args.limits in let e = c.in-Ok.ensures in let can = can_be_made c.lent-templates.result.now l (Ok c.in-Ok.encoder) c.in-Ok.encoder refl e.bad_limits e.long_initial in
+    let l = c.args.limits in let e = c.in-Ok.ensures in let can =
+    can_be_made c.lent-templates.result.now l (Ok c.in-Ok.encoder) c.in-Ok.encoder refl e.bad_limits e.long_initial in
     let new : Encoding = record { alloc = c.args.alloc; encoder = c.in-Ok.encoder; bytes = c.new-bytes.result } in
-    let made : IsNewEncoding c.lent-templates.result.now l new = record { can = can; its_set = e.made.0; its_limits = e.made.1; fresh = e.made.2; nothing_waits = c.new-bytes.ensures.items } in
+    let made : IsNewEncoding c.lent-templates.result.now l new = record {
+      can = can;
+      its_set = e.made.0;
+      its_limits = e.made.1;
+      fresh = e.made.2;
+      nothing_waits = c.new-bytes.ensures.items;
+    } in
     let is = subst (λ (t : Templates). IsNewEncoding t l new) c.lent-templates.ensures made in
-    IfOk-weaker c.boxed.result (λ b. b.value ≡ new) (λ b. IsNewEncoding c.args.set.value l b.value) (λ b same. subst (λ (d : Encoding). IsNewEncoding c.args.set.value l d) (sym same) is) c.boxed.ensures.ok
+    IfOk-weaker c.boxed.result (λ b. b.value ≡ new) (λ b. IsNewEncoding c.args.set.value l b.value)
+    (λ b same. subst (λ (d : Encoding). IsNewEncoding c.args.set.value l d) (sym same) is) c.boxed.ensures.ok
 
 pub returns-in-Ok-clause-err : goal.returns-in-Ok-clause-err
 returns-in-Ok-clause-err c =
-    let l = c.args.limits in let e = c.in-Ok.ensures in let can = can_be_made c.lent-templates.result.now l (Ok c.in-Ok.encoder) c.in-Ok.encoder refl e.bad_limits e.long_initial in
+    let l = c.args.limits in let e = c.in-Ok.ensures in let can =
+    can_be_made c.lent-templates.result.now l (Ok c.in-Ok.encoder) c.in-Ok.encoder refl e.bad_limits e.long_initial in
     let still : IsNotMade c.args.set.value l (To.Make Why.Memory) = subst (λ (t : Templates). CanBeMade t l) c.lent-templates.ensures can in
-    IfErr-weaker c.boxed.result (λ s. s ≡ To.Make Why.Memory) (IsNotMade c.args.set.value l) (λ s same. subst (λ (s : Status). IsNotMade c.args.set.value l s) (sym same) still) c.boxed.ensures.err
+    IfErr-weaker c.boxed.result (λ s. s ≡ To.Make Why.Memory) (IsNotMade c.args.set.value l)
+    (λ s same. subst (λ (s : Status). IsNotMade c.args.set.value l s) (sym same) still) c.boxed.ensures.err
 
 pub returns-in-Err-clause-ok : goal.returns-in-Err-clause-ok
 returns-in-Err-clause-ok c = tt
@@ -30,4 +40,5 @@ returns-in-Err-clause-ok c = tt
 pub returns-in-Err-clause-err : goal.returns-in-Err-clause-err
 returns-in-Err-clause-err c =
     let l = c.args.limits in let e = c.in-Err.ensures in
-    subst (λ (t : Templates). IsNotMade t l (To.Make c.in-Err.error)) c.lent-templates.ensures (not_made c.lent-templates.result.now l (Err c.in-Err.error) c.in-Err.error refl e.bad_limits e.long_initial)
+    subst (λ (t : Templates). IsNotMade t l (To.Make c.in-Err.error)) c.lent-templates.ensures
+    (not_made c.lent-templates.result.now l (Err c.in-Err.error) c.in-Err.error refl e.bad_limits e.long_initial)

@@ -5,4 +5,5 @@ use Rattle.fast_c.specs.meaning.Queries.{IsFirstWith}
 use Rattle.fast_c.proofs.queries.fast_template_by_name.Goals as goal
 
 pub returns : goal.returns
-returns c = subst (λ (set : Templates). IsFirstWith (λ t. string_bytes t.name ≡ c.args.name.now) (templates_of set) c.with_name.result) c.lent.ensures c.with_name.ensures
+returns c = subst (λ (set : Templates). IsFirstWith (λ t. string_bytes t.name ≡ c.args.name.now) (templates_of set) c.with_name.result)
+    c.lent.ensures c.with_name.ensures

@@ -16,7 +16,8 @@ returns-clause-counted c =
     let made = c.in_ok-decoder.ensures.made in
     let w = all_bytes c.args.pieces.now in
     let n = c.feed_all.new.sink.messages in
-    let counted = messages_by (tree d) d.limits w _ c.feed_all.new.sink c.in_ok-feed_all.field-0 c.feed_all.new.self refl c.in_ok-feed_all.ensures.answer (c.in_ok-feed_all.ensures.from_start made.0) in
+    let counted = messages_by (tree d) d.limits w _ c.feed_all.new.sink c.in_ok-feed_all.field-0 c.feed_all.new.self refl
+    c.in_ok-feed_all.ensures.answer (c.in_ok-feed_all.ensures.from_start made.0) in
     subst (λ (t : Tree). HasMessages t c.args.limits w n) made.1 (subst (λ (l : Limits). HasMessages (tree d) l w n) made.2 counted)
 
 pub returns-clause-refused : goal.returns-clause-refused
@@ -36,14 +37,17 @@ pub returns-in_err-decoder-clause-refused : goal.returns-in_err-decoder-clause-r
 returns-in_err-decoder-clause-refused c = let p = err_from_is_err_and c.from_residual.result c.from_residual.ensures.1 in rw (p.1, p.2) tt
 
 pub returns-in_err-decoder-clause-bad_limits : goal.returns-in_err-decoder-clause-bad_limits
-returns-in_err-decoder-clause-bad_limits c = let p = err_from_is_err_and c.from_residual.result c.from_residual.ensures.1 in made_by _ c.in_err-decoder.field-0.0 BadLimits (rw (← p.2) p.1) c.in_err-decoder.ensures.bad_limits
+returns-in_err-decoder-clause-bad_limits c = let p = err_from_is_err_and c.from_residual.result c.from_residual.ensures.1 in
+    made_by _ c.in_err-decoder.field-0.0 BadLimits (rw (← p.2) p.1) c.in_err-decoder.ensures.bad_limits
 
 pub returns-in_err-decoder-clause-long_value : goal.returns-in_err-decoder-clause-long_value
-returns-in_err-decoder-clause-long_value c = let p = err_from_is_err_and c.from_residual.result c.from_residual.ensures.1 in made_by _ c.in_err-decoder.field-0.0 InitialTooLong (rw (← p.2) p.1) c.in_err-decoder.ensures.long_initial
+returns-in_err-decoder-clause-long_value c = let p = err_from_is_err_and c.from_residual.result c.from_residual.ensures.1 in
+    made_by _ c.in_err-decoder.field-0.0 InitialTooLong (rw (← p.2) p.1) c.in_err-decoder.ensures.long_initial
 
 -- the stream is at fault
 pub returns-in_err-feed_all-clause-counted : goal.returns-in_err-feed_all-clause-counted
-returns-in_err-feed_all-clause-counted c = let p = err_from_is_err_and c.from_residual-in_err-feed_all.result c.from_residual-in_err-feed_all.ensures.1 in rw (p.1) tt
+returns-in_err-feed_all-clause-counted c = let p = err_from_is_err_and c.from_residual-in_err-feed_all.result
+    c.from_residual-in_err-feed_all.ensures.1 in rw (p.1) tt
 
 pub returns-in_err-feed_all-clause-refused : goal.returns-in_err-feed_all-clause-refused
 returns-in_err-feed_all-clause-refused c =
@@ -53,8 +57,10 @@ returns-in_err-feed_all-clause-refused c =
     let made = c.in_ok-decoder.ensures.made in
     let w = all_bytes c.args.pieces.now in
     let small : f.place < 2 ^ 64 = search rules in
-    let stopped = not_counted (tree d) d.limits w _ c.feed_all.new.sink f c.feed_all.new.self refl small c.in_err-feed_all.ensures.answer (c.in_err-feed_all.ensures.from_start made.0) in
-    rw (p.1, p.2) (subst (λ (t : Tree). IsStopped t c.args.limits w f.code f.place) made.1 (subst (λ (l : Limits). IsStopped (tree d) l w f.code f.place) made.2 stopped))
+    let stopped = not_counted (tree d) d.limits w _ c.feed_all.new.sink f c.feed_all.new.self refl small c.in_err-feed_all.ensures.answer
+    (c.in_err-feed_all.ensures.from_start made.0) in
+    rw (p.1, p.2) (subst (λ (t : Tree). IsStopped t c.args.limits w f.code f.place) made.1
+    (subst (λ (l : Limits). IsStopped (tree d) l w f.code f.place) made.2 stopped))
 
 pub returns-in_err-feed_all-clause-bad_limits : goal.returns-in_err-feed_all-clause-bad_limits
 returns-in_err-feed_all-clause-bad_limits c =
@@ -64,4 +70,5 @@ returns-in_err-feed_all-clause-bad_limits c =
 pub returns-in_err-feed_all-clause-long_value : goal.returns-in_err-feed_all-clause-long_value
 returns-in_err-feed_all-clause-long_value c =
     let p = err_from_is_err_and c.from_residual-in_err-feed_all.result c.from_residual-in_err-feed_all.ensures.1 in
-    made_none c.in_ok-decoder.decoder _ InitialTooLong (fault_is_none _ c.in_err-feed_all.field-0.0 InitialTooLong (rw (← p.2) p.1)) c.in_ok-decoder.ensures.long_initial
+    made_none c.in_ok-decoder.decoder _ InitialTooLong (fault_is_none _ c.in_err-feed_all.field-0.0 InitialTooLong (rw (← p.2) p.1))
+    c.in_ok-decoder.ensures.long_initial

@@ -16,8 +16,10 @@ returns-clause-found c =
     let w = c.args.stream.now in
     let q = c.args.symbol.now in
     let p = c.feed.new.sink.price in
-    let priced = price_by (tree d) d.limits c.args.columns q w _ c.feed.new.sink c.in_ok-feed.field-0 c.feed.new.self refl refl refl refl c.in_ok-feed.ensures.answer (c.in_ok-feed.ensures.followed [] [] made.0) in
-    subst (λ (t : Tree). HasLastPrice t c.args.limits c.args.columns q w p) made.1 (subst (λ (l : Limits). HasLastPrice (tree d) l c.args.columns q w p) made.2 priced)
+    let priced = price_by (tree d) d.limits c.args.columns q w _ c.feed.new.sink c.in_ok-feed.field-0 c.feed.new.self refl refl refl refl
+    c.in_ok-feed.ensures.answer (c.in_ok-feed.ensures.followed [] [] made.0) in
+    subst (λ (t : Tree). HasLastPrice t c.args.limits c.args.columns q w p) made.1
+    (subst (λ (l : Limits). HasLastPrice (tree d) l c.args.columns q w p) made.2 priced)
 
 pub returns-clause-refused : goal.returns-clause-refused
 returns-clause-refused c = tt
@@ -36,10 +38,12 @@ pub returns-in_err-decoder-clause-refused : goal.returns-in_err-decoder-clause-r
 returns-in_err-decoder-clause-refused c = let p = err_from_is_err_and c.from_residual.result c.from_residual.ensures.1 in rw (p.1, p.2) tt
 
 pub returns-in_err-decoder-clause-bad_limits : goal.returns-in_err-decoder-clause-bad_limits
-returns-in_err-decoder-clause-bad_limits c = let p = err_from_is_err_and c.from_residual.result c.from_residual.ensures.1 in made_by _ c.in_err-decoder.field-0.0 BadLimits (rw (← p.2) p.1) c.in_err-decoder.ensures.bad_limits
+returns-in_err-decoder-clause-bad_limits c = let p = err_from_is_err_and c.from_residual.result c.from_residual.ensures.1 in
+    made_by _ c.in_err-decoder.field-0.0 BadLimits (rw (← p.2) p.1) c.in_err-decoder.ensures.bad_limits
 
 pub returns-in_err-decoder-clause-long_value : goal.returns-in_err-decoder-clause-long_value
-returns-in_err-decoder-clause-long_value c = let p = err_from_is_err_and c.from_residual.result c.from_residual.ensures.1 in made_by _ c.in_err-decoder.field-0.0 InitialTooLong (rw (← p.2) p.1) c.in_err-decoder.ensures.long_initial
+returns-in_err-decoder-clause-long_value c = let p = err_from_is_err_and c.from_residual.result c.from_residual.ensures.1 in
+    made_by _ c.in_err-decoder.field-0.0 InitialTooLong (rw (← p.2) p.1) c.in_err-decoder.ensures.long_initial
 
 -- the stream is at fault
 pub returns-in_err-feed-clause-found : goal.returns-in_err-feed-clause-found
@@ -53,7 +57,8 @@ returns-in_err-feed-clause-refused c =
     let made = c.in_ok-decoder.ensures.made in
     let w = c.args.stream.now in
     let stopped = not_read (tree d) d.limits w _ c.feed.new.sink f c.feed.new.self c.in_err-feed.ensures.answer (c.in_err-feed.ensures.followed [] [] made.0) in
-    rw (p.1, p.2) (subst (λ (t : Tree). IsStopped t c.args.limits w f.code f.place) made.1 (subst (λ (l : Limits). IsStopped (tree d) l w f.code f.place) made.2 stopped))
+    rw (p.1, p.2) (subst (λ (t : Tree). IsStopped t c.args.limits w f.code f.place) made.1
+    (subst (λ (l : Limits). IsStopped (tree d) l w f.code f.place) made.2 stopped))
 
 pub returns-in_err-feed-clause-bad_limits : goal.returns-in_err-feed-clause-bad_limits
 returns-in_err-feed-clause-bad_limits c =
@@ -63,4 +68,5 @@ returns-in_err-feed-clause-bad_limits c =
 pub returns-in_err-feed-clause-long_value : goal.returns-in_err-feed-clause-long_value
 returns-in_err-feed-clause-long_value c =
     let p = err_from_is_err_and c.from_residual-in_err-feed.result c.from_residual-in_err-feed.ensures.1 in
-    made_none c.in_ok-decoder.decoder _ InitialTooLong (fault_is_none _ c.in_err-feed.field-0.0 InitialTooLong (rw (← p.2) p.1)) c.in_ok-decoder.ensures.long_initial
+    made_none c.in_ok-decoder.decoder _ InitialTooLong (fault_is_none _ c.in_err-feed.field-0.0 InitialTooLong (rw (← p.2) p.1))
+    c.in_ok-decoder.ensures.long_initial

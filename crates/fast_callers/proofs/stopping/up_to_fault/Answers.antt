@@ -16,5 +16,6 @@ returns-clause-stopped c =
     let left : Stopped = record { messages = c.feed.new.sink.messages; bytes = c.consumed.result; fault = c.fault.result; is_between = c.between.result } in
     let same : account new ≡ told left = cc (c.between.ensures, c.fault.ensures, c.consumed.ensures) in
     let small : c.consumed.result < 2 ^ 64 = search rules in
-    let stopped = left_at (tree d) d.limits w _ c.feed.new.sink new left refl same refl c.feed.ensures.at_place c.feed.result c.feed.ensures.answer (rw (← c.consumed.ensures) small) (c.feed.ensures.followed [] [] made.0) in
+    let stopped = left_at (tree d) d.limits w _ c.feed.new.sink new left refl same refl c.feed.ensures.at_place c.feed.result
+    c.feed.ensures.answer (rw (← c.consumed.ensures) small) (c.feed.ensures.followed [] [] made.0) in
     subst (λ (t : Tree). HasStopped t c.args.limits w left) made.1 (subst (λ (l : Limits). HasStopped (tree d) l w left) made.2 stopped)

@@ -8,7 +8,9 @@ returns-clause-written g c =
     let name = writes_same (c.as_bytes.ensures.value ∙ c.name.ensures) c.put-2.ensures in
     let all = writes_both (writes_both (writes_both (writes_both c.put.ensures name) c.put-3.ensures) c.put_unsigned.ensures) c.put-4.ensures in
     let same = c.finish.ensures.same_target ∙ all.same_target ∙ c.new-line.ensures.same_target in
-    let whole = λ (ended : g.row.T.Denot) (e : ended ≡ c.finish.new.self.target.now). (is_put c.args.target.now ended c.finish.result c.new-line.ensures.as_it_is e c.new-line.ensures.fresh all c.finish.ensures).whole in
+    let whole = λ (ended : g.row.T.Denot) (e : ended ≡ c.finish.new.self.target.now).
+    (is_put c.args.target.now ended c.finish.result c.new-line.ensures.as_it_is e c.new-line.ensures.fresh all
+    c.finish.ensures).whole in
     whole _ (search (rules, same))
 
 pub returns-clause-part : goal.returns-clause-part
@@ -16,7 +18,8 @@ returns-clause-part g c =
     let name = writes_same (c.as_bytes.ensures.value ∙ c.name.ensures) c.put-2.ensures in
     let all = writes_both (writes_both (writes_both (writes_both c.put.ensures name) c.put-3.ensures) c.put_unsigned.ensures) c.put-4.ensures in
     let same = c.finish.ensures.same_target ∙ all.same_target ∙ c.new-line.ensures.same_target in
-    let part = λ (ended : g.row.T.Denot) (e : ended ≡ c.finish.new.self.target.now). (is_put c.args.target.now ended c.finish.result c.new-line.ensures.as_it_is e c.new-line.ensures.fresh all c.finish.ensures).part in
+    let part = λ (ended : g.row.T.Denot) (e : ended ≡ c.finish.new.self.target.now).
+    (is_put c.args.target.now ended c.finish.result c.new-line.ensures.as_it_is e c.new-line.ensures.fresh all c.finish.ensures).part in
     part _ (search (rules, same))
 
 pub returns-clause-fails : goal.returns-clause-fails
@@ -24,7 +27,9 @@ returns-clause-fails g c =
     let name = writes_same (c.as_bytes.ensures.value ∙ c.name.ensures) c.put-2.ensures in
     let all = writes_both (writes_both (writes_both (writes_both c.put.ensures name) c.put-3.ensures) c.put_unsigned.ensures) c.put-4.ensures in
     let same = c.finish.ensures.same_target ∙ all.same_target ∙ c.new-line.ensures.same_target in
-    let fails = λ (ended : g.row.T.Denot) (e : ended ≡ c.finish.new.self.target.now). (is_put c.args.target.now ended c.finish.result c.new-line.ensures.as_it_is e c.new-line.ensures.fresh all c.finish.ensures).fails in
+    let fails = λ (ended : g.row.T.Denot) (e : ended ≡ c.finish.new.self.target.now).
+    (is_put c.args.target.now ended c.finish.result c.new-line.ensures.as_it_is e c.new-line.ensures.fresh all
+    c.finish.ensures).fails in
     fails _ (search (rules, same))
 
 pub returns-clause-stays : goal.returns-clause-stays
@@ -32,5 +37,7 @@ returns-clause-stays g c =
     let name = writes_same (c.as_bytes.ensures.value ∙ c.name.ensures) c.put-2.ensures in
     let all = writes_both (writes_both (writes_both (writes_both c.put.ensures name) c.put-3.ensures) c.put_unsigned.ensures) c.put-4.ensures in
     let same = c.finish.ensures.same_target ∙ all.same_target ∙ c.new-line.ensures.same_target in
-    let stays = λ (ended : g.row.T.Denot) (e : ended ≡ c.finish.new.self.target.now). (is_put c.args.target.now ended c.finish.result c.new-line.ensures.as_it_is e c.new-line.ensures.fresh all c.finish.ensures).stays in
+    let stays = λ (ended : g.row.T.Denot) (e : ended ≡ c.finish.new.self.target.now).
+    (is_put c.args.target.now ended c.finish.result c.new-line.ensures.as_it_is e c.new-line.ensures.fresh all
+    c.finish.ensures).stays in
     stays _ (search (rules, same))

@@ -29,7 +29,8 @@ pub put_body-returns : goal.put_body-returns
 put_body-returns g t c =
     let is = instructions_from 0 (nodes_of c.args.templates.now) in
     let none = body_at_end is c.args.body.now c.loop-number.number-index c.loop-number-test.false in
-    c.loop-number.invariant c.loop-number.line (writes_same (ap (body_lines (path_text c.args.path.now)) (sym none)) (writes_none g.T.Target.written g.T.Target.has_failed c.loop-number.line))
+    c.loop-number.invariant c.loop-number.line (writes_same (ap (body_lines (path_text c.args.path.now)) (sym none))
+    (writes_none g.T.Target.written g.T.Target.has_failed c.loop-number.line))
 
 pub put_node-put_body-requires : goal.put_node-put_body-requires
 put_node-put_body-requires g t c κs within =
@@ -54,7 +55,8 @@ put_node-returns-in-Field g t c =
     let path = path_text c.args.path.now in
     let at = label_of c.args.number c.node-node.result.now in
     let e = node_found ns c.args.number c.node-node.result.now _ c.node-node.ensures.found c.node-node.ensures.body c.in-Field.is in
-    let own = writes_same (ap (λ s. node_line path at (instruction_words (instruction_of at 0 (instructions_from 0 ns) s))) c.in-Field.is) (c.put_node_line.ensures 0 (instructions_from 0 ns)) in
+    let own = writes_same (ap (λ s. node_line path at (instruction_words (instruction_of at 0 (instructions_from 0 ns) s))) c.in-Field.is)
+    (c.put_node_line.ensures 0 (instructions_from 0 ns)) in
     writes_same (ap (instruction_lines path) (sym e)) own
 
 pub put_node-returns-in-Decimal : goal.put_node-returns-in-Decimal
@@ -63,7 +65,8 @@ put_node-returns-in-Decimal g t c =
     let path = path_text c.args.path.now in
     let at = label_of c.args.number c.node-node.result.now in
     let e = node_found ns c.args.number c.node-node.result.now _ c.node-node.ensures.found c.node-node.ensures.body c.in-Decimal.is in
-    let own = writes_same (ap (λ s. node_line path at (instruction_words (instruction_of at 0 (instructions_from 0 ns) s))) c.in-Decimal.is) (c.put_node_line.ensures 0 (instructions_from 0 ns)) in
+    let own = writes_same (ap (λ s. node_line path at (instruction_words (instruction_of at 0 (instructions_from 0 ns) s)))
+    c.in-Decimal.is) (c.put_node_line.ensures 0 (instructions_from 0 ns)) in
     writes_same (ap (instruction_lines path) (sym e)) own
 
 pub put_node-returns-in-Group : goal.put_node-returns-in-Group
@@ -72,8 +75,10 @@ put_node-returns-in-Group g t c =
     let path = path_text c.args.path.now in
     let at = label_of c.args.number c.node-node.result.now in
     let e = node_found ns c.args.number c.node-node.result.now _ c.node-node.ensures.found c.node-node.ensures.body c.in-Group.is in
-    let own = writes_same (ap (λ s. node_line path at (instruction_words (instruction_of at 0 (instructions_from 0 ns) s))) c.in-Group.is) (c.put_node_line.ensures 0 (instructions_from 0 ns)) in
-    let inner = ap (λ name. body_lines (path ++ name ++ codes ".") (body_among ns c.deref.result.now)) c.as_str.ensures.value ∙ ap (λ ms. body_lines (path_within path at) (body_among ns ms)) c.deref.ensures.value in
+    let own = writes_same (ap (λ s. node_line path at (instruction_words (instruction_of at 0 (instructions_from 0 ns) s))) c.in-Group.is)
+    (c.put_node_line.ensures 0 (instructions_from 0 ns)) in
+    let inner = ap (λ name. body_lines (path ++ name ++ codes ".") (body_among ns c.deref.result.now)) c.as_str.ensures.value
+    ∙ ap (λ ms. body_lines (path_within path at) (body_among ns ms)) c.deref.ensures.value in
     writes_same (ap (instruction_lines path) (sym e)) (writes_both own (writes_same inner c.put_body.ensures))
 
 pub put_node-returns-in-Sequence : goal.put_node-returns-in-Sequence
@@ -82,7 +87,9 @@ put_node-returns-in-Sequence g t c =
     let path = path_text c.args.path.now in
     let at = label_of c.args.number c.node-node.result.now in
     let e = node_found ns c.args.number c.node-node.result.now _ c.node-node.ensures.found c.node-node.ensures.body c.in-Sequence.is in
-    let own = writes_same (ap (λ s. node_line path at (instruction_words (instruction_of at 0 (instructions_from 0 ns) s))) c.in-Sequence.is) (c.put_node_line.ensures 0 (instructions_from 0 ns)) in
+    let own = writes_same (ap (λ s. node_line path at (instruction_words (instruction_of at 0 (instructions_from 0 ns) s)))
+    c.in-Sequence.is) (c.put_node_line.ensures 0 (instructions_from 0 ns)) in
     let body = c.deref-in-Sequence in
-    let inner = ap (λ name. body_lines (path ++ name ++ codes ".") (body_among ns body.result.now)) c.as_str.ensures.value ∙ ap (λ ms. body_lines (path_within path at) (body_among ns ms)) body.ensures.value in
+    let inner = ap (λ name. body_lines (path ++ name ++ codes ".") (body_among ns body.result.now)) c.as_str.ensures.value
+    ∙ ap (λ ms. body_lines (path_within path at) (body_among ns ms)) body.ensures.value in
     writes_same (ap (instruction_lines path) (sym e)) (writes_both own (writes_same inner c.put_body-in-Sequence.ensures))

@@ -16,5 +16,7 @@ decreases-put_node g l = left_at_node (length (nodes_of l.templates.now)) l.numb
 
 -- Who writes the lines that are left writes all.
 abbrev pub invariant-put_body-loop-number : goal.invariant-put_body-loop-number
-invariant-put_body-loop-number g l = (end : LineWriter g.row.T.Denot) → Writes g.T.Target.written g.T.Target.has_failed l.line (body_lines (path_text l.path) (body_among (nodes_of l.templates) (drop l.number-index l.body))) end
+invariant-put_body-loop-number g l = (end : LineWriter g.row.T.Denot)
+    → Writes g.T.Target.written g.T.Target.has_failed l.line
+    (body_lines (path_text l.path) (body_among (nodes_of l.templates) (drop l.number-index l.body))) end
     → Writes g.T.Target.written g.T.Target.has_failed l.fn.line (body_lines (path_text l.path) (body_among (nodes_of l.templates) l.body)) end

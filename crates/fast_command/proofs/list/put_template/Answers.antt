@@ -11,4 +11,5 @@ pub returns : goal.returns
 returns g c t found =
     let is : c.template-template.result.now ≡ t = same_found (sym c.template-template.ensures.found ∙ found) in
     let body = c.deref.ensures.value ∙ ap (λ (u : Template). u.body.items) is in
-    writes_both (c.put_template_line.ensures t found) (writes_same (ap (λ ms. body_lines [] (body_among (nodes_of c.args.templates.now) ms)) body) c.put_body.ensures)
+    writes_both (c.put_template_line.ensures t found) (writes_same
+    (ap (λ ms. body_lines [] (body_among (nodes_of c.args.templates.now) ms)) body) c.put_body.ensures)

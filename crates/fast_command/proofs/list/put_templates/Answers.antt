@@ -21,4 +21,5 @@ returns g c =
     let n = c.loop-number.number in
     let long = length-map (templates_of set) (template_data (instructions_from 0 (nodes_of set))) in
     let past : length (tree_of set).templates ≤ n = omega (arith, long, c.count-number-end.ensures, c.loop-number-test.false) in
-    c.loop-number.invariant c.loop-number.line (writes_same (sym (lines_end n n (tree_of set).templates past)) (writes_none g.T.Target.written g.T.Target.has_failed c.loop-number.line))
+    c.loop-number.invariant c.loop-number.line (writes_same (sym (lines_end n n (tree_of set).templates past))
+    (writes_none g.T.Target.written g.T.Target.has_failed c.loop-number.line))

@@ -11,7 +11,8 @@ use Rattle.fast_command.proofs.show.run_show.Goals as goal
 
 pub returns-in-Err-clause-shown : goal.returns-in-Err-clause-shown
 returns-in-Err-clause-shown g c =
-    let at = refusal_shown (tree_of c.args.templates.now) c.args.limits c.args.hex (IsRefusal c.args.templates.now c.args.limits) _ _ _ c.in-Err.error c.in-Err.ensures.refused in
+    let at = refusal_shown (tree_of c.args.templates.now) c.args.limits c.args.hex
+    (IsRefusal c.args.templates.now c.args.limits) _ _ _ c.in-Err.error c.in-Err.ensures.refused in
     ([], [], reads_none (g.S.Source.left c.args.reader.now), appends_none (g.T.Target.written c.args.writer.now), rw c.refusal.ensures at)
 
 pub returns-in-Ok-clause-shown : goal.returns-in-Ok-clause-shown

@@ -15,8 +15,14 @@ returns-in-Ok-clause-shown g c =
 pub returns-in-Err-clause-shown : goal.returns-in-Err-clause-shown
 returns-in-Err-clause-shown g c =
     let h = c.run_show-ending.ensures.shown in
-    let begun : has_begun c.run_show-ending.result ≡ true = sym c.has_begun.ensures ∙ c.if-not-has_begun.false in
-    (h.0, h.1, h.2, appends_no_more _ _ _ h.1 h.3 c.flush.ensures.kept, unflushed (tree_of c.args.templates.now) c.args.limits c.args.hex (IsRefusal c.args.templates.now c.args.limits) _ _ _ _ h.0 h.1 c.run_show-ending.result begun c.in-Err.ensures.fails h.4)
+    let begun : has_begun c.run_show-ending.result ≡ true = sym c.has_begun.ensures ∙ c.if-not-has_begun.false in (
+      h.0,
+      h.1,
+      h.2,
+      appends_no_more _ _ _ h.1 h.3 c.flush.ensures.kept,
+      unflushed (tree_of c.args.templates.now) c.args.limits c.args.hex
+          (IsRefusal c.args.templates.now c.args.limits) _ _ _ _ h.0 h.1 c.run_show-ending.result begun c.in-Err.ensures.fails h.4,
+    )
 
 pub run_show-ending-requires : goal.run_show-ending-requires
 run_show-ending-requires g c = c.requires
@@ -37,7 +43,9 @@ pub returns-in-Err-clause-writer_told : goal.returns-in-Err-clause-writer_told
 returns-in-Err-clause-writer_told g c = inl refl
 
 pub returns-in-Err-clause-bad_limits : goal.returns-in-Err-clause-bad_limits
-returns-in-Err-clause-bad_limits g c = λ bad. absurd (had_begun _ _ (sym c.has_begun.ensures ∙ c.if-not-has_begun.false) (c.run_show-ending.ensures.bad_limits bad))
+returns-in-Err-clause-bad_limits g c = λ bad. absurd (had_begun _ _ (sym c.has_begun.ensures ∙ c.if-not-has_begun.false)
+    (c.run_show-ending.ensures.bad_limits bad))
 
 pub returns-in-Err-clause-long_initial : goal.returns-in-Err-clause-long_initial
-returns-in-Err-clause-long_initial g c = λ bad. absurd (had_begun _ _ (sym c.has_begun.ensures ∙ c.if-not-has_begun.false) (c.run_show-ending.ensures.long_initial bad))
+returns-in-Err-clause-long_initial g c = λ bad. absurd (had_begun _ _ (sym c.has_begun.ensures ∙ c.if-not-has_begun.false)
+    (c.run_show-ending.ensures.long_initial bad))

@@ -8,7 +8,12 @@ pub loop-read-init : goal.loop-read-init
 loop-read-init g c = record { bytes = search (rules, reads_none); many = search rules; few = search rules; stays = refl }
 
 pub loop-read-preserved : goal.loop-read-preserved
-loop-read-preserved g c = record { bytes = let h = reads_both _ _ _ _ _ c.loop-read.invariant.bytes c.in-Ok.ensures.bytes in search (rules, h); many = search rules; few = search rules; stays = c.in-Ok.ensures.stays ∙ c.loop-read.invariant.stays }
+loop-read-preserved g c = record {
+  bytes = let h = reads_both _ _ _ _ _ c.loop-read.invariant.bytes c.in-Ok.ensures.bytes in search (rules, h);
+  many = search rules;
+  few = search rules;
+  stays = c.in-Ok.ensures.stays ∙ c.loop-read.invariant.stays;
+}
 
 pub returns-then-count-eq0-clause-whole : goal.returns-then-count-eq0-clause-whole
 returns-then-count-eq0-clause-whole g c =

@@ -9,28 +9,35 @@ pub returns-clause-written : goal.returns-clause-written
 returns-clause-written g c =
     let all = writes_both c.put_hex.ensures c.put.ensures in
     let same = c.finish.ensures.same_target ∙ all.same_target ∙ c.new-line.ensures.same_target in
-    let whole = λ (ended : g.row.T.Denot) (e : ended ≡ c.finish.new.self.target.now). (is_put c.args.writer.now ended c.finish.result c.new-line.ensures.as_it_is e c.new-line.ensures.fresh all c.finish.ensures).whole in
+    let whole = λ (ended : g.row.T.Denot) (e : ended ≡ c.finish.new.self.target.now).
+    (is_put c.args.writer.now ended c.finish.result c.new-line.ensures.as_it_is e c.new-line.ensures.fresh all
+    c.finish.ensures).whole in
     search (rules, whole, same)
 
 pub returns-clause-part : goal.returns-clause-part
 returns-clause-part g c =
     let all = writes_both c.put_hex.ensures c.put.ensures in
     let same = c.finish.ensures.same_target ∙ all.same_target ∙ c.new-line.ensures.same_target in
-    let part = λ (ended : g.row.T.Denot) (e : ended ≡ c.finish.new.self.target.now). (is_put c.args.writer.now ended c.finish.result c.new-line.ensures.as_it_is e c.new-line.ensures.fresh all c.finish.ensures).part in
+    let part = λ (ended : g.row.T.Denot) (e : ended ≡ c.finish.new.self.target.now).
+    (is_put c.args.writer.now ended c.finish.result c.new-line.ensures.as_it_is e c.new-line.ensures.fresh all c.finish.ensures).part in
     search (rules, part, same)
 
 pub returns-clause-fails : goal.returns-clause-fails
 returns-clause-fails g c =
     let all = writes_both c.put_hex.ensures c.put.ensures in
     let same = c.finish.ensures.same_target ∙ all.same_target ∙ c.new-line.ensures.same_target in
-    let fails = λ (ended : g.row.T.Denot) (e : ended ≡ c.finish.new.self.target.now). (is_put c.args.writer.now ended c.finish.result c.new-line.ensures.as_it_is e c.new-line.ensures.fresh all c.finish.ensures).fails in
+    let fails = λ (ended : g.row.T.Denot) (e : ended ≡ c.finish.new.self.target.now).
+    (is_put c.args.writer.now ended c.finish.result c.new-line.ensures.as_it_is e c.new-line.ensures.fresh all
+    c.finish.ensures).fails in
     search (rules, fails, same)
 
 pub returns-clause-stays : goal.returns-clause-stays
 returns-clause-stays g c =
     let all = writes_both c.put_hex.ensures c.put.ensures in
     let same = c.finish.ensures.same_target ∙ all.same_target ∙ c.new-line.ensures.same_target in
-    let stays = λ (ended : g.row.T.Denot) (e : ended ≡ c.finish.new.self.target.now). (is_put c.args.writer.now ended c.finish.result c.new-line.ensures.as_it_is e c.new-line.ensures.fresh all c.finish.ensures).stays in
+    let stays = λ (ended : g.row.T.Denot) (e : ended ≡ c.finish.new.self.target.now).
+    (is_put c.args.writer.now ended c.finish.result c.new-line.ensures.as_it_is e c.new-line.ensures.fresh all
+    c.finish.ensures).stays in
     search (rules, stays, same)
 
 pub returns-clause-bytes : goal.returns-clause-bytes

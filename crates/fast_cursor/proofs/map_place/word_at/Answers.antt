@@ -21,4 +21,5 @@ returns c =
     let count : c.min.result ≡ min (length c.args.map.now - c.args.first) 8
     = c.min.ensures ∙ ap (λ w. min (length w) 8) same ∙ ap (λ n. min n 8) (length-drop c.args.first c.args.map.now) in
     top-from c.args.map.now c.args.first c.min.result c.word_of.result count
-    (subst (λ w. (rest : List Bool) → (length (take c.min.result w) < 8 → rest ≡ []) → HasTop 56 c.word_of.result (bits (take c.min.result w) ++ rest)) same c.word_of.ensures)
+    (subst (λ w. (rest : List Bool) → (length (take c.min.result w) < 8 → rest ≡ [])
+    → HasTop 56 c.word_of.result (bits (take c.min.result w) ++ rest)) same c.word_of.ensures)

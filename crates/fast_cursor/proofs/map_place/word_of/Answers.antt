@@ -6,7 +6,8 @@ use Rattle.fast_cursor.proofs.MapWords.{top-word}
 use Rattle.fast_cursor.proofs.map_place.word_of.Goals as goal
 
 pub loop-byte-preserved : goal.loop-byte-preserved
-loop-byte-preserved c = one_byte_more 64 8 c.loop-byte.byte-index c.loop-byte.sum c.from.result c.args.bytes.now c.loop-byte-test.true (omega arith) (omega arith) c.loop-byte.invariant c.from.ensures
+loop-byte-preserved c = one_byte_more 64 8 c.loop-byte.byte-index c.loop-byte.sum c.from.result c.args.bytes.now c.loop-byte-test.true
+    (omega arith) (omega arith) c.loop-byte.invariant c.from.ensures
 
 pub returns : goal.returns
 returns c rest none =

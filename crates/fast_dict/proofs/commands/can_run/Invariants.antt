@@ -5,4 +5,5 @@ use Rattle.fast_dict.specs.meaning.Commands.{CommandData, command_data, IsRunnab
 use Rattle.fast_dict.proofs.commands.can_run.Given as goal
 
 abbrev pub invariant-loop-command : goal.invariant-loop-command
-invariant-loop-command g l = (k : ℕ) (d : CommandData) → k < l.command-index → IsRunnable (g.D.Store.terms l.store) (length (g.D.Store.dictionary l.store)) (slice_index_or (map command_data l.commands) k d)
+invariant-loop-command g l = (k : ℕ) (d : CommandData) → k < l.command-index
+    → IsRunnable (g.D.Store.terms l.store) (length (g.D.Store.dictionary l.store)) (slice_index_or (map command_data l.commands) k d)

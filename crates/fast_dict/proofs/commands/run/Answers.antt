@@ -16,26 +16,34 @@ at_err (Ok x) is h = absurd (cc)
 at_err (Err e) is h = h
 
 -- a command of the list that sets a text
-text_here : (cs : List StoreCommand) (i : ℕ) (x : StoreCommand) → i < length cs → SetsText (command_data (slice_index_or cs i x)) → (d : CommandData) → SetsText (slice_index_or (map command_data cs) i d)
+text_here : (cs : List StoreCommand) (i : ℕ) (x : StoreCommand) → i < length cs → SetsText (command_data (slice_index_or cs i x))
+    → (d : CommandData) → SetsText (slice_index_or (map command_data cs) i d)
 text_here cs i x h text d = rw (get_or-map command_data cs i x d h) text
 
 pub carry_out-requires : goal.carry_out-requires
-carry_out-requires g c = runnable_at command_data _ _ _ _ c.args.commands.now c.loop-count.count _ c.loop-count.invariant.same c.loop-count.invariant.size c.loop-count-test.true c.requires
+carry_out-requires g c = runnable_at command_data _ _ _ _ c.args.commands.now c.loop-count.count _ c.loop-count.invariant.same
+    c.loop-count.invariant.size c.loop-count-test.true c.requires
 
 pub loop-count-preserved : goal.loop-count-preserved
 loop-count-preserved g c =
     let next = at_ok c.carry_out.result (cc) c.carry_out.ensures.ok in
     record {
-      done = after_more command_data c.args.commands.now c.loop-count.count (Set 0 UInt32 (U 0)) (g.D.Store.dictionary c.args.store.now) (g.D.Store.dictionary c.loop-count.store) (g.D.Store.dictionary c.carry_out.new.store) c.loop-count-test.true c.loop-count.invariant.done next;
-      size = length-after_more _ (g.D.Store.dictionary c.args.store.now) (g.D.Store.dictionary c.loop-count.store) (g.D.Store.dictionary c.carry_out.new.store) c.loop-count.invariant.size next;
+      done = after_more command_data c.args.commands.now c.loop-count.count (Set 0 UInt32 (U 0)) (g.D.Store.dictionary c.args.store.now)
+          (g.D.Store.dictionary c.loop-count.store) (g.D.Store.dictionary c.carry_out.new.store) c.loop-count-test.true
+          c.loop-count.invariant.done next;
+      size = length-after_more _ (g.D.Store.dictionary c.args.store.now) (g.D.Store.dictionary c.loop-count.store)
+          (g.D.Store.dictionary c.carry_out.new.store) c.loop-count.invariant.size next;
       same = c.carry_out.ensures.same ∙ c.loop-count.invariant.same;
     }
 
 pub returns-then-is_err-clause-done : goal.returns-then-is_err-clause-done
-returns-then-is_err-clause-done g c = ap g.D.Store.dictionary (at_err c.carry_out.result (sym c.if-is_err.ensures.value) c.carry_out.ensures.err) ∙ c.loop-count.invariant.done
+returns-then-is_err-clause-done g c = ap g.D.Store.dictionary
+    (at_err c.carry_out.result (sym c.if-is_err.ensures.value) c.carry_out.ensures.err) ∙ c.loop-count.invariant.done
 
 pub returns-then-is_err-clause-stopped : goal.returns-then-is_err-clause-stopped
-returns-then-is_err-clause-stopped g c _ = text_here c.args.commands.now c.loop-count.count (Set 0 UInt32 (U 0)) c.loop-count-test.true (at_err c.carry_out.result (sym c.if-is_err.ensures.value) c.carry_out.ensures.text)
+returns-then-is_err-clause-stopped g c _ = text_here c.args.commands.now c.loop-count.count (Set 0 UInt32 (U 0)) c.loop-count-test.true
+    (at_err c.carry_out.result (sym c.if-is_err.ensures.value) c.carry_out.ensures.text)
 
 pub returns-then-is_err-clause-refused : goal.returns-then-is_err-clause-refused
-returns-then-is_err-clause-refused g c _ = subst (λ t. IsTrue t.can_refuse) c.loop-count.invariant.same (at_err c.carry_out.result (sym c.if-is_err.ensures.value) c.carry_out.ensures.refused)
+returns-then-is_err-clause-refused g c _ = subst (λ t. IsTrue t.can_refuse) c.loop-count.invariant.same
+    (at_err c.carry_out.result (sym c.if-is_err.ensures.value) c.carry_out.ensures.refused)

@@ -17,5 +17,6 @@ returns-in-Some-clause-known c = (
 pub returns-in-None-clause-unknown : goal.returns-in-None-clause-unknown
 returns-in-None-clause-unknown c = λ known.
     let (u, id, at, is) = known in
-    let both : None ≡ Some id = sym c.in-None.is ∙ identified c.args.templates.now (message_data c.args.message.now) id c.template-template.result.now c.template-template.ensures.found (u, at, is) in
+    let both : None ≡ Some id = sym c.in-None.is ∙ identified c.args.templates.now
+    (message_data c.args.message.now) id c.template-template.result.now c.template-template.ensures.found (u, at, is) in
     absurd (cc both)

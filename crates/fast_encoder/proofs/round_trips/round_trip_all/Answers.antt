@@ -45,9 +45,11 @@ loop-index-preserved g c =
       back = λ w es level.
           let so = c.loop-index.invariant.back w es level in
           let one = c.in_default.ensures.back (w ++ so.bytes) (es ++ flat_map (events (tree e)) (map message_data (take i ms))) so.level in
-          subst (λ (xs : List MessageData). AreReadBack g.S.Sink.takes e xs c.args.out.now.items w es c.args.sink.now c.round_trip.new.encoder c.round_trip.new.decoder c.round_trip.new.out.items c.round_trip.new.sink)
+          subst (λ (xs : List MessageData). AreReadBack g.S.Sink.takes e xs c.args.out.now.items w es c.args.sink.now
+          c.round_trip.new.encoder c.round_trip.new.decoder c.round_trip.new.out.items c.round_trip.new.sink)
           (sym (front_more ms i m c.loop-index-test.true there))
-          (one_more g.S.Sink.takes g.S.Sink.stops e c.args.out.now.items w es c.args.sink.now (map message_data (take i ms)) (message_data m) c.loop-index.encoder c.round_trip.new.encoder c.loop-index.decoder c.round_trip.new.decoder
+          (one_more g.S.Sink.takes g.S.Sink.stops e c.args.out.now.items w es c.args.sink.now (map message_data (take i ms))
+          (message_data m) c.loop-index.encoder c.round_trip.new.encoder c.loop-index.decoder c.round_trip.new.decoder
           c.loop-index.out.items c.round_trip.new.out.items c.loop-index.sink c.round_trip.new.sink (ap (λ (s : Set). tree_in s) set) so one.0 one.1);
       set = set;
       limits = c.round_trip.ensures.same_encoder.1 ∙ c.loop-index.invariant.limits;
@@ -59,5 +61,7 @@ pub returns-clause-back : goal.returns-clause-back
 returns-clause-back g c w es level =
     let all = c.loop-index-test.false in
     let whole : take c.loop-index.index c.args.messages.now ≡ c.args.messages.now = take_all c.loop-index.index c.args.messages.now (omega (arith, all)) in
-    subst (λ (xs : List Message). AreReadBack g.S.Sink.takes c.args.encoder.now (map message_data xs) c.args.out.now.items w es c.args.sink.now c.loop-index.encoder c.loop-index.decoder c.loop-index.out.items c.loop-index.sink)
+    subst (λ (xs : List Message). AreReadBack g.S.Sink.takes c.args.encoder.now
+    (map message_data xs) c.args.out.now.items w es c.args.sink.now c.loop-index.encoder c.loop-index.decoder c.loop-index.out.items
+    c.loop-index.sink)
     whole (c.loop-index.invariant.back w es level)

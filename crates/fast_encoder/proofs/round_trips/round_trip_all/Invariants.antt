@@ -9,7 +9,9 @@ use Rattle.fast_encoder.proofs.round_trips.round_trip_all.Given as goal
 
 abbrev pub invariant-loop-index : goal.invariant-loop-index
 invariant-loop-index g l = record {
-  back : (w : List ℕ) (es : List EventData) → AreLevel l.fn.encoder l.fn.decoder w es → AreReadBack g.S.Sink.takes l.fn.encoder (map message_data (take l.index l.messages)) l.fn.out.items w es l.fn.sink l.encoder l.decoder l.out.items l.sink;
+  back : (w : List ℕ) (es : List EventData) → AreLevel l.fn.encoder l.fn.decoder w es
+      → AreReadBack g.S.Sink.takes l.fn.encoder (map message_data (take l.index l.messages)) l.fn.out.items w es l.fn.sink l.encoder
+      l.decoder l.out.items l.sink;
   set : l.encoder.set ≡ l.fn.encoder.set;
   limits : l.encoder.limits ≡ l.fn.encoder.limits;
   tree : decoded_tree l.decoder ≡ decoded_tree l.fn.decoder;

@@ -19,26 +19,32 @@ f = with_entry Int32 true Delta 11
 
 five : EncodesMessage vectors lenient start (message 15 (only (I (pos 5)))) (0xC0 ∷ 0x90 ∷ 0x86 ∷ []) (after_delta (pos 5))
 unfolding reading
-five = encoded vectors lenient start (behind 16 start) (after_delta (pos 5)) (message 15 (only (I (pos 5)))) t16 16 (true ∷ []) [] (0xC0 ∷ []) (0x90 ∷ []) (0x86 ∷ []) refl refl
+five = encoded vectors lenient start (behind 16 start) (after_delta (pos 5)) (message 15 (only (I (pos 5)))) t16 16 (true ∷ []) []
+    (0xC0 ∷ []) (0x90 ∷ []) (0x86 ∷ []) refl refl
     (identified lenient start 16 (0x90 ∷ []) (a_fault identifier undefined (Some (U 16)) D5 refl) refl (integer_read _ _ _ _ refl (refl, refl, refl)))
     (alone lenient (at 21 (codes "v")) f (behind 16 start) (after_delta (pos 5)) (Some (I (pos 5))) [] (0x86 ∷ [])
-    (sent lenient f (behind 16 start) (Some (I (pos 5))) (integer_delta (pos 5)) (assigned Int32 (I (pos 5))) (0x86 ∷ []) (no_bit f undefined _ refl) (I (pos 0), refl, refl) (integer_read _ _ _ _ refl (refl, refl, refl)) (tt, refl)))
+    (sent lenient f (behind 16 start) (Some (I (pos 5))) (integer_delta (pos 5)) (assigned Int32 (I (pos 5))) (0x86 ∷ [])
+    (no_bit f undefined _ refl) (I (pos 0), refl, refl) (integer_read _ _ _ _ refl (refl, refl, refl)) (tt, refl)))
     refl (refl, refl, refl) refl
 
 absence : EncodesMessage vectors lenient (after_delta (pos 5)) (message 15 none) (0x80 ∷ 0x80 ∷ []) (after_delta (pos 5))
 unfolding reading
-absence = encoded vectors lenient (after_delta (pos 5)) (after_delta (pos 5)) (after_delta (pos 5)) (message 15 none) t16 16 (false ∷ []) [] (0x80 ∷ []) [] (0x80 ∷ []) refl refl
+absence = encoded vectors lenient (after_delta (pos 5)) (after_delta (pos 5)) (after_delta (pos 5)) (message 15 none) t16 16 (false ∷ [])
+    [] (0x80 ∷ []) [] (0x80 ∷ []) refl refl
     (unsent lenient identifier (after_delta (pos 5)) (Some (U 16)) (assigned UInt32 (U 16)) refl refl refl)
     (alone lenient (at 21 (codes "v")) f (after_delta (pos 5)) (after_delta (pos 5)) None [] (0x80 ∷ [])
-    (sent lenient f (after_delta (pos 5)) None null (assigned Int32 (I (pos 5))) (0x80 ∷ []) (no_bit f _ _ refl) refl (integer_read _ _ _ _ refl (refl, refl, refl)) (refl, refl)))
+    (sent lenient f (after_delta (pos 5)) None null (assigned Int32 (I (pos 5))) (0x80 ∷ []) (no_bit f _ _ refl) refl
+    (integer_read _ _ _ _ refl (refl, refl, refl)) (refl, refl)))
     refl (refl, refl, refl) refl
 
 six : EncodesMessage vectors lenient (after_delta (pos 5)) (message 15 (only (I (pos 6)))) (0x80 ∷ 0x82 ∷ []) (after_delta (pos 6))
 unfolding reading
-six = encoded vectors lenient (after_delta (pos 5)) (after_delta (pos 5)) (after_delta (pos 6)) (message 15 (only (I (pos 6)))) t16 16 (false ∷ []) [] (0x80 ∷ []) [] (0x82 ∷ []) refl refl
+six = encoded vectors lenient (after_delta (pos 5)) (after_delta (pos 5)) (after_delta (pos 6)) (message 15 (only (I (pos 6)))) t16 16
+    (false ∷ []) [] (0x80 ∷ []) [] (0x82 ∷ []) refl refl
     (unsent lenient identifier (after_delta (pos 5)) (Some (U 16)) (assigned UInt32 (U 16)) refl refl refl)
     (alone lenient (at 21 (codes "v")) f (after_delta (pos 5)) (after_delta (pos 6)) (Some (I (pos 6))) [] (0x82 ∷ [])
-    (sent lenient f (after_delta (pos 5)) (Some (I (pos 6))) (integer_delta (pos 1)) (assigned Int32 (I (pos 6))) (0x82 ∷ []) (no_bit f _ _ refl) (I (pos 5), refl, refl) (integer_read _ _ _ _ refl (refl, refl, refl)) (tt, refl)))
+    (sent lenient f (after_delta (pos 5)) (Some (I (pos 6))) (integer_delta (pos 1)) (assigned Int32 (I (pos 6))) (0x82 ∷ [])
+    (no_bit f _ _ refl) (I (pos 5), refl, refl) (integer_read _ _ _ _ refl (refl, refl, refl)) (tt, refl)))
     refl (refl, refl, refl) refl
 
 pub returns : goal.returns

@@ -23,16 +23,21 @@ zero_there = after_copy (assigned UInt32 (U 0))
 
 zero_encoded : EncodesMessage vectors lenient start (message 5 (only (U 0))) (0xE0 ∷ 0x86 ∷ 0x81 ∷ []) zero_there
 unfolding reading
-zero_encoded = encoded vectors lenient start (behind 6 start) zero_there (message 5 (only (U 0))) t6 6 (true ∷ []) (true ∷ []) (0xE0 ∷ []) (0x86 ∷ []) (0x81 ∷ []) refl refl
+zero_encoded = encoded vectors lenient start (behind 6 start) zero_there (message 5 (only (U 0))) t6 6 (true ∷ []) (true ∷ []) (0xE0 ∷ [])
+    (0x86 ∷ []) (0x81 ∷ []) refl refl
     (identified lenient start 6 (0x86 ∷ []) (a_fault identifier undefined (Some (U 6)) D5 refl) refl (integer_read _ _ _ _ refl (refl, refl, refl)))
     (alone lenient (at 6 (codes "x")) f (behind 6 start) zero_there (Some (U 0)) (true ∷ []) (0x81 ∷ [])
-    (sent lenient f (behind 6 start) (Some (U 0)) (value (U 0)) (assigned UInt32 (U 0)) (0x81 ∷ []) (another f undefined (U 0) _ refl refl refl) refl (pos 0, refl, integer_read _ _ _ _ refl (refl, refl, refl)) ((pos 0, fits (unsigned_range 32) (pos 0) refl, refl), refl)))
+    (sent lenient f (behind 6 start) (Some (U 0)) (value (U 0)) (assigned UInt32 (U 0)) (0x81 ∷ [])
+    (another f undefined (U 0) _ refl refl refl) refl (pos 0, refl, integer_read _ _ _ _ refl (refl, refl, refl))
+    ((pos 0, fits (unsigned_range 32) (pos 0) refl, refl), refl)))
     refl (refl, refl, refl) refl
 
 reset_once : EncodesMessage vectors lenient zero_there (message 8 no_slots) (0xC0 ∷ 0x89 ∷ []) (behind 9 start)
 unfolding reading
-reset_once = encoded vectors lenient zero_there (behind 9 zero_there) (behind 9 start) (message 8 no_slots) t9 9 (true ∷ []) [] (0xC0 ∷ []) (0x89 ∷ []) [] refl refl
-    (identified lenient zero_there 9 (0x89 ∷ []) (another identifier (assigned UInt32 (U 6)) (U 9) _ refl refl refl) refl (integer_read _ _ _ _ refl (refl, refl, refl)))
+reset_once = encoded vectors lenient zero_there (behind 9 zero_there) (behind 9 start) (message 8 no_slots) t9 9 (true ∷ []) [] (0xC0 ∷ [])
+    (0x89 ∷ []) [] refl refl
+    (identified lenient zero_there 9 (0x89 ∷ []) (another identifier (assigned UInt32 (U 6)) (U 9) _ refl refl refl) refl
+    (integer_read _ _ _ _ refl (refl, refl, refl)))
     (nothing_more lenient (behind 9 start))
     refl (refl, refl, refl) refl
 
@@ -45,8 +50,10 @@ reset_twice = encoded vectors lenient (behind 9 start) (behind 9 start) (behind 
 
 absent_after : EncodesMessage vectors lenient (behind 9 start) (message 5 none) (0xC0 ∷ 0x86 ∷ []) (after_copy empty)
 unfolding reading
-absent_after = encoded vectors lenient (behind 9 start) (behind 6 start) (after_copy empty) (message 5 none) t6 6 (true ∷ []) (false ∷ []) (0xC0 ∷ []) (0x86 ∷ []) [] refl refl
-    (identified lenient (behind 9 start) 6 (0x86 ∷ []) (another identifier (assigned UInt32 (U 9)) (U 6) _ refl refl refl) refl (integer_read _ _ _ _ refl (refl, refl, refl)))
+absent_after = encoded vectors lenient (behind 9 start) (behind 6 start) (after_copy empty) (message 5 none) t6 6 (true ∷ []) (false ∷ [])
+    (0xC0 ∷ []) (0x86 ∷ []) [] refl refl
+    (identified lenient (behind 9 start) 6 (0x86 ∷ []) (another identifier (assigned UInt32 (U 9)) (U 6) _ refl refl refl) refl
+    (integer_read _ _ _ _ refl (refl, refl, refl)))
     (alone lenient (at 6 (codes "x")) f (behind 6 start) (after_copy empty) None (false ∷ []) [] (unsent lenient f (behind 6 start) None empty refl refl refl))
     refl (refl, refl, refl) refl
 

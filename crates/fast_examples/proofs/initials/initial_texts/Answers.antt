@@ -23,5 +23,17 @@ returns c = (
     refl,
   ),
   (at_most 127 (codes "AB") refl, refl),
-  (0x01 ∷ 0xFF ∷ [], (0, 1, 0xFF ∷ [], inl (omega arith, refl), inl (omega arith, refl), (15, 15, [], inr (inl (omega arith, omega arith, refl)), inr (inr (omega arith, omega arith, refl)), refl, refl), refl), refl),
+  (
+    0x01 ∷ 0xFF ∷ [],
+    (
+      0,
+      1,
+      0xFF ∷ [],
+      inl (omega arith, refl),
+      inl (omega arith, refl),
+      (15, 15, [], inr (inl (omega arith, omega arith, refl)), inr (inr (omega arith, omega arith, refl)), refl, refl),
+      refl,
+    ),
+    refl,
+  ),
 )

@@ -24,13 +24,17 @@ use Rattle.fast_examples.proofs.initials.initials_read.Goals as goal
 
 -- the fields as tables, whose keys are in order
 abbrev c_at : Members
-c_at = member (codes "kind") (string (codes "uInt32")) (member (codes "name") (string (codes "c")) (member (codes "op") (string (codes "constant")) (member (codes "optional") (boolean true) (member (codes "value") (string (codes "7")) no_members))))
+c_at = member (codes "kind") (string (codes "uInt32")) (member (codes "name") (string (codes "c"))
+    (member (codes "op") (string (codes "constant")) (member (codes "optional") (boolean true)
+    (member (codes "value") (string (codes "7")) no_members))))
 
 abbrev d_at : Members
-d_at = member (codes "kind") (string (codes "int32")) (member (codes "name") (string (codes "d")) (member (codes "op") (string (codes "default")) (member (codes "value") (string (codes "-3")) no_members)))
+d_at = member (codes "kind") (string (codes "int32")) (member (codes "name") (string (codes "d"))
+    (member (codes "op") (string (codes "default")) (member (codes "value") (string (codes "-3")) no_members)))
 
 abbrev e_at : Members
-e_at = member (codes "kind") (string (codes "uInt32")) (member (codes "name") (string (codes "e")) (member (codes "op") (string (codes "default")) (member (codes "optional") (boolean true) no_members)))
+e_at = member (codes "kind") (string (codes "uInt32")) (member (codes "name") (string (codes "e"))
+    (member (codes "op") (string (codes "default")) (member (codes "optional") (boolean true) no_members)))
 
 abbrev fields : Items
 fields = item (table c_at) (item (table d_at) (item (table e_at) no_items))
@@ -48,7 +52,9 @@ declared = record {
   id = Some 1;
   reset = false;
   dictionary = codes "global";
-  fields = more (scalar (codes "c") true UInt32 (by Constant (Some (codes "7")))) (more (scalar (codes "d") false Int32 (by Default (Some (codes "-3")))) (more (scalar (codes "e") true UInt32 (by Default None)) no_more));
+  fields = more (scalar (codes "c") true UInt32 (by Constant (Some (codes "7"))))
+      (more (scalar (codes "d") false Int32 (by Default (Some (codes "-3"))))
+      (more (scalar (codes "e") true UInt32 (by Default None)) no_more));
 }
 
 writes_fields : WritesAll fields declared.fields
@@ -112,7 +118,8 @@ abbrev document : Members
 document = member (codes "template") (array (item (table template_at) no_items)) no_members
 
 -- a field without entry
-field_of : (o : Operator) (name : List ℕ) (optional : Bool) (kind : Kind) (text : Option (List ℕ)) (v : Option ScalarData) → keeps_value o ≡ false → IsInitialOf (scalar_use name optional kind (by o text)) text v
+field_of : (o : Operator) (name : List ℕ) (optional : Bool) (kind : Kind) (text : Option (List ℕ)) (v : Option ScalarData)
+    → keeps_value o ≡ false → IsInitialOf (scalar_use name optional kind (by o text)) text v
     → IsField [] (scope_of 0 declared) (scalar_use name optional kind (by o text)) (without_entry kind optional o v)
 field_of o name optional kind text v k i = record { kind = refl; optional = refl; operator = refl; initial = i; entry = k }
 
@@ -134,7 +141,8 @@ suited = All-cons IsSuited c_used (d_used ∷ e_used ∷ []) (λ e. absurd (cc e
     (All-cons IsSuited e_used [] (λ e. absurd (cc e), λ e. absurd (cc e.0), λ e. absurd (cc e.1)) (All-nil IsSuited)))
 
 abbrev the_template : TemplateData
-the_template = template (codes "V") 1 (step (field (at 0 (codes "c")) seven_field) (step (field (at 1 (codes "d")) minus_three_field) (step (field (at 2 (codes "e")) absent_by_default) end)))
+the_template = template (codes "V") 1 (step (field (at 0 (codes "c")) seven_field)
+    (step (field (at 1 (codes "d")) minus_three_field) (step (field (at 2 (codes "e")) absent_by_default) end)))
 
 is_tree : IsTree document initials
 is_tree = record {
@@ -158,7 +166,8 @@ is_tree = record {
   );
   few_nodes = omega arith;
   shallow = All-cons (λ u. body_depth u.body ≤ nesting_limit) the_template [] (omega arith) (All-nil (λ u. body_depth u.body ≤ nesting_limit));
-  narrow = All-cons (λ u. (message_bits u ≤ segment_limit) × AreNarrowInside u.body) the_template [] (omega arith, (tt, (tt, (tt, tt)))) (All-nil (λ u. (message_bits u ≤ segment_limit) × AreNarrowInside u.body));
+  narrow = All-cons (λ u. (message_bits u ≤ segment_limit) × AreNarrowInside u.body) the_template [] (omega arith, (tt, (tt, (tt, tt))))
+      (All-nil (λ u. (message_bits u ≤ segment_limit) × AreNarrowInside u.body));
   entry_count = refl;
 }
 

@@ -17,7 +17,13 @@ abbrev refers : List ℕ → Data
 refers name = table (member (codes "kind") (string (codes "ref")) (member (codes "name") (string name) no_members))
 
 writes_reference : (name : List ℕ) → IsName name → Writes (refers name) (reference name)
-writes_reference name n = (member (codes "kind") (string (codes "ref")) (member (codes "name") (string name) no_members), refl, ((0, omega arith, refl), ((1, omega arith, refl), tt)), refl, (refl, n))
+writes_reference name n = (
+  member (codes "kind") (string (codes "ref")) (member (codes "name") (string name) no_members),
+  refl,
+  ((0, omega arith, refl), ((1, omega arith, refl), tt)),
+  refl,
+  (refl, n),
+)
 
 a_is : IsName (codes "A")
 a_is = capital 0x41 (omega arith) (omega arith)
@@ -105,7 +111,13 @@ written = (
     item (table (one_field (codes "B") (refers (codes "A")))) no_items,
     refl,
     writes_one (codes "A") (refers (codes "B")) (reference (codes "B")) a_is (writes_reference (codes "B") b_is),
-    (one_field (codes "B") (refers (codes "A")), no_items, refl, writes_one (codes "B") (refers (codes "A")) (reference (codes "A")) b_is (writes_reference (codes "A") a_is), refl),
+    (
+      one_field (codes "B") (refers (codes "A")),
+      no_items,
+      refl,
+      writes_one (codes "B") (refers (codes "A")) (reference (codes "A")) b_is (writes_reference (codes "A") a_is),
+      refl,
+    ),
   ),
   omega arith,
   omega arith,
@@ -114,5 +126,6 @@ written = (
 pub returns : goal.returns
 unfolding toml_on_literals
 returns c =
-    refused_text (template_of (codes "{kind='ref', name='B'}") ++ codes "[[template]]\nname = 'B'\nfields = [{kind='ref', name='A'}]\n") (member (codes "template") (array tables) no_members) (a ∷ b ∷ []) C3 refl written
+    refused_text (template_of (codes "{kind='ref', name='B'}") ++ codes "[[template]]\nname = 'B'\nfields = [{kind='ref', name='A'}]\n")
+    (member (codes "template") (array tables) no_members) (a ∷ b ∷ []) C3 refl written
     (1, (1, a, b, refl, refl, (0, omega arith, refl), (0, b, a, refl, refl, (0, omega arith, refl), refl))) first

@@ -24,8 +24,10 @@ written : (field : Data) (d : Declared) → Writes field d → WritesSet (docume
 written field d w = writes_set (codes "A") field d (capital 0x41 (omega arith) (omega arith)) w
 
 -- a text of digits is the integer of its digits, and of no other
-no_integer : (range : Range) (text : List ℕ) (n : ℕ) → digits_value text ≡ n → ¬ (IsWithin range (pos n)) → ((ds : List ℕ) → ¬ (text ≡ 0x2D ∷ ds)) → (x : ℤ) → ¬ (IsInteger range text x)
-no_integer range text n v outside unsigned x (ds, numeral, inside, inl (e, i)) = outside (subst (IsWithin range) (i ∙ ap (λ (t : List ℕ). pos (digits_value t)) (sym e) ∙ ap pos v) inside)
+no_integer : (range : Range) (text : List ℕ) (n : ℕ) → digits_value text ≡ n → ¬ (IsWithin range (pos n))
+    → ((ds : List ℕ) → ¬ (text ≡ 0x2D ∷ ds)) → (x : ℤ) → ¬ (IsInteger range text x)
+no_integer range text n v outside unsigned x (ds, numeral, inside, inl (e, i)) =
+    outside (subst (IsWithin range) (i ∙ ap (λ (t : List ℕ). pos (digits_value t)) (sym e) ∙ ap pos v) inside)
 no_integer range text n v outside unsigned x (ds, numeral, inside, inr (e, i)) = unsigned ds e
 
 -- 4294967296 is no uInt32
@@ -35,7 +37,12 @@ outside = not_from_Decides (within (unsigned_range 32) (pos 4294967296)) (decide
 too_great : (x : ℤ) → ¬ (IsInteger (unsigned_range 32) (codes "4294967296") x)
 too_great = no_integer (unsigned_range 32) (codes "4294967296") 4294967296 refl outside (λ ds e. absurd (cc e))
 
-no_initial : (v : Option ScalarData) → ¬ (IsInitialOf (scalar_use (codes "x") false UInt32 (record { operator = Copy; value = Some (codes "4294967296"); key = None; dictionary = None })) (Some (codes "4294967296")) v)
+no_initial : (v : Option ScalarData) → ¬ (IsInitialOf (scalar_use (codes "x") false UInt32 (record {
+  operator = Copy;
+  value = Some (codes "4294967296");
+  key = None;
+  dictionary = None;
+})) (Some (codes "4294967296")) v)
 no_initial None h = h
 no_initial (Some v) ((x, i, e), _) = too_great x i
 
@@ -53,7 +60,8 @@ increment : IsRefusedText (template_of (codes "{kind='ascii', name='x', op='incr
 unfolding toml_on_literals
 increment =
     let t = declared (codes "A") (scalar_of Ascii Increment None) in
-    refused_text (template_of (codes "{kind='ascii', name='x', op='increment'}")) (document_of (codes "A") (table_of Ascii Increment no_members)) (t ∷ []) S2 refl
+    refused_text (template_of (codes "{kind='ascii', name='x', op='increment'}"))
+    (document_of (codes "A") (table_of Ascii Increment no_members)) (t ∷ []) S2 refl
     (written _ _ (writes_bare Ascii Increment (tt, tt))) (t, refl, (0, _, omega arith, refl, refl)) (first_of_one t)
 
 initial : IsRefusedText (template_of (codes "{kind='uInt32', name='x', op='copy', value='4294967296'}")) S3
@@ -68,7 +76,8 @@ constant : IsRefusedText (template_of (codes "{kind='uInt32', name='x', op='cons
 unfolding toml_on_literals
 constant =
     let t = declared (codes "A") (scalar_of UInt32 Constant None) in
-    refused_text (template_of (codes "{kind='uInt32', name='x', op='constant'}")) (document_of (codes "A") (table_of UInt32 Constant no_members)) (t ∷ []) S4 refl
+    refused_text (template_of (codes "{kind='uInt32', name='x', op='constant'}"))
+    (document_of (codes "A") (table_of UInt32 Constant no_members)) (t ∷ []) S4 refl
     (written _ _ (writes_bare UInt32 Constant (refl, refl))) (t, refl, (0, _, omega arith, refl, (refl, refl))) (first_of_one t)
 
 default : IsRefusedText (template_of (codes "{kind='uInt32', name='x', op='default'}")) S5

@@ -14,5 +14,6 @@ pub returns : goal.returns
 returns c =
     let i = c.in_ok-sum-2 in
     let meant = c.meant_signed-number in
-    signed_is c.args.strict c.args.nullable c.args.low c.args.top meant.result i.sum i.len c.args.bytes.now i.ensures (c.if-is_refused_signed_front.ensures refl) meant.ensures
+    signed_is c.args.strict c.args.nullable c.args.low c.args.top meant.result i.sum i.len c.args.bytes.now i.ensures
+    (c.if-is_refused_signed_front.ensures refl) meant.ensures
     (tested_signed meant.result c.args.low c.args.top c.ranges.low c.ranges.top (c.if-not-is_between.ensures refl))

@@ -7,7 +7,8 @@ returns-in-Some-four_in c =
     let i = c.in-Some-four_in in
     let meant = c.meant-in-Some-four_in in
     let small = few_unsigned i.sum i.len c.args.bytes.now i.ensures.entity i.ensures.few in
-    unsigned_is c.args.strict c.args.nullable c.args.top meant.result i.sum i.len c.args.bytes.now i.ensures.entity (λ _. c.if-not-goes_on.ensures refl) meant.ensures
+    unsigned_is c.args.strict c.args.nullable c.args.top meant.result i.sum i.len c.args.bytes.now i.ensures.entity
+    (λ _. c.if-not-goes_on.ensures refl) meant.ensures
     (small_unsigned c.args.nullable meant.result i.sum c.args.top meant.ensures small c.requires.top)
 
 pub returns : goal.returns

@@ -11,4 +11,5 @@ returns c =
     let other = c.if-last-eq16.false in
     let within : last < 16 = omega (arith, short, other) in
     let here : 0 + last ≡ last = omega arith in
-    short_text c.args.rest.now last c.requires.begins c.if-rest-lt16.false within (λ k h. stop.before k (omega arith) (omega arith)) (subst (λ k. 128 ≤ get_or c.args.rest.now k 0) here (stop.stop within)) (c.type_inv.rest last).fits
+    short_text c.args.rest.now last c.requires.begins c.if-rest-lt16.false within (λ k h. stop.before k (omega arith) (omega arith))
+    (subst (λ k. 128 ≤ get_or c.args.rest.now k 0) here (stop.stop within)) (c.type_inv.rest last).fits

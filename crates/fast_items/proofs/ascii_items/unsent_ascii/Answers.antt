@@ -15,4 +15,5 @@ returns-then-holds_ascii-clause-decided c f operator which said =
 pub returns-in-Empty-clause-decided : goal.returns-in-Empty-clause-decided
 returns-in-Empty-clause-decided c f operator which said =
     let (text, held) = c.held.ensures in
-    unsent_empty f (slots_dictionary c.args.slots.now) Ascii c.args.optional operator c.args.entry which said c.if-optional.true (sym held ∙ ap (λ e. with_text e text) c.in-Empty.is)
+    unsent_empty f (slots_dictionary c.args.slots.now) Ascii c.args.optional operator c.args.entry which said c.if-optional.true
+    (sym held ∙ ap (λ e. with_text e text) c.in-Empty.is)

@@ -18,9 +18,13 @@ returns-else-not-is_text_front-clause-begun c f l same is serves =
     let a = c.in_ok-subtraction.len in
     let k = c.in_ok-subtraction-2.subtraction in
     let left = c.in_ok-left.left in
-    let given : IsFirstInt (λ y. y) c.args.strict (signed_range 31) c.args.optional (First.Whole (Some k) a) rest = rw c.in_ok-subtraction-2.was at c.in_ok-subtraction.ensures in
-    let open_front : ascii_text false left (drop a rest) [] cut = subst (λ w. ascii_text false left w [] cut) (take_rest rest a) (c.is_text_front.ensures.«open» c.if-not-is_text_front.false false) in
-    ascii_begun c.args.strict l f rest (slots_dictionary c.args.slots.now) c.args.kind c.args.optional c.args.entry k c.args.room left a same is c.requires.text given c.in_ok-left.ensures c.in-Ascii.is open_front
+    let given : IsFirstInt (λ y. y) c.args.strict (signed_range 31) c.args.optional (First.Whole (Some k) a) rest =
+    rw c.in_ok-subtraction-2.was at c.in_ok-subtraction.ensures in
+    let open_front : ascii_text false left (drop a rest) [] cut =
+    subst (λ w. ascii_text false left w [] cut) (take_rest rest a)
+    (c.is_text_front.ensures.«open» c.if-not-is_text_front.false false) in
+    ascii_begun c.args.strict l f rest (slots_dictionary c.args.slots.now) c.args.kind c.args.optional c.args.entry k c.args.room left a
+    same is c.requires.text given c.in_ok-left.ensures c.in-Ascii.is open_front
 
 pub returns-else-size-behind : goal.returns-else-size-behind
 returns-else-size-behind c =
@@ -30,9 +34,11 @@ returns-else-size-behind c =
     let k = c.in_ok-subtraction-2.subtraction in
     let left = c.in_ok-left.left in
     let size = c.in_ok-size-in_default-2.size in
-    let given : IsFirstInt (λ y. y) c.args.strict (signed_range 31) c.args.optional (First.Whole (Some k) a) rest = rw c.in_ok-subtraction-2.was at c.in_ok-subtraction.ensures in
+    let given : IsFirstInt (λ y. y) c.args.strict (signed_range 31) c.args.optional (First.Whole (Some k) a) rest =
+    rw c.in_ok-subtraction-2.was at c.in_ok-subtraction.ensures in
     let sized : IsFirstInt (λ y. option_map pos y) c.args.strict (unsigned_range 32) false (First.Whole (Some size) b) (drop a rest)
-    = subst (λ (w : List ℕ). IsFirstInt (λ y. option_map pos y) c.args.strict (unsigned_range 32) false (First.Whole (Some size) b) w) (take_rest rest a) (rw c.in_ok-size-in_default-2.was at c.in_ok-size-in_default.ensures) in
+    = subst (λ (w : List ℕ). IsFirstInt (λ y. option_map pos y) c.args.strict (unsigned_range 32) false (First.Whole (Some size) b) w)
+    (take_rest rest a) (rw c.in_ok-size-in_default-2.was at c.in_ok-size-in_default.ensures) in
     let fits : size ≤ left = c.if-size-left.false in
     let within : a ≤ length rest = given.0 in
     let behind : length (drop a rest) ≡ length rest - a = length-drop a rest in
@@ -40,7 +46,9 @@ returns-else-size-behind c =
     let here : b ≤ length (drop a rest) = sized.0 in
     let leaves : left ≡ c.args.room - kept_length c.in_ok-left.ensures.kept = c.in_ok-left.ensures.leaves in
     record {
-      begun = λ f l same is serves. vector_begun c.args.strict l f rest (slots_dictionary c.args.slots.now) c.args.kind c.args.optional c.args.entry k c.args.room left a same is c.requires.text given c.in_ok-left.ensures size b
+      begun = λ f l same is serves. vector_begun c.args.strict l f rest
+          (slots_dictionary c.args.slots.now) c.args.kind c.args.optional c.args.entry k c.args.room left a same is c.requires.text given
+          c.in_ok-left.ensures size b
           c.in_default.not-Ascii sized fits short;
       fits = (omega (arith, within, behind, here), omega (arith, behind, short, fits, leaves));
     }
@@ -64,7 +72,13 @@ pub returns-in_err-left-clause-fits : goal.returns-in_err-left-clause-fits
 returns-in_err-left-clause-fits c = rw c.from_residual-in_err-left.ensures tt
 
 pub returns-in_err-size-in_default : goal.returns-in_err-size-in_default
-returns-in_err-size-in_default c = record { begun = rw c.from_residual-in_err-size-in_default.ensures tt; fits = rw c.from_residual-in_err-size-in_default.ensures tt }
+returns-in_err-size-in_default c = record {
+  begun = rw c.from_residual-in_err-size-in_default.ensures tt;
+  fits = rw c.from_residual-in_err-size-in_default.ensures tt;
+}
 
 pub returns-in_err-size-in_default-2 : goal.returns-in_err-size-in_default-2
-returns-in_err-size-in_default-2 c = record { begun = rw c.from_residual-in_err-size-in_default-2.ensures tt; fits = rw c.from_residual-in_err-size-in_default-2.ensures tt }
+returns-in_err-size-in_default-2 c = record {
+  begun = rw c.from_residual-in_err-size-in_default-2.ensures tt;
+  fits = rw c.from_residual-in_err-size-in_default-2.ensures tt;
+}

@@ -30,15 +30,20 @@ returns-in_ok-mantissa-in-Some-clause-unit c = λ f l scratch is serves.
     let held : previous_at f.entry old ≡ assigned Decimal (Dec e m) = ap (λ z. previous_at z old) (is.entry refl) ∙ own in
     let some : c.in_ok-item.item ≡ Some k = c.in-Some.is ∙ ap (λ z. Some z) (sym (again w64 c.in-Some.delta k_fits)) in
     let kept : new ≡ write_at f.entry (assigned f.kind (Dec x y)) old =
-    c.keep_at.ensures.entry ∙ ap (λ z. write_at z (assigned Decimal (Dec x y)) old) (sym (is.entry refl)) ∙ ap (λ q. write_at f.entry (assigned q (Dec x y)) old) (sym is.kind) in
-    let exponent : ranged exponent_range R1 (e +ℤ k) ≡ Ok x = c.in_ok-exponent-in-Some-2.ensures ∙ ap (λ z. Ok z) (sym (again w32 c.in_ok-exponent-in-Some-2.exponent x_fits)) in
+    c.keep_at.ensures.entry ∙ ap (λ z. write_at z (assigned Decimal (Dec x y)) old) (sym (is.entry refl))
+    ∙ ap (λ q. write_at f.entry (assigned q (Dec x y)) old) (sym is.kind) in
+    let exponent : ranged exponent_range R1 (e +ℤ k) ≡ Ok x = c.in_ok-exponent-in-Some-2.ensures
+    ∙ ap (λ z. Ok z) (sym (again w32 c.in_ok-exponent-in-Some-2.exponent x_fits)) in
     let mantissa : ranged (signed_range 63) R1 (m +ℤ j) ≡ Ok y = inside ∙ ap (λ z. Ok z) (sym (again w64 c.in_ok-mantissa-in-Some.mantissa y_fits)) in
-    changed_unit c.args.strict c.args.optional l f c.args.rest.now old new scratch e m k j x y c.in_ok-item.item 1 c.in_ok-mantissa-in-Some.bytes is.kind is.optional is.operator held some
+    changed_unit c.args.strict c.args.optional l f c.args.rest.now old new scratch e m k j x y c.in_ok-item.item 1
+    c.in_ok-mantissa-in-Some.bytes is.kind is.optional is.operator held some
     (c.in_ok-item.ensures c.args.strict) exponent second mantissa kept
 
 pub returns-in-None-clause-unit : goal.returns-in-None-clause-unit
 returns-in-None-clause-unit c = λ f l scratch is serves.
-    null_unit c.args.strict c.args.optional l f c.args.rest.now (slots_dictionary c.args.slots.now) scratch c.in_ok-item.item 1 is.kind is.optional is.operator c.in-None.is (c.in_ok-item.ensures c.args.strict)
+    null_unit c.args.strict c.args.optional l f c.args.rest.now
+    (slots_dictionary c.args.slots.now) scratch c.in_ok-item.item 1 is.kind is.optional is.operator c.in-None.is
+    (c.in_ok-item.ensures c.args.strict)
 
 pub slice_bounds-changed_mantissa-start : goal.slice_bounds-changed_mantissa-start
 slice_bounds-changed_mantissa-start c = (c.in_ok-item.ensures c.args.strict).0

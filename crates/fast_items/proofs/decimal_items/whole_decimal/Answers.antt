@@ -27,15 +27,21 @@ returns-in_ok-mantissa-in-Some c =
     let b = c.in_ok-mantissa-in-Some.bytes in
     let exponent_fits : FitsSigned w32 e = search rules in
     let mantissa_fits : FitsSigned w64 m = search rules in
-    let (some, within, t) = two_units s r exponent_range (signed_range 63) c.args.optional R1 R1 decimal_from (λ x. give (sent_decimal e x)) rest c.in_ok-item.item (Some m) a b
-    refl (ap (λ x. reader_of s (decimal_from x)) c.in-Some.is) (c.in_ok-item.ensures c.args.strict) c.in_ok-mantissa-in-Some.ensures in
-    (some, within, turns_as refl (ap (λ x. Done (value (Dec x (to_z w64 (of_z w64 m))))) (again w32 e exponent_fits) ∙ ap (λ y. Done (value (Dec e y))) (again w64 m mantissa_fits)) t)
+    let (some, within, t) = two_units s r exponent_range (signed_range 63) c.args.optional R1 R1 decimal_from
+    (λ x. give (sent_decimal e x)) rest c.in_ok-item.item (Some m) a b
+    refl (ap (λ x. reader_of s (decimal_from x)) c.in-Some.is) (c.in_ok-item.ensures c.args.strict) c.in_ok-mantissa-in-Some.ensures in (
+      some,
+      within,
+      turns_as refl (ap (λ x. Done (value (Dec x (to_z w64 (of_z w64 m))))) (again w32 e exponent_fits)
+          ∙ ap (λ y. Done (value (Dec e y))) (again w64 m mantissa_fits)) t,
+    )
 
 pub returns-in-None : goal.returns-in-None
 returns-in-None c =
     let s = c.args.strict in
     let g = integer exponent_range c.args.optional R1 give in
-    let (some, within, t) = first_whole (λ x. x) s exponent_range c.args.optional R1 [] c.args.rest.now c.in_ok-item.item 1 refl (c.in_ok-item.ensures c.args.strict) in
+    let (some, within, t) = first_whole (λ x. x) s exponent_range c.args.optional R1 [] c.args.rest.now c.in_ok-item.item 1 refl
+    (c.in_ok-item.ensures c.args.strict) in
     (some, within, turns_as refl (sym (ap (λ x. reader_of s (decimal_from x)) c.in-None.is)) (term_turns s g decimal_from t))
 
 pub slice_bounds-whole_mantissa-count : goal.slice_bounds-whole_mantissa-count

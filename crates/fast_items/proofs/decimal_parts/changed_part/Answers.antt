@@ -25,4 +25,5 @@ returns-in_ok-sum-in-Int64 c = λ field is.
     part_changed field c.args.strict c.args.rest.now c.args.slots.now base j sum c.in_ok-delta.bytes
     is.kind is.delta is.mandatory (ap (λ e. previous_at e (slots_dictionary c.args.slots.now)) is.entry ∙ own) summed within
     (delta_first c.args.strict c.args.rest.now j c.in_ok-delta.bytes
-    (subst (λ (y : ℤ). IsFirstInt (λ z. Some z) c.args.strict (signed_range 63) false (First.Whole y c.in_ok-delta.bytes) c.args.rest.now) (sym (again w64 c.in_ok-delta.delta fits)) c.in_ok-delta.ensures))
+    (subst (λ (y : ℤ). IsFirstInt (λ z. Some z) c.args.strict (signed_range 63) false (First.Whole y c.in_ok-delta.bytes) c.args.rest.now)
+    (sym (again w64 c.in_ok-delta.delta fits)) c.in_ok-delta.ensures))

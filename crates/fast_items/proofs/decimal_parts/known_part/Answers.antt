@@ -15,18 +15,25 @@ pub returns-in-Constant : goal.returns-in-Constant
 returns-in-Constant c = constant_none c.args.field.now c.args.bit c.args.slots.now c.in-Constant.is (search rules)
 
 pub returns-in-Constant-2 : goal.returns-in-Constant-2
-returns-in-Constant-2 c = constant_there c.args.field.now c.args.bit c.args.slots.now c.in-Constant.is (search rules) c.initial_part.result c.initial_part.ensures
+returns-in-Constant-2 c = constant_there c.args.field.now c.args.bit c.args.slots.now c.in-Constant.is
+    (search rules) c.initial_part.result c.initial_part.ensures
 
 pub returns-in-Default : goal.returns-in-Default
-returns-in-Default c = default_left c.args.field.now c.args.bit c.args.slots.now c.in-Default.is (sym (ap (λ o. needs_bytes o c.args.bit) c.in-Default.is) ∙ c.requires.no_bytes) c.initial_part-in-Default.result c.initial_part-in-Default.ensures
+returns-in-Default c = default_left c.args.field.now c.args.bit c.args.slots.now c.in-Default.is
+    (sym (ap (λ o. needs_bytes o c.args.bit) c.in-Default.is) ∙ c.requires.no_bytes) c.initial_part-in-Default.result
+    c.initial_part-in-Default.ensures
 
 pub returns-in-Some : goal.returns-in-Some
 returns-in-Some c =
     let fits : FitsSigned w64 c.in-Some.number = search rules in
-    copied_number c.args.field.now c.args.bit c.args.slots.now (to_z w64 (of_z w64 c.in-Some.number)) c.in-Copy.is (sym (ap (λ o. needs_bytes o c.args.bit) c.in-Copy.is) ∙ c.requires.no_bytes)
-    (c.in_ok-number-in-Copy.ensures ∙ ap (λ (x : Option ℤ). item_held c.args.kind (part_item x)) c.in-Some.is ∙ ap (λ x. assigned c.args.kind (I x)) (sym (again w64 c.in-Some.number fits)) ∙ ap (λ k. assigned k (I (to_z w64 (of_z w64 c.in-Some.number)))) (sym c.requires.kind))
+    copied_number c.args.field.now c.args.bit c.args.slots.now (to_z w64 (of_z w64 c.in-Some.number)) c.in-Copy.is
+    (sym (ap (λ o. needs_bytes o c.args.bit) c.in-Copy.is) ∙ c.requires.no_bytes)
+    (c.in_ok-number-in-Copy.ensures ∙ ap (λ (x : Option ℤ). item_held c.args.kind (part_item x)) c.in-Some.is
+    ∙ ap (λ x. assigned c.args.kind (I x)) (sym (again w64 c.in-Some.number fits))
+    ∙ ap (λ k. assigned k (I (to_z w64 (of_z w64 c.in-Some.number)))) (sym c.requires.kind))
 
 pub returns-in-None : goal.returns-in-None
 returns-in-None c =
-    copied_none c.args.field.now c.args.bit c.args.slots.now c.in-Copy.is (sym (ap (λ o. needs_bytes o c.args.bit) c.in-Copy.is) ∙ c.requires.no_bytes) c.if-field.true
+    copied_none c.args.field.now c.args.bit c.args.slots.now c.in-Copy.is
+    (sym (ap (λ o. needs_bytes o c.args.bit) c.in-Copy.is) ∙ c.requires.no_bytes) c.if-field.true
     (c.in_ok-number-in-Copy.ensures ∙ ap (λ (x : Option ℤ). item_held c.args.kind (part_item x)) c.in-None.is)

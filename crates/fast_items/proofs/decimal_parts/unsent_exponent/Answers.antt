@@ -18,7 +18,8 @@ returns-else-exponent-gt63-clause-known c =
     c.in_ok-exponent.was ∙ ap Some (c.in-Some.is ∙ ap Some (search rules ∙ sym (again w32 c.exponent_in.result fits))) in
     subst (λ (o : Option (Option ℤ)). IfSome o (IsPartKnown field false seen)) is (elim c.match-operator.branch [
       | in-Default w ↦ usual_default field seen c.args.operator _ _ c.requires.operator w.in-Default.is w.known-is w.initial_part-known.ensures
-      | in_default w ↦ usual_held field seen c.args.operator c.args.optional Int32 _ _ c.requires.usual c.requires.kind c.requires.operator c.requires.optional w.in_default.not-Default w.known-is
+      | in_default w ↦ usual_held field seen c.args.operator c.args.optional Int32 _ _ c.requires.usual c.requires.kind c.requires.operator
+          c.requires.optional w.in_default.not-Default w.known-is
           w.held_exponent-known.ensures.held w.held_exponent-known.ensures.absent
     ])
 
@@ -28,6 +29,7 @@ returns-in-None-clause-known c =
     let seen = c.args.slots.now in
     subst (λ (o : Option (Option ℤ)). IfSome o (IsPartKnown field false seen)) (c.in_ok-exponent.was ∙ ap Some c.in-None.is) (elim c.match-operator.branch [
       | in-Default w ↦ usual_default field seen c.args.operator _ _ c.requires.operator w.in-Default.is w.known-is w.initial_part-known.ensures
-      | in_default w ↦ usual_held field seen c.args.operator c.args.optional Int32 _ _ c.requires.usual c.requires.kind c.requires.operator c.requires.optional w.in_default.not-Default w.known-is
+      | in_default w ↦ usual_held field seen c.args.operator c.args.optional Int32 _ _ c.requires.usual c.requires.kind c.requires.operator
+          c.requires.optional w.in_default.not-Default w.known-is
           w.held_exponent-known.ensures.held w.held_exponent-known.ensures.absent
     ])

@@ -19,10 +19,12 @@ returns-clause-decided c f kind entry =
     let p = previous_at f.entry old in
     let v = number_data c.in_ok-number.number in
     let n = c.in_ok-sum.sum in
-    let held : p ≡ assigned f.kind v = held_at f old c.held.result c.args.entry (assigned c.args.kind v) entry c.held.ensures c.in_ok-number.ensures ∙ ap (λ k. assigned k v) (sym kind) in
+    let held : p ≡ assigned f.kind v = held_at f old c.held.result c.args.entry
+    (assigned c.args.kind v) entry c.held.ensures c.in_ok-number.ensures ∙ ap (λ k. assigned k v) (sym kind) in
     let fits : FitsSigned w64 c.args.delta = search rules in
     let (x, summed, kept) = c.in_ok-sum.ensures in
-    let inside : ranged (range_of c.args.kind) D2 (integer_of v +ℤ c.args.delta) ≡ Ok x = subst (λ d. ranged (range_of c.args.kind) D2 (integer_of v +ℤ d) ≡ Ok x) (again w64 c.args.delta fits) summed in
+    let inside : ranged (range_of c.args.kind) D2 (integer_of v +ℤ c.args.delta) ≡ Ok x =
+    subst (λ d. ranged (range_of c.args.kind) D2 (integer_of v +ℤ d) ≡ Ok x) (again w64 c.args.delta fits) summed in
     let step : integer_step f p c.args.delta ≡ keeps f.kind (number_data n) =
     base_stepped f p c.args.delta
     ∙ ap (λ b. b >>= (λ x. ranged (range_of f.kind) D2 (x +ℤ c.args.delta) >>= (λ y. keeps f.kind (value_of_integer f.kind y)))) (base_own f p v held)
@@ -31,5 +33,6 @@ returns-clause-decided c f kind entry =
     ∙ ap (keeps c.args.kind) (sym kept)
     ∙ ap (λ k. keeps k (number_data n)) (sym kind) in
     let there : new ≡ write_at f.entry (assigned f.kind (number_data n)) old =
-    c.keep_changed_at.ensures.entry ∙ ap (λ e. write_at e (assigned c.args.kind (number_data n)) old) (sym entry) ∙ ap (λ k. write_at f.entry (assigned k (number_data n)) old) (sym kind) in
+    c.keep_changed_at.ensures.entry ∙ ap (λ e. write_at e (assigned c.args.kind (number_data n)) old) (sym entry)
+    ∙ ap (λ k. write_at f.entry (assigned k (number_data n)) old) (sym kind) in
     decided_as f old new (Ok (source_of (Some n))) step (keep_decided f old new (number_data n) (source_of (Some n)) there (item_value (Some n) f))

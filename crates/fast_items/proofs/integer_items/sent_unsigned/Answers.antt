@@ -11,6 +11,7 @@ returns-clause-unit c =
     sent_item c.args.kind c.args.optional c.args.operator c.args.entry c.args.strict c.args.rest.now c.args.slots.now c.keep_item_at.new.slots x
     (record { item = c.unsigned_number-item.result; bytes = c.in_ok-number.bytes })
     c.requires.integers c.requires.no_delta c.requires.no_constant
-    (subst (λ range. IsFirstInt (λ y. y) c.args.strict range c.args.optional (Whole x c.in_ok-number.bytes) c.args.rest.now) c.requires.range c.in_ok-number.ensures)
+    (subst (λ range. IsFirstInt (λ y. y) c.args.strict range c.args.optional (Whole x c.in_ok-number.bytes) c.args.rest.now)
+    c.requires.range c.in_ok-number.ensures)
     (c.unsigned_number-item.ensures c.args.kind c.requires.unsigned)
     c.keep_item_at.ensures.entry

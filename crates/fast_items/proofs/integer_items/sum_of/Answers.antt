@@ -27,7 +27,8 @@ returns-in_ok-sum-in-UInt32-Unsigned c =
     let same = c.in-UInt32-Unsigned.is-0 in
     let sum = c.in_ok-sum-in-UInt32-Unsigned.sum in (
       pos sum,
-      ap (ranged (range_of c.args.kind) D2) (summed c.args.number c.in-UInt32-Unsigned.base sum c.args.delta c.in-UInt32-Unsigned.is-1 fits c.in_ok-sum-in-UInt32-Unsigned.ensures.sum)
+      ap (ranged (range_of c.args.kind) D2) (summed c.args.number c.in-UInt32-Unsigned.base sum c.args.delta c.in-UInt32-Unsigned.is-1 fits
+          c.in_ok-sum-in-UInt32-Unsigned.ensures.sum)
           ∙ ap (λ k. ranged (range_of k) D2 (pos sum)) same ∙ inside_32 sum c.in_ok-sum-in-UInt32-Unsigned.ensures.small,
       ap (λ k. value_of_integer k (pos sum)) (sym same),
     )
@@ -39,7 +40,8 @@ returns-in_ok-sum-in-UInt64-Unsigned c =
     let sum = c.in_ok-sum-in-UInt64-Unsigned.sum in
     let small : sum < 2 ^ 64 = search rules in (
       pos sum,
-      ap (ranged (range_of c.args.kind) D2) (summed c.args.number c.in-UInt64-Unsigned.base sum c.args.delta c.in-UInt64-Unsigned.is-1 fits c.in_ok-sum-in-UInt64-Unsigned.ensures)
+      ap (ranged (range_of c.args.kind) D2) (summed c.args.number c.in-UInt64-Unsigned.base sum c.args.delta c.in-UInt64-Unsigned.is-1 fits
+          c.in_ok-sum-in-UInt64-Unsigned.ensures)
           ∙ ap (λ k. ranged (range_of k) D2 (pos sum)) same ∙ inside_64 sum small,
       ap (λ k. value_of_integer k (pos sum)) (sym same),
     )

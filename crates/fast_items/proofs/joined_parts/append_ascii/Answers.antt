@@ -1,5 +1,6 @@
 -- The part stands behind what is kept, its last character behind the others.
-use Rattle.std.proofs.Common.{◌≡◌, ◌+◌, ◌-◌, ◌≤◌, ◌++◌, ◌∷◌, [], ◌∙◌, ap, sym, subst, refl, arith, length, take, slice_set, length-append, append_assoc, List, ℕ}
+use Rattle.std.proofs.Common.{◌≡◌, ◌+◌, ◌-◌, ◌≤◌, ◌++◌, ◌∷◌, [], ◌∙◌, ap, sym, subst, refl, arith, length, take, slice_set, length-append}
+use Rattle.std.proofs.Common.{append_assoc, List, ℕ}
 use Rattle.std.specs.Prelude.{IsTrue, Some}
 use Rattle.std.proofs.lemmas.List.{length-take-le, take_all, set-set}
 use Rattle.fast_value.specs.declared.kinds.Kind.TheVariants.{Ascii}
@@ -29,8 +30,11 @@ returns-clause-joined c =
     let len : length (take keep base) ≡ keep = length-take-le keep base (omega arith) in
     let size : length some ≡ keep + length front = length-append (take keep base) front ∙ ap (λ n. n + length front) len in
     let first : between ≡ slice_set old e (assigned Ascii (AsciiText some)) = c.extend_text.ensures.entry base c.in_ok-base.ensures.held (omega arith) in
-    let held : previous_at (Some e) between ≡ assigned Ascii (AsciiText some) = ap (previous_at (Some e)) first ∙ written e old (assigned Ascii (AsciiText some)) c.requires.there in
-    let text : take (keep + length front) some ++ c.args.last ∷ [] ≡ all = ap (λ t. t ++ c.args.last ∷ []) (take_all (keep + length front) some (omega (arith, size))) ∙ append_assoc (take keep base) front (c.args.last ∷ []) in
+    let held : previous_at (Some e) between ≡ assigned Ascii (AsciiText some) = ap (previous_at (Some e)) first
+    ∙ written e old (assigned Ascii (AsciiText some)) c.requires.there in
+    let text : take (keep + length front) some ++ c.args.last ∷ [] ≡ all =
+    ap (λ t. t ++ c.args.last ∷ []) (take_all (keep + length front) some (omega (arith, size)))
+    ∙ append_assoc (take keep base) front (c.args.last ∷ []) in
     let more : length (front ++ c.args.last ∷ []) ≡ length front + 1 = length-append front (c.args.last ∷ []) in
     let fits = c.if-front-room.false in
     record {

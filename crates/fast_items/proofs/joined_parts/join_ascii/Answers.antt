@@ -22,9 +22,13 @@ returns-in_err-prepend_ascii-clause-none c = rw c.from_residual-in_err-prepend_a
 pub returns-in_ok-append_ascii-clause-joined : goal.returns-in_ok-append_ascii-clause-joined
 returns-in_ok-append_ascii-clause-joined c =
     let told = at_end (to_z w64 (of_z w64 c.args.subtraction)) c.dropped_by-dropped.result c.if-subtraction-ge0.true c.dropped_by-dropped.ensures.end in
-    subst (λ (k : ℤ). IsJoined Ascii c.args.entry k (c.args.front.now ++ c.args.last ∷ []) c.args.room (slots_dictionary c.args.slots.now) (slots_dictionary c.append_ascii.new.slots)) (sym told ∙ again w64 c.args.subtraction c.ranges.subtraction) c.in_ok-append_ascii.ensures.joined
+    subst (λ (k : ℤ). IsJoined Ascii c.args.entry k (c.args.front.now ++ c.args.last ∷ []) c.args.room (slots_dictionary c.args.slots.now)
+    (slots_dictionary c.append_ascii.new.slots)) (sym told ∙ again w64 c.args.subtraction c.ranges.subtraction)
+    c.in_ok-append_ascii.ensures.joined
 
 pub returns-in_ok-prepend_ascii-clause-joined : goal.returns-in_ok-prepend_ascii-clause-joined
 returns-in_ok-prepend_ascii-clause-joined c =
     let told = at_front (to_z w64 (of_z w64 c.args.subtraction)) c.dropped_by-dropped.result c.if-subtraction-ge0.false c.dropped_by-dropped.ensures.front in
-    subst (λ (k : ℤ). IsJoined Ascii c.args.entry k (c.args.front.now ++ c.args.last ∷ []) c.args.room (slots_dictionary c.args.slots.now) (slots_dictionary c.prepend_ascii.new.slots)) (sym told ∙ again w64 c.args.subtraction c.ranges.subtraction) c.in_ok-prepend_ascii.ensures.joined
+    subst (λ (k : ℤ). IsJoined Ascii c.args.entry k (c.args.front.now ++ c.args.last ∷ []) c.args.room (slots_dictionary c.args.slots.now)
+    (slots_dictionary c.prepend_ascii.new.slots)) (sym told ∙ again w64 c.args.subtraction c.ranges.subtraction)
+    c.in_ok-prepend_ascii.ensures.joined

@@ -13,5 +13,7 @@ returns c =
     let dropped = c.dropped_by-dropped.result in
     let within : dropped ≤ length base = c.if-dropped-base.false in
     let fits : FitsSigned w64 c.args.subtraction = search rules in
-    subst (λ (k : ℤ). LeavesRoom c.args.kind c.args.entry k c.args.room (c.args.room - (length base - dropped)) (slots_dictionary c.args.slots.now)) (again w64 c.args.subtraction fits)
-    (leaves_room c.args.kind c.args.entry c.args.room (slots_dictionary c.args.slots.now) base dropped c.in_ok-base.ensures.held within _ c.dropped_by-dropped.ensures.end c.dropped_by-dropped.ensures.front)
+    subst (λ (k : ℤ). LeavesRoom c.args.kind c.args.entry k c.args.room (c.args.room - (length base - dropped))
+    (slots_dictionary c.args.slots.now)) (again w64 c.args.subtraction fits)
+    (leaves_room c.args.kind c.args.entry c.args.room (slots_dictionary c.args.slots.now) base dropped c.in_ok-base.ensures.held within _
+    c.dropped_by-dropped.ensures.end c.dropped_by-dropped.ensures.front)

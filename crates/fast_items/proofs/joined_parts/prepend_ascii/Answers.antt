@@ -15,8 +15,10 @@ returns-clause-joined c =
     let (base, held, within, is) = c.in_ok-kept.ensures.kept in
     let front : c.append.new.self.text ≡ c.args.front.now = c.append.ensures.text ∙ ap (λ t. t ++ c.args.front.now) c.clear.ensures.text in
     let before : c.push.new.self.text ≡ part = c.push.ensures.text ∙ ap (λ t. t ++ c.args.last ∷ []) front in
-    let text : c.as_slice.result.now ≡ part ++ drop c.args.dropped base = c.as_slice.ensures ∙ c.append-2.ensures.text ∙ ap (λ t. t ++ c.in_ok-kept.kept.now) before ∙ ap (λ t. part ++ t) is in
-    let set : slots_dictionary c.set.new.self ≡ slice_set (slots_dictionary c.args.slots.now) c.args.entry (assigned Ascii (scalar_data c.text_value.result)) = search rules in
+    let text : c.as_slice.result.now ≡ part ++ drop c.args.dropped base = c.as_slice.ensures ∙ c.append-2.ensures.text
+    ∙ ap (λ t. t ++ c.in_ok-kept.kept.now) before ∙ ap (λ t. part ++ t) is in
+    let set : slots_dictionary c.set.new.self ≡ slice_set (slots_dictionary c.args.slots.now) c.args.entry
+    (assigned Ascii (scalar_data c.text_value.result)) = search rules in
     let more : length part ≡ length c.args.front.now + 1 = length-append c.args.front.now (c.args.last ∷ []) in
     let fits = c.if-front-room.false in
     record {
@@ -26,7 +28,8 @@ returns-clause-joined c =
       keeps = keeps_back base c.args.dropped within;
       fits = rw (← is, more) (omega (arith, fits));
       checked = refl;
-      becomes = set ∙ ap (λ v. slice_set (slots_dictionary c.args.slots.now) c.args.entry (assigned Ascii v)) (c.text_value.ensures ∙ ap (value_of_text Ascii) text);
+      becomes = set ∙ ap (λ v. slice_set (slots_dictionary c.args.slots.now) c.args.entry (assigned Ascii v))
+          (c.text_value.ensures ∙ ap (value_of_text Ascii) text);
     }
 
 pub returns-in_err-kept-clause-joined : goal.returns-in_err-kept-clause-joined

@@ -13,8 +13,11 @@ returns-clause-joined c =
     let kind = c.args.kind in
     let part = c.args.part.now in
     let (base, held, within, is) = c.in_ok-kept.ensures.kept in
-    let text : c.as_slice.result.now ≡ part ++ drop c.args.dropped base = c.as_slice.ensures ∙ c.append-2.ensures.text ∙ ap (λ t. t ++ c.in_ok-kept.kept.now) (c.append.ensures.text ∙ ap (λ t. t ++ part) c.clear.ensures.text) ∙ ap (λ t. part ++ t) is in
-    let set : slots_dictionary c.set.new.self ≡ slice_set (slots_dictionary c.args.slots.now) c.args.entry (assigned kind (scalar_data c.text_value.result)) = search rules in
+    let text : c.as_slice.result.now ≡ part ++ drop c.args.dropped base = c.as_slice.ensures ∙ c.append-2.ensures.text
+    ∙ ap (λ t. t ++ c.in_ok-kept.kept.now) (c.append.ensures.text ∙ ap (λ t. t ++ part) c.clear.ensures.text)
+    ∙ ap (λ t. part ++ t) is in
+    let set : slots_dictionary c.set.new.self ≡ slice_set (slots_dictionary c.args.slots.now) c.args.entry
+    (assigned kind (scalar_data c.text_value.result)) = search rules in
     record {
       base = base;
       held = held;
@@ -22,7 +25,8 @@ returns-clause-joined c =
       keeps = keeps_back base c.args.dropped within;
       fits = rw (← is) c.if-part-room.false;
       checked = rw (← is) (c.are_texts_of.ensures c.if-not-are_texts_of.false);
-      becomes = set ∙ ap (λ v. slice_set (slots_dictionary c.args.slots.now) c.args.entry (assigned kind v)) (c.text_value.ensures ∙ ap (value_of_text kind) text);
+      becomes = set ∙ ap (λ v. slice_set (slots_dictionary c.args.slots.now) c.args.entry (assigned kind v))
+          (c.text_value.ensures ∙ ap (value_of_text kind) text);
     }
 
 pub returns-in_err-kept-clause-joined : goal.returns-in_err-kept-clause-joined

@@ -11,7 +11,8 @@ pub returns-clause-unit : goal.returns-clause-unit
 returns-clause-unit c optional =
     let text = with_last c.in_ok-front.front.now (Some c.in_ok-front.last) in
     let n = length c.in_ok-front.front.now + 1 in
-    subst (λ (m : ℕ). IsFirstTail Ascii optional c.args.entry m c.args.rest.now c.args.slots.now c.copy_long.new.slots c.copy_long.new.scratch.text (text_taken Tail n)) c.max_text.ensures
+    subst (λ (m : ℕ). IsFirstTail Ascii optional c.args.entry m c.args.rest.now c.args.slots.now c.copy_long.new.slots
+    c.copy_long.new.scratch.text (text_taken Tail n)) c.max_text.ensures
     (first_whole optional c.args.entry c.max_text.result c.args.rest.now c.args.slots.now c.copy_long.new.slots c.copy_long.new.scratch.text text n
     (c.in_ok-front.ensures.next optional) c.requires.within (c.if-not-holds_nothing.ensures refl) (c.if-not-copy_long.ensures.kept refl))
 
@@ -28,7 +29,8 @@ pub whole_characters-requires : goal.whole_characters-requires
 whole_characters-requires c = record { begins = c.if-not-begins_with_character.ensures refl }
 
 pub copy_long-requires-clause-fits : goal.copy_long-requires-clause-fits
-copy_long-requires-clause-fits c = subst (λ (m : ℕ). length (with_last c.in_ok-front.front.now (Some c.in_ok-front.last)) ≤ m) c.max_text.ensures c.in_ok-front.ensures.fits
+copy_long-requires-clause-fits c = subst (λ (m : ℕ). length (with_last c.in_ok-front.front.now (Some c.in_ok-front.last)) ≤ m)
+    c.max_text.ensures c.in_ok-front.ensures.fits
 
 pub copy_long-requires-clause-room : goal.copy_long-requires-clause-room
 copy_long-requires-clause-room c = c.requires.room

@@ -11,21 +11,24 @@ use Rattle.fast_items.proofs.long_ascii.tail_long.Goals as goal
 pub append-requires : goal.append-requires
 append-requires c =
     let part : List ℕ = with_last c.args.front.now c.args.last in
-    let h = tail_fits c.args.slots.now c.args.entry c.kept_ascii-base.result.now c.tail_keeps.result.now part c.kept_ascii-base.ensures (c.tail_keeps.ensures part (sym c.size_of.ensures)) c.requires.fits in
+    let h = tail_fits c.args.slots.now c.args.entry c.kept_ascii-base.result.now c.tail_keeps.result.now part c.kept_ascii-base.ensures
+    (c.tail_keeps.ensures part (sym c.size_of.ensures)) c.requires.fits in
     let r = c.requires.room in
     rw (c.clear.ensures.text, c.clear.ensures.capacity) (omega (arith, h, r))
 
 pub append_text-requires : goal.append_text-requires
 append_text-requires c =
     let part : List ℕ = with_last c.args.front.now c.args.last in
-    let h = tail_fits c.args.slots.now c.args.entry c.kept_ascii-base.result.now c.tail_keeps.result.now part c.kept_ascii-base.ensures (c.tail_keeps.ensures part (sym c.size_of.ensures)) c.requires.fits in
+    let h = tail_fits c.args.slots.now c.args.entry c.kept_ascii-base.result.now c.tail_keeps.result.now part c.kept_ascii-base.ensures
+    (c.tail_keeps.ensures part (sym c.size_of.ensures)) c.requires.fits in
     let r = c.requires.room in
     rw (c.append.ensures.text, c.append.ensures.capacity, c.clear.ensures.text, c.clear.ensures.capacity) (omega (arith, h, r))
 
 pub set_ascii-requires-clause-fits : goal.set_ascii-requires-clause-fits
 set_ascii-requires-clause-fits c =
     let part : List ℕ = with_last c.args.front.now c.args.last in
-    let h = tail_fits c.args.slots.now c.args.entry c.kept_ascii-base.result.now c.tail_keeps.result.now part c.kept_ascii-base.ensures (c.tail_keeps.ensures part (sym c.size_of.ensures)) c.requires.fits in
+    let h = tail_fits c.args.slots.now c.args.entry c.kept_ascii-base.result.now c.tail_keeps.result.now part c.kept_ascii-base.ensures
+    (c.tail_keeps.ensures part (sym c.size_of.ensures)) c.requires.fits in
     rw (c.as_slice.ensures, c.append_text.ensures.text, c.append.ensures.text, c.clear.ensures.text, length-append c.tail_keeps.result.now part) h
 
 pub returns-clause-kept : goal.returns-clause-kept
@@ -33,10 +36,12 @@ returns-clause-kept c e =
     let part : List ℕ = with_last c.args.front.now c.args.last in
     let base : List ℕ = c.kept_ascii-base.result.now in
     let keeps : List ℕ = c.tail_keeps.result.now in
-    let text : c.as_slice.result.now ≡ keeps ++ part = c.as_slice.ensures ∙ c.append_text.ensures.text ∙ ap (λ t. t ++ part) (c.append.ensures.text ∙ ap (λ t. t ++ keeps) c.clear.ensures.text) in (
+    let text : c.as_slice.result.now ≡ keeps ++ part = c.as_slice.ensures ∙ c.append_text.ensures.text
+    ∙ ap (λ t. t ++ part) (c.append.ensures.text ∙ ap (λ t. t ++ keeps) c.clear.ensures.text) in (
       base,
       c.kept_ascii-base.ensures,
-      c.set_ascii.ensures.entry ∙ ap (λ t. slice_set (slots_dictionary c.args.slots.now) c.args.entry (assigned Ascii (AsciiText t))) (text ∙ sym (c.tail_keeps.ensures part (sym c.size_of.ensures))),
+      c.set_ascii.ensures.entry ∙ ap (λ t. slice_set (slots_dictionary c.args.slots.now) c.args.entry (assigned Ascii (AsciiText t)))
+          (text ∙ sym (c.tail_keeps.ensures part (sym c.size_of.ensures))),
     )
 
 pub returns-clause-holds : goal.returns-clause-holds

@@ -21,7 +21,8 @@ returns-clause-next c nullable =
     let len : length (take last here) ≡ last = length-take-le last here (let i = stop.within in omega (arith, i)) in
     subst (λ (n : ℕ). IsNextText nullable room [] rest text (Whole true (n + 1))) (sym len)
     (text_whole nullable room [] rest (All-nil (λ b. b < 128)) c.requires.begins m last (take last here) text
-    (let k = c.min.ensures in omega (arith, k)) (let k = c.min.ensures in omega (arith, k)) stop.within stop.first stop.found (c.type_inv.rest last).fits refl refl)
+    (let k = c.min.ensures in omega (arith, k)) (let k = c.min.ensures in omega (arith, k)) stop.within stop.first stop.found
+    (c.type_inv.rest last).fits refl refl)
 
 pub returns-in_err-last-clause-fits : goal.returns-in_err-last-clause-fits
 returns-in_err-last-clause-fits c = rw c.from_residual.ensures tt

@@ -16,8 +16,10 @@ returns-clause-part c =
     let fits : FitsSigned w64 c.args.subtraction = c.ranges.subtraction in
     let byte = c.type_inv.rest last in (
       part,
-      subst (λ (k : ℤ). IsJoined Ascii c.args.entry k part c.args.room (slots_dictionary c.args.slots.now) (slots_dictionary c.join_ascii.new.slots)) (again w64 c.args.subtraction fits) c.in_ok-join_ascii.ensures.joined,
-      λ most fits. part_spelled rest last most c.in_ok-last.ensures.begins c.in_ok-last.ensures.within.0 c.in_ok-last.ensures.before c.in_ok-last.ensures.stop byte.fits fits,
+      subst (λ (k : ℤ). IsJoined Ascii c.args.entry k part c.args.room (slots_dictionary c.args.slots.now)
+          (slots_dictionary c.join_ascii.new.slots)) (again w64 c.args.subtraction fits) c.in_ok-join_ascii.ensures.joined,
+      λ most fits. part_spelled rest last most c.in_ok-last.ensures.begins c.in_ok-last.ensures.within.0 c.in_ok-last.ensures.before
+          c.in_ok-last.ensures.stop byte.fits fits,
     )
 
 pub returns-in_err-last-clause-part : goal.returns-in_err-last-clause-part

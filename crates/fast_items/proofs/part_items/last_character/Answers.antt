@@ -16,7 +16,8 @@ pub returns-in_err-last-in-Some-clause-before : goal.returns-in_err-last-in-Some
 returns-in_err-last-in-Some-clause-before c = rw c.from_residual.ensures tt
 
 pub returns-in_ok-last-in-Some-clause-begins : goal.returns-in_ok-last-in-Some-clause-begins
-returns-in_ok-last-in-Some-clause-begins c = first_begins c.args.rest.now c.in-Some.field-0.now c.in-Some.ensures.value c.in-Some.field-0-test.0.1 c.in-Some.field-0-test.1
+returns-in_ok-last-in-Some-clause-begins c = first_begins c.args.rest.now c.in-Some.field-0.now c.in-Some.ensures.value
+    c.in-Some.field-0-test.0.1 c.in-Some.field-0-test.1
 
 pub returns-in_ok-last-in-Some-clause-within : goal.returns-in_ok-last-in-Some-clause-within
 returns-in_ok-last-in-Some-clause-within c =

@@ -27,7 +27,8 @@ returns-in_default-clause-unit c f scratch is serves =
     let a = c.in_ok-subtraction.len in
     let old = slots_dictionary c.args.slots.now in
     let given : IsFirstInt (λ y. y) s (signed_range 31) f.optional (First.Whole None a) rest
-    = subst (λ (b : Bool). IsFirstInt (λ y. y) s (signed_range 31) b (First.Whole None a) rest) (sym is.optional) (rw c.in_default.is at c.in_ok-subtraction.ensures) in
+    = subst (λ (b : Bool). IsFirstInt (λ y. y) s (signed_range 31) b (First.Whole None a) rest) (sym is.optional)
+    (rw c.in_default.is at c.in_ok-subtraction.ensures) in
     delta_null_whole s (bounds c.args.limits) f rest old old scratch (ap family is.kind ∙ c.requires.text) is.operator a given
 
 pub returns-clause-unit : goal.returns-clause-unit
@@ -40,13 +41,17 @@ returns-clause-unit c f scratch is serves =
     let old = slots_dictionary c.args.slots.now in
     let new = slots_dictionary c.sent_part.new.slots in
     let given : IsFirstInt (λ y. y) s (signed_range 31) f.optional (First.Whole (Some k) a) rest
-    = subst (λ (o : Bool). IsFirstInt (λ y. y) s (signed_range 31) o (First.Whole (Some k) a) rest) (sym is.optional) (rw c.in-Some.is at c.in_ok-subtraction.ensures) in
+    = subst (λ (o : Bool). IsFirstInt (λ y. y) s (signed_range 31) o (First.Whole (Some k) a) rest) (sym is.optional)
+    (rw c.in-Some.is at c.in_ok-subtraction.ensures) in
     let behind : take (length rest - a) (drop a rest) ≡ drop a rest = take_rest rest a in
     let within : b ≤ length (drop a rest) = rw (← behind) c.in_ok-bytes.ensures.within in
     let fits : FitsSigned w64 k = search rules in
-    let part : GivesField (reader_of s (term_behind (bounds c.args.limits) f (previous_at f.entry old) (Part k))) (take b (drop a rest)) f From.Entry old new scratch (take b (drop a rest))
-    = subst (λ (w : List ℕ). GivesField (reader_of s (term_behind (bounds c.args.limits) f (previous_at f.entry old) (Part k))) (take b w) f From.Entry old new scratch (take b (drop a rest))) behind
-    (subst (λ (x : ℤ). IsSentPart c.args.kind c.args.entry x s c.args.limits (take (length rest - a) (drop a rest)) c.args.slots.now c.sent_part.new.slots b) (again w64 k fits) c.in_ok-bytes.ensures.part
+    let part : GivesField (reader_of s (term_behind (bounds c.args.limits) f (previous_at f.entry old) (Part k)))
+    (take b (drop a rest)) f From.Entry old new scratch (take b (drop a rest))
+    = subst (λ (w : List ℕ). GivesField (reader_of s (term_behind (bounds c.args.limits) f (previous_at f.entry old) (Part k)))
+    (take b w) f From.Entry old new scratch (take b (drop a rest))) behind
+    (subst (λ (x : ℤ). IsSentPart c.args.kind c.args.entry x s c.args.limits
+    (take (length rest - a) (drop a rest)) c.args.slots.now c.sent_part.new.slots b) (again w64 k fits) c.in_ok-bytes.ensures.part
     f c.args.optional scratch (take b (drop a rest)) is serves) in
     delta_whole s (bounds c.args.limits) f rest old new scratch (ap family is.kind ∙ c.requires.text) is.operator From.Entry k a b given within part
 

@@ -40,7 +40,8 @@ returns-in_ok-bytes-in_default-clause-part c f optional scratch piece is serves 
     let part : List ℕ = take size (drop len c.args.rest.now) in
     let fits : FitsSigned w64 k = search rules in
     let j : IsJoined c.args.kind e k part max old new = subst (λ (x : ℤ). IsJoined c.args.kind e x part max old new) (again w64 k fits) told in
-    subst (λ n. GivesField (reader_of c.args.strict (term_behind (bounds c.args.limits) f (previous_at f.entry old) (Part k))) (take n c.args.rest.now) f From.Entry old new scratch piece) (sym all)
+    subst (λ n. GivesField (reader_of c.args.strict (term_behind (bounds c.args.limits) f (previous_at f.entry old) (Part k)))
+    (take n c.args.rest.now) f From.Entry old new scratch piece) (sym all)
     (gives_vector c.args.strict (bounds c.args.limits) f old new scratch piece c.args.kind e k part is.kind (is.entry refl) c.requires.there j
     c.args.rest.now size len c.in_default.not-Ascii given within refl)
 
@@ -54,4 +55,10 @@ pub returns-in_err-bytes-in-Ascii-clause-none : goal.returns-in_err-bytes-in-Asc
 returns-in_err-bytes-in-Ascii-clause-none c = rw c.from_residual.ensures c.in_err-bytes-in-Ascii.ensures.none
 
 pub returns-in_err-bytes-in_default : goal.returns-in_err-bytes-in_default
-returns-in_err-bytes-in_default c = record { part = rw c.from_residual-in_err-bytes-in_default.ensures tt; within = rw c.from_residual-in_err-bytes-in_default.ensures tt; none = rw c.from_residual-in_err-bytes-in_default.ensures c.in_err-bytes-in_default.ensures.none; terms = c.vector_part.ensures.terms; joined = c.vector_part.ensures.capacity }
+returns-in_err-bytes-in_default c = record {
+  part = rw c.from_residual-in_err-bytes-in_default.ensures tt;
+  within = rw c.from_residual-in_err-bytes-in_default.ensures tt;
+  none = rw c.from_residual-in_err-bytes-in_default.ensures c.in_err-bytes-in_default.ensures.none;
+  terms = c.vector_part.ensures.terms;
+  joined = c.vector_part.ensures.capacity;
+}

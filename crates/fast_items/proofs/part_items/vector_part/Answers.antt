@@ -19,7 +19,8 @@ returns-clause-part c =
     let len : length part ≡ size = ap length text ∙ length-take-le size (drop a rest) within in
     let fits : FitsSigned w64 c.args.subtraction = c.ranges.subtraction in
     let j : IsJoined c.args.kind c.args.entry c.args.subtraction part c.args.room (slots_dictionary c.args.slots.now) (slots_dictionary c.join_vector.new.slots)
-    = subst (λ (k : ℤ). IsJoined c.args.kind c.args.entry k part c.args.room (slots_dictionary c.args.slots.now) (slots_dictionary c.join_vector.new.slots)) (again w64 c.args.subtraction fits) c.in_ok-join_vector.ensures.joined in (
+    = subst (λ (k : ℤ). IsJoined c.args.kind c.args.entry k part c.args.room (slots_dictionary c.args.slots.now)
+    (slots_dictionary c.join_vector.new.slots)) (again w64 c.args.subtraction fits) c.in_ok-join_vector.ensures.joined in (
       size,
       a,
       ap (λ n. a + n) len,

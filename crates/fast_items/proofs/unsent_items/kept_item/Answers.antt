@@ -23,7 +23,8 @@ returns-in_ok-next-in-Some-clause-decided c =
     let held : previous_at (Some c.args.entry) (slots_dictionary c.args.slots.now) ≡ assigned kind v =
     sym c.held.ensures.1 ∙ c.in_ok-item.ensures.held c.held.ensures.0 ∙ ap (item_held kind) c.in-Some.is in
     subst (λ (o : Operator). IsUnsentItem kind c.args.optional o c.args.entry c.args.slots.now c.keep_changed_at.new.slots (Some next)) (sym c.in-Increment.is)
-    (increased_item kind c.args.optional c.args.entry c.args.slots.now c.keep_changed_at.new.slots v next held c.in_ok-next-in-Some.ensures c.keep_changed_at.ensures.entry)
+    (increased_item kind c.args.optional c.args.entry c.args.slots.now c.keep_changed_at.new.slots v next held c.in_ok-next-in-Some.ensures
+    c.keep_changed_at.ensures.entry)
 
 pub returns-in-None-clause-decided : goal.returns-in-None-clause-decided
 returns-in-None-clause-decided c f so serves =
@@ -37,8 +38,10 @@ pub returns-in_default : goal.returns-in_default
 returns-in_default c =
     let slots = c.args.slots.now in
     let item = c.in_ok-item.item in
-    let copied = copied_item c.args.kind c.args.optional c.args.entry slots c.held.result c.held_item.result c.held.ensures c.held_item.ensures.held c.held_item.ensures.absent in
-    let kept = subst (λ (r : Option (Option Number)). IfSome r (IsUnsentItem c.args.kind c.args.optional Copy c.args.entry slots slots)) c.in_ok-item.was copied in
+    let copied = copied_item c.args.kind c.args.optional c.args.entry slots c.held.result c.held_item.result c.held.ensures
+    c.held_item.ensures.held c.held_item.ensures.absent in
+    let kept = subst (λ (r : Option (Option Number)). IfSome r (IsUnsentItem c.args.kind c.args.optional Copy c.args.entry slots slots))
+    c.in_ok-item.was copied in
     let copy : c.args.operator ≡ Copy = elim c.requires.operator [
       | inl e ↦ e
       | inr e ↦ absurd (c.in_default.not-Increment e)

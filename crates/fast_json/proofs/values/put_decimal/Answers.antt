@@ -11,5 +11,6 @@ returns g c =
     let small : SFits w32 c.args.exponent = search rules in
     let fits : SFits w64 c.args.mantissa = search rules in
     let mantissa = writes_same (ap signed_decimal (to_z-of_z w64 c.args.mantissa fits)) c.put_signed.ensures in
-    let exponent = writes_same (ap signed_decimal (to_z-of_z w64 c.from.result wide ∙ c.from.ensures ∙ to_z-of_z w32 c.args.exponent small)) c.put_signed-2.ensures in
+    let exponent = writes_same (ap signed_decimal (to_z-of_z w64 c.from.result wide ∙ c.from.ensures
+    ∙ to_z-of_z w32 c.args.exponent small)) c.put_signed-2.ensures in
     writes_both (writes_both (writes_both (writes_both c.put.ensures mantissa) c.put-2.ensures) exponent) c.put-3.ensures

@@ -20,7 +20,8 @@ pub returns-in-Dec : goal.returns-in-Dec
 returns-in-Dec g c =
     let fits : SFits w64 c.in-Dec.mantissa = search rules in
     let small : SFits w32 c.in-Dec.exponent = search rules in
-    let value = ap (λ (z : ℤ). json_value (Dec z (to_z w64 (of_z w64 c.in-Dec.mantissa)))) (to_z-of_z w32 c.in-Dec.exponent small) ∙ ap (λ (z : ℤ). json_value (Dec c.in-Dec.exponent z)) (to_z-of_z w64 c.in-Dec.mantissa fits) in
+    let value = ap (λ (z : ℤ). json_value (Dec z (to_z w64 (of_z w64 c.in-Dec.mantissa)))) (to_z-of_z w32 c.in-Dec.exponent small)
+    ∙ ap (λ (z : ℤ). json_value (Dec c.in-Dec.exponent z)) (to_z-of_z w64 c.in-Dec.mantissa fits) in
     rw c.in-Dec.is (writes_same value c.put_decimal.ensures)
 
 pub returns-in-Ascii : goal.returns-in-Ascii

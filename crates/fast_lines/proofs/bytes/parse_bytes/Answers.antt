@@ -14,7 +14,8 @@ returns-then-not-is_lower-clause-none c v small h =
     not_both c.is_lower.result tested c.if-not-is_lower.true
 
 pub returns-in-Ok-clause-value : goal.returns-in-Ok-clause-value
-returns-in-Ok-clause-value c = hex_is_written c.args.text.now c.in-Ok.bytes.items (decoded_is_hex c.args.text.now c.in-Ok.bytes.items c.in-Ok.ensures.ok) (c.is_lower.ensures.0 c.if-not-is_lower.false)
+returns-in-Ok-clause-value c = hex_is_written c.args.text.now c.in-Ok.bytes.items
+    (decoded_is_hex c.args.text.now c.in-Ok.bytes.items c.in-Ok.ensures.ok) (c.is_lower.ensures.0 c.if-not-is_lower.false)
 
 pub returns-in_default-clause-none : goal.returns-in_default-clause-none
 returns-in_default-clause-none c v small h =

@@ -14,8 +14,10 @@ pub returns-in_default-parse-clause-none : goal.returns-in_default-parse-clause-
 returns-in_default-parse-clause-none c x range e =
     let same = signed_parsed_is c.in-Ok.digits.now x c.in-Ok-parse.number range (c.in-Ok.ensures.cases.0 ∙ e) c.in-Ok-parse.ensures.value.0 in
     let fits : FitsSigned w64 c.in-Ok-parse.number = search rules in
-    let equal = (slice_eq-Decides Decides-eqb _ _ _ c.eq.ensures).1 (c.as_bytes.ensures.value ∙ c.format.ensures.text ∙ ap signed_decimal (to_z-of_z w64 c.in-Ok-parse.number fits ∙ same) ∙ sym e) in
+    let equal = (slice_eq-Decides Decides-eqb _ _ _ c.eq.ensures).1
+    (c.as_bytes.ensures.value ∙ c.format.ensures.text ∙ ap signed_decimal (to_z-of_z w64 c.in-Ok-parse.number fits ∙ same) ∙ sym e) in
     not_both c.eq.result equal c.if-eq.false
 
 pub returns-in_default-parse-2-clause-none : goal.returns-in_default-parse-2-clause-none
-returns-in_default-parse-2-clause-none c x range e = signed_is_parsed c.in-Ok.digits.now x range (c.in-Ok.ensures.cases.0 ∙ e) c.in_default-parse.ensures.value.0
+returns-in_default-parse-2-clause-none c x range e = signed_is_parsed c.in-Ok.digits.now x range
+    (c.in-Ok.ensures.cases.0 ∙ e) c.in_default-parse.ensures.value.0

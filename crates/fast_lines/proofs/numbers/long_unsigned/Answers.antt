@@ -15,4 +15,5 @@ returns-in_default-parse-clause-none c n small e =
     not_both c.eq.result equal c.if-eq.false
 
 pub returns-in_default-parse-2-clause-none : goal.returns-in_default-parse-2-clause-none
-returns-in_default-parse-2-clause-none c n small e = decimal_is_parsed c.in-Ok.digits.now n small (c.in-Ok.ensures.cases.0 ∙ e) c.in_default-parse.ensures.value.0
+returns-in_default-parse-2-clause-none c n small e = decimal_is_parsed c.in-Ok.digits.now n small
+    (c.in-Ok.ensures.cases.0 ∙ e) c.in_default-parse.ensures.value.0

@@ -30,10 +30,12 @@ pub returns-else-stands_alike-clause-value : goal.returns-else-stands_alike-clau
 returns-else-stands_alike-clause-value c =
     let is = between_two c.args.text.now 34 34 c.in-34.len_at_least (search rules) (search rules) in
     let inner : List ℕ = take (length c.args.text.now - 1 - 1) (drop 1 c.args.text.now) in
-    read_some c.unescape.result (λ v. inner ≡ flat_map escaped v.items) (λ v. c.args.text.now ≡ quoted v.items) c.unescape.ensures.value (λ v e. is ∙ ap (λ (w : List ℕ). 34 ∷ w ++ 34 ∷ []) e)
+    read_some c.unescape.result (λ v. inner ≡ flat_map escaped v.items) (λ v. c.args.text.now ≡ quoted v.items) c.unescape.ensures.value
+    (λ v e. is ∙ ap (λ (w : List ℕ). 34 ∷ w ++ 34 ∷ []) e)
 
 pub returns-else-stands_alike-clause-none : goal.returns-else-stands_alike-clause-none
 returns-else-stands_alike-clause-none c =
     let is = between_two c.args.text.now 34 34 c.in-34.len_at_least (search rules) (search rules) in
     let inner : List ℕ = take (length c.args.text.now - 1 - 1) (drop 1 c.args.text.now) in
-    read_none c.unescape.result ((v : List ℕ) → inner ≢ flat_map escaped v) ((v : List ℕ) → c.args.text.now ≢ quoted v) c.unescape.ensures.none (λ none v h. none v (same_between _ _ 34 (sym is ∙ h)))
+    read_none c.unescape.result ((v : List ℕ) → inner ≢ flat_map escaped v)
+    ((v : List ℕ) → c.args.text.now ≢ quoted v) c.unescape.ensures.none (λ none v h. none v (same_between _ _ 34 (sym is ∙ h)))

@@ -13,5 +13,6 @@ returns-clause-kept c e = (
     turn = c.after-machine.ensures;
   },
   (c.is_text_front.ensures.fits c.if-not-is_text_front.false).0,
-  λ nullable. subst (λ (room : ℕ). ascii_text nullable room c.args.rest.now [] cut) c.max_text.ensures (c.is_text_front.ensures.«open» c.if-not-is_text_front.false nullable),
+  λ nullable. subst (λ (room : ℕ). ascii_text nullable room c.args.rest.now [] cut) c.max_text.ensures
+      (c.is_text_front.ensures.«open» c.if-not-is_text_front.false nullable),
 )

@@ -8,5 +8,6 @@ pub returns-in-Some-clause-kept : goal.returns-in-Some-clause-kept
 returns-in-Some-clause-kept c e = (
   c.in-Some.begun,
   c.keep_begun.ensures.kept,
-  subst (λ (room : ℕ). IsBegunText c.args.kind c.args.optional Delta c.args.entry c.args.strict room c.args.rest.now c.args.machine.now.slots c.in-Some.begun) c.max_text-room.ensures c.in-Some.ensures.begun,
+  subst (λ (room : ℕ). IsBegunText c.args.kind c.args.optional Delta c.args.entry c.args.strict room c.args.rest.now
+      c.args.machine.now.slots c.in-Some.begun) c.max_text-room.ensures c.in-Some.ensures.begun,
 )

@@ -7,5 +7,6 @@ pub returns-in-Some-clause-kept : goal.returns-in-Some-clause-kept
 returns-in-Some-clause-kept c e = (
   c.in-Some.begun,
   c.keep_begun.ensures.kept,
-  λ entry slots. subst (λ (room : ℕ). IsBegunText c.args.kind c.args.optional c.args.operator entry c.args.strict room c.args.rest.now slots c.in-Some.begun) c.max_text-room.ensures (c.in-Some.ensures.begun entry slots),
+  λ entry slots. subst (λ (room : ℕ). IsBegunText c.args.kind c.args.optional c.args.operator entry c.args.strict room c.args.rest.now
+      slots c.in-Some.begun) c.max_text-room.ensures (c.in-Some.ensures.begun entry slots),
 )

@@ -13,13 +13,17 @@ pub copied_decimal-requires : goal.copied_decimal-requires
 copied_decimal-requires g c =
     let m = c.args.machine.now in
     let (x, found) = op_node c.args.templates.now m c.args.spot.now.place c.args.op.now c.requires.at in
-    record { within = entry_there c.args.templates.now c.args.limits m c.args.spot.now.place c.args.op.now Decimal Copy c.args.optional c.requires.spot c.requires.at c.requires.field x found refl }
+    record {
+      within = entry_there c.args.templates.now c.args.limits m c.args.spot.now.place c.args.op.now Decimal Copy c.args.optional
+          c.requires.spot c.requires.at c.requires.field x found refl;
+    }
 
 pub hand_taken-requires-clause-within : goal.hand_taken-requires-clause-within
 hand_taken-requires-clause-within g c =
     let m = c.args.machine.now in
     let (x, found) = op_node c.args.templates.now m c.args.spot.now.place c.args.op.now c.requires.at in
-    (item_taken c.args.templates.now c.args.limits m c.args.spot.now c.args.op.now Decimal Copy c.args.optional c.requires.spot c.requires.at c.requires.field x found c.copied_decimal.new.slots c.in-Some-copied_decimal.taken (λ e. cc e)
+    (item_taken c.args.templates.now c.args.limits m c.args.spot.now c.args.op.now Decimal Copy c.args.optional c.requires.spot
+    c.requires.at c.requires.field x found c.copied_decimal.new.slots c.in-Some-copied_decimal.taken (λ e. cc e)
     (c.in-Sent.ensures.sent refl m.cursor c.requires.spot.place) c.in-Some-copied_decimal.ensures.terms c.in-Some-copied_decimal.ensures.unit).within
 
 pub returns-in-Some-copied_decimal : goal.returns-in-Some-copied_decimal
@@ -35,8 +39,10 @@ returns-in-Some-copied_decimal g c =
     record {
       went = c.hand_taken.ensures.went (set_of t) l m (record m { slots = slots }) f
           (sym (uses_as t l m p op Decimal Copy c.args.optional c.requires.spot c.requires.at c.requires.field x found)) refl
-          (subst (λ (v : Option ScalarData). IsFieldTaken (set_of t) l m (record m { slots = slots }) c.args.spot.now op.node f v c.in-Some-copied_decimal.taken.bytes) (sym c.scalar_of.ensures)
-          (item_taken t l m c.args.spot.now op Decimal Copy c.args.optional c.requires.spot c.requires.at c.requires.field x found slots c.in-Some-copied_decimal.taken (λ e. cc e)
+          (subst (λ (v : Option ScalarData). IsFieldTaken (set_of t) l m
+          (record m { slots = slots }) c.args.spot.now op.node f v c.in-Some-copied_decimal.taken.bytes) (sym c.scalar_of.ensures)
+          (item_taken t l m c.args.spot.now op Decimal Copy c.args.optional c.requires.spot c.requires.at c.requires.field x found slots
+          c.in-Some-copied_decimal.taken (λ e. cc e)
           (c.in-Sent.ensures.sent refl m.cursor c.requires.spot.place) c.in-Some-copied_decimal.ensures.terms c.in-Some-copied_decimal.ensures.unit));
     }
 
@@ -44,7 +50,10 @@ pub copied_at-requires : goal.copied_at-requires
 copied_at-requires g c =
     let m = c.args.machine.now in
     let (x, found) = op_node c.args.templates.now m c.args.spot.now.place c.args.op.now c.requires.at in
-    record { within = entry_there c.args.templates.now c.args.limits m c.args.spot.now.place c.args.op.now Decimal Copy c.args.optional c.requires.spot c.requires.at c.requires.field x found refl }
+    record {
+      within = entry_there c.args.templates.now c.args.limits m c.args.spot.now.place c.args.op.now Decimal Copy c.args.optional
+          c.requires.spot c.requires.at c.requires.field x found refl;
+    }
 
 pub returns-in-Some : goal.returns-in-Some
 returns-in-Some g c =

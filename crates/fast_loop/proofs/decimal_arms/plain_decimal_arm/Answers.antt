@@ -13,7 +13,8 @@ pub hand_taken-requires-clause-within : goal.hand_taken-requires-clause-within
 hand_taken-requires-clause-within g c =
     let m = c.args.machine.now in
     let (x, found) = op_node c.args.templates.now m c.args.spot.now.place c.args.op.now c.requires.at in
-    (item_taken c.args.templates.now c.args.limits m c.args.spot.now c.args.op.now Decimal no_operator c.args.optional c.requires.spot c.requires.at c.requires.field x found c.args.machine.now.slots c.in-Some.taken (λ e. cc e)
+    (item_taken c.args.templates.now c.args.limits m c.args.spot.now c.args.op.now Decimal no_operator c.args.optional c.requires.spot
+    c.requires.at c.requires.field x found c.args.machine.now.slots c.in-Some.taken (λ e. cc e)
     (inl refl) refl c.in-Some.ensures).within
 
 pub returns-in-Some : goal.returns-in-Some
@@ -29,7 +30,9 @@ returns-in-Some g c =
     record {
       went = c.hand_taken.ensures.went (set_of t) l m (record m { slots = slots }) f
           (sym (uses_as t l m p op Decimal no_operator c.args.optional c.requires.spot c.requires.at c.requires.field x found)) refl
-          (subst (λ (v : Option ScalarData). IsFieldTaken (set_of t) l m (record m { slots = slots }) c.args.spot.now op.node f v c.in-Some.taken.bytes) (sym c.scalar_of.ensures)
-          (item_taken t l m c.args.spot.now op Decimal no_operator c.args.optional c.requires.spot c.requires.at c.requires.field x found slots c.in-Some.taken (λ e. cc e)
+          (subst (λ (v : Option ScalarData). IsFieldTaken (set_of t) l m
+          (record m { slots = slots }) c.args.spot.now op.node f v c.in-Some.taken.bytes) (sym c.scalar_of.ensures)
+          (item_taken t l m c.args.spot.now op Decimal no_operator c.args.optional c.requires.spot c.requires.at c.requires.field x found
+          slots c.in-Some.taken (λ e. cc e)
           (inl refl) refl c.in-Some.ensures));
     }

@@ -16,5 +16,6 @@ returns-in-Some g c =
     let (f, uses, unsent) = c.in-Some.ensures.unsent in
     record {
       went = c.hand_unsent.ensures.went set l m m1 f false uses (ap (λ (y : Machine). y.turns) c.unsent_item.ensures.same)
-          (subst (λ (v : Option ScalarData). IsFieldUnsent set l m m1 c.args.spot.now.place c.args.op.now.node f false v) (sym c.scalar_of-value.ensures) unsent);
+          (subst (λ (v : Option ScalarData). IsFieldUnsent set l m m1 c.args.spot.now.place c.args.op.now.node f false v)
+          (sym c.scalar_of-value.ensures) unsent);
     }

@@ -17,29 +17,63 @@ use Rattle.fast_loop.proofs.part_arms.changed_mantissa_arm.Goals as goal
 
 pub changed_part-requires : goal.changed_part-requires
 changed_part-requires g c =
-    record { within = (mantissa_serves (set_of c.args.templates.now) c.args.limits c.args.machine.now c.args.spot.now c.args.node c.args.exponent.now c.args.mantissa.now c.requires.decimal).within c.args.entry c.requires.entry }
+    record {
+      within = (mantissa_serves (set_of c.args.templates.now) c.args.limits c.args.machine.now c.args.spot.now c.args.node
+          c.args.exponent.now c.args.mantissa.now c.requires.decimal).within c.args.entry c.requires.entry;
+    }
 
 pub keep_exponent-requires-clause-within : goal.keep_exponent-requires-clause-within
-keep_exponent-requires-clause-within g c = (exponent_serves (set_of c.args.templates.now) c.args.limits c.args.machine.now c.args.spot.now c.args.node c.args.exponent.now c.args.mantissa.now c.requires.decimal).within
+keep_exponent-requires-clause-within g c = (exponent_serves
+    (set_of c.args.templates.now) c.args.limits c.args.machine.now c.args.spot.now c.args.node c.args.exponent.now c.args.mantissa.now
+    c.requires.decimal).within
 
 pub keep_mantissa-requires : goal.keep_mantissa-requires
 keep_mantissa-requires g c =
-    record { within = (serves_as (set_of c.args.templates.now) c.args.limits c.args.machine.now c.args.spot.now c.args.node c.args.exponent.now c.args.mantissa.now c.requires.decimal c.keep_exponent.new.slots c.args.mantissa.now c.keep_exponent.ensures.terms c.requires.decimal.mantissa).within c.args.entry c.requires.entry }
+    record {
+      within = (serves_as (set_of c.args.templates.now) c.args.limits c.args.machine.now c.args.spot.now c.args.node
+          c.args.exponent.now c.args.mantissa.now c.requires.decimal c.keep_exponent.new.slots c.args.mantissa.now
+          c.keep_exponent.ensures.terms c.requires.decimal.mantissa).within c.args.entry c.requires.entry;
+    }
 
 pub overflow_add-used : goal.overflow_add-used
 overflow_add-used g c =
-    let second = delta_part c.args.mantissa.now c.args.limits.strict (take (length c.args.spot.now.rest.now - c.args.used) (drop c.args.used c.args.spot.now.rest.now)) c.args.machine.now.slots (Some c.in-Some.value) c.in-Some.bytes c.requires.delta (c.in-Some.ensures c.args.mantissa.now (record { kind = c.requires.decimal.mantissa_kind; delta = c.requires.delta; mandatory = c.requires.mandatory; entry = c.requires.entry })) in
-    let all : c.args.used + c.in-Some.bytes ≤ length c.args.spot.now.rest.now = both_within c.args.exponent.now c.args.mantissa.now c.args.bit true c.args.limits.strict c.args.spot.now.rest.now c.args.machine.now.slots c.args.number c.in-Some.value c.args.used c.in-Some.bytes
+    let second = delta_part c.args.mantissa.now c.args.limits.strict
+    (take (length c.args.spot.now.rest.now - c.args.used) (drop c.args.used c.args.spot.now.rest.now)) c.args.machine.now.slots
+    (Some c.in-Some.value) c.in-Some.bytes c.requires.delta (c.in-Some.ensures c.args.mantissa.now (record {
+      kind = c.requires.decimal.mantissa_kind;
+      delta = c.requires.delta;
+      mandatory = c.requires.mandatory;
+      entry = c.requires.entry;
+    })) in
+    let all : c.args.used + c.in-Some.bytes ≤ length c.args.spot.now.rest.now =
+    both_within c.args.exponent.now c.args.mantissa.now c.args.bit true c.args.limits.strict c.args.spot.now.rest.now
+    c.args.machine.now.slots c.args.number c.in-Some.value c.args.used c.in-Some.bytes
     c.requires.part second in
     search (rules, all)
 
 pub hand_sent-requires-clause-some : goal.hand_sent-requires-clause-some
-hand_sent-requires-clause-some g c = omega (arith, (c.in-Some.ensures c.args.mantissa.now (record { kind = c.requires.decimal.mantissa_kind; delta = c.requires.delta; mandatory = c.requires.mandatory; entry = c.requires.entry })).0)
+hand_sent-requires-clause-some g c = omega (
+  arith,
+  (c.in-Some.ensures c.args.mantissa.now (record {
+    kind = c.requires.decimal.mantissa_kind;
+    delta = c.requires.delta;
+    mandatory = c.requires.mandatory;
+    entry = c.requires.entry;
+  })).0,
+)
 
 pub hand_sent-requires-clause-within : goal.hand_sent-requires-clause-within
 hand_sent-requires-clause-within g c =
-    both_within c.args.exponent.now c.args.mantissa.now c.args.bit true c.args.limits.strict c.args.spot.now.rest.now c.args.machine.now.slots c.args.number c.in-Some.value c.args.used c.in-Some.bytes
-    c.requires.part (delta_part c.args.mantissa.now c.args.limits.strict (take (length c.args.spot.now.rest.now - c.args.used) (drop c.args.used c.args.spot.now.rest.now)) c.args.machine.now.slots (Some c.in-Some.value) c.in-Some.bytes c.requires.delta (c.in-Some.ensures c.args.mantissa.now (record { kind = c.requires.decimal.mantissa_kind; delta = c.requires.delta; mandatory = c.requires.mandatory; entry = c.requires.entry })))
+    both_within c.args.exponent.now c.args.mantissa.now c.args.bit true c.args.limits.strict c.args.spot.now.rest.now
+    c.args.machine.now.slots c.args.number c.in-Some.value c.args.used c.in-Some.bytes
+    c.requires.part (delta_part c.args.mantissa.now c.args.limits.strict
+    (take (length c.args.spot.now.rest.now - c.args.used) (drop c.args.used c.args.spot.now.rest.now)) c.args.machine.now.slots
+    (Some c.in-Some.value) c.in-Some.bytes c.requires.delta (c.in-Some.ensures c.args.mantissa.now (record {
+      kind = c.requires.decimal.mantissa_kind;
+      delta = c.requires.delta;
+      mandatory = c.requires.mandatory;
+      entry = c.requires.entry;
+    })))
 
 pub returns : goal.returns
 returns g c =
@@ -57,18 +91,44 @@ returns g c =
     let mid = c.keep_exponent.new.slots in
     let new = c.keep_mantissa.new.slots in
     let p = c.use_bit.new.self in
-    let first : 0 < c.args.used → KeepsPart e m.slots mid (Some x) = λ some. subst (λ (z : ℤ). KeepsPart e m.slots mid (Some z)) (again w32 x x_fits) (c.keep_exponent.ensures.kept some) in
-    let second : 0 < n → KeepsPart f mid new (Some y) = λ some. subst (λ (z : ℤ). KeepsPart f mid new (Some z)) (again w64 y y_fits) (c.keep_mantissa.ensures.kept f (record { kind = c.requires.decimal.mantissa_kind; delta = c.requires.delta; mandatory = c.requires.mandatory; entry = c.requires.entry })) in
-    let second_part = delta_part f l.strict (take (length from.rest.now - c.args.used) (drop c.args.used from.rest.now)) m.slots (Some y) n c.requires.delta (c.in-Some.ensures c.args.mantissa.now (record { kind = c.requires.decimal.mantissa_kind; delta = c.requires.delta; mandatory = c.requires.mandatory; entry = c.requires.entry })) in
+    let first : 0 < c.args.used → KeepsPart e m.slots mid (Some x) =
+    λ some. subst (λ (z : ℤ). KeepsPart e m.slots mid (Some z)) (again w32 x x_fits) (c.keep_exponent.ensures.kept some) in
+    let second : 0 < n → KeepsPart f mid new (Some y) = λ some. subst (λ (z : ℤ). KeepsPart f mid new (Some z)) (again w64 y y_fits)
+    (c.keep_mantissa.ensures.kept f (record {
+      kind = c.requires.decimal.mantissa_kind;
+      delta = c.requires.delta;
+      mandatory = c.requires.mandatory;
+      entry = c.requires.entry;
+    })) in
+    let second_part = delta_part f l.strict (take (length from.rest.now - c.args.used) (drop c.args.used from.rest.now)) m.slots
+    (Some y) n c.requires.delta (c.in-Some.ensures c.args.mantissa.now (record {
+      kind = c.requires.decimal.mantissa_kind;
+      delta = c.requires.delta;
+      mandatory = c.requires.mandatory;
+      entry = c.requires.entry;
+    })) in
     record {
       went = c.hand_sent.ensures.went set l m (record m { slots = new }) from (field_data f) (sym (delta_uses f c.requires.delta)) refl refl
-          (subst (λ (v : Option ScalarData). IsLedTo set l m (record m { slots = new }) from p c.args.node (field_data f) v (c.args.used + n)) (ap (λ z. Some (Dec z y)) (sym (again w32 x x_fits)) ∙ ap (λ z. Some (Dec (to_z w32 (of_z w32 x)) z)) (sym (again w64 y y_fits)))
+          (subst (λ (v : Option ScalarData). IsLedTo set l m (record m { slots = new }) from p c.args.node (field_data f) v
+          (c.args.used + n)) (ap (λ z. Some (Dec z y)) (sym (again w32 x x_fits))
+          ∙ ap (λ z. Some (Dec (to_z w32 (of_z w32 x)) z)) (sym (again w64 y y_fits)))
           (decimal_led set l m from c.args.node e f c.requires.decimal mid c.args.bit c.requires.bit c.keep_exponent.ensures.terms c.args.used x y new p true n
-          (c.use_bit.ensures.bits m.cursor c.requires.decimal.spot.place ∙ ap (λ (b : Bool). if b then later_bits (bits_left (at_place m.cursor from.place)) else bits_left (at_place m.cursor from.place)) (sym (usual_uses e c.requires.usual)))
+          (c.use_bit.ensures.bits m.cursor c.requires.decimal.spot.place
+          ∙ ap (λ (b : Bool). if b then later_bits (bits_left (at_place m.cursor from.place)) else bits_left
+          (at_place m.cursor from.place)) (sym (usual_uses e c.requires.usual)))
           c.use_bit.ensures.left
           c.requires.within c.requires.part first c.keep_exponent.ensures.same
           (sym (ap (λ (b : Bool). if b then first_bit (bits_left (at_place m.cursor p)) else true) (delta_uses f c.requires.delta)))
           (c.leaves_mantissa.ensures (search rules))
           (subst (λ (w : List ℕ). IsPart f true l.strict w m.slots (Some y) n) (take_rest from.rest.now c.args.used) second_part)
-          second (λ none. absurd (omega (arith, none, (c.in-Some.ensures c.args.mantissa.now (record { kind = c.requires.decimal.mantissa_kind; delta = c.requires.delta; mandatory = c.requires.mandatory; entry = c.requires.entry })).0))) c.keep_mantissa.ensures.terms (c.use_bit.ensures.place m.cursor c.requires.decimal.spot.place)));
+          second (λ none. absurd (omega (
+            arith,
+            none,
+            (c.in-Some.ensures c.args.mantissa.now (record {
+              kind = c.requires.decimal.mantissa_kind;
+              delta = c.requires.delta;
+              mandatory = c.requires.mandatory;
+              entry = c.requires.entry;
+            })).0,
+          ))) c.keep_mantissa.ensures.terms (c.use_bit.ensures.place m.cursor c.requires.decimal.spot.place)));
     }

@@ -32,8 +32,10 @@ returns-then-bytes-gt0 g c = record {
   went = λ set l m m1 from f uses old rest h.
       let passed = c.pass_value in
       let p = c.args.spot.now.place in
-      led_took g.S.Sink.takes g.S.Sink.stops set l m m1 c.after.result from p passed.new.place c.from.result f (option_map scalar_data c.args.value) c.args.bytes
-      (subst (λ (k : ℕ). IsLedTo set l m m1 from p k f (option_map scalar_data c.args.value) c.args.bytes) (sym c.from.ensures) h) (c.after.ensures ∙ ap (λ t. t.count + 1) old)
+      led_took g.S.Sink.takes g.S.Sink.stops set l m m1 c.after.result from p passed.new.place c.from.result f
+      (option_map scalar_data c.args.value) c.args.bytes
+      (subst (λ (k : ℕ). IsLedTo set l m m1 from p k f (option_map scalar_data c.args.value) c.args.bytes) (sym c.from.ensures) h)
+      (c.after.ensures ∙ ap (λ t. t.count + 1) old)
       (passed.ensures.place m.cursor h.place)
       _ c.args.sink.now c.in-Ok.turn passed.new.sink (take_rest c.args.spot.now.rest.now c.args.bytes ∙ ap (drop c.args.bytes) (sym rest)) refl
       (λ waits. c.in-Ok.ensures.moves set (bounds l) l.strict waits (slots_dictionary m1.slots) m.counted m.cursor f h.place uses)
@@ -46,13 +48,17 @@ returns-in-Handed g c = record {
       let passed = c.pass_value in
       let p = c.args.spot.now.place in
       let is : c.in-Ok.turn ≡ Handed = c.in-Handed.is in
-      led_went g.S.Sink.takes g.S.Sink.stops set l m m1 c.after.result from p passed.new.place c.from.result f (option_map scalar_data c.args.value) c.args.bytes
-      (subst (λ (k : ℕ). IsLedTo set l m m1 from p k f (option_map scalar_data c.args.value) c.args.bytes) (sym c.from.ensures) h) (c.after.ensures ∙ ap (λ t. t.count + 1) old)
+      led_went g.S.Sink.takes g.S.Sink.stops set l m m1 c.after.result from p passed.new.place c.from.result f
+      (option_map scalar_data c.args.value) c.args.bytes
+      (subst (λ (k : ℕ). IsLedTo set l m m1 from p k f (option_map scalar_data c.args.value) c.args.bytes) (sym c.from.ensures) h)
+      (c.after.ensures ∙ ap (λ t. t.count + 1) old)
       (passed.ensures.place m.cursor h.place)
       _ c.args.sink.now Handed passed.new.sink (take_rest c.args.spot.now.rest.now c.args.bytes ∙ ap (drop c.args.bytes) (sym rest)) refl
       (λ waits. subst (λ (t : Turn). Moves g.S.Sink.takes g.S.Sink.stops
-      (reader_of l.strict (value_then set (bounds l) c.from.result (option_map scalar_data c.args.value) f (slots_dictionary m1.slots) m.counted (at_place m.cursor p)))
-      c.args.sink.now (Ok t) passed.new.sink (reader_of l.strict (going_on set (bounds l) (slots_dictionary m1.slots) m.counted (at_place m.cursor passed.new.place))) waits)
+      (reader_of l.strict (value_then set (bounds l) c.from.result (option_map scalar_data c.args.value) f
+      (slots_dictionary m1.slots) m.counted (at_place m.cursor p)))
+      c.args.sink.now (Ok t) passed.new.sink (reader_of l.strict
+      (going_on set (bounds l) (slots_dictionary m1.slots) m.counted (at_place m.cursor passed.new.place))) waits)
       is (c.in-Ok.ensures.moves set (bounds l) l.strict waits (slots_dictionary m1.slots) m.counted m.cursor f h.place uses))
       (c.in-Ok.ensures.past m.cursor) (λ e. cc e) (search rules);
 }
@@ -63,13 +69,17 @@ returns-in_default g c = record {
       let passed = c.pass_value in
       let p = c.args.spot.now.place in
       let is : c.in-Ok.turn ≡ Silent = silent c.in-Ok.turn c.in_default.not-Handed (λ e. c.in-Ok.ensures.on (ap Ok e)) in
-      led_went g.S.Sink.takes g.S.Sink.stops set l m m1 c.after.result from p passed.new.place c.from.result f (option_map scalar_data c.args.value) c.args.bytes
-      (subst (λ (k : ℕ). IsLedTo set l m m1 from p k f (option_map scalar_data c.args.value) c.args.bytes) (sym c.from.ensures) h) (c.after.ensures ∙ ap (λ t. t.count + 1) old)
+      led_went g.S.Sink.takes g.S.Sink.stops set l m m1 c.after.result from p passed.new.place c.from.result f
+      (option_map scalar_data c.args.value) c.args.bytes
+      (subst (λ (k : ℕ). IsLedTo set l m m1 from p k f (option_map scalar_data c.args.value) c.args.bytes) (sym c.from.ensures) h)
+      (c.after.ensures ∙ ap (λ t. t.count + 1) old)
       (passed.ensures.place m.cursor h.place)
       _ c.args.sink.now Silent passed.new.sink (take_rest c.args.spot.now.rest.now c.args.bytes ∙ ap (drop c.args.bytes) (sym rest)) refl
       (λ waits. subst (λ (t : Turn). Moves g.S.Sink.takes g.S.Sink.stops
-      (reader_of l.strict (value_then set (bounds l) c.from.result (option_map scalar_data c.args.value) f (slots_dictionary m1.slots) m.counted (at_place m.cursor p)))
-      c.args.sink.now (Ok t) passed.new.sink (reader_of l.strict (going_on set (bounds l) (slots_dictionary m1.slots) m.counted (at_place m.cursor passed.new.place))) waits)
+      (reader_of l.strict (value_then set (bounds l) c.from.result (option_map scalar_data c.args.value) f
+      (slots_dictionary m1.slots) m.counted (at_place m.cursor p)))
+      c.args.sink.now (Ok t) passed.new.sink (reader_of l.strict
+      (going_on set (bounds l) (slots_dictionary m1.slots) m.counted (at_place m.cursor passed.new.place))) waits)
       is (c.in-Ok.ensures.moves set (bounds l) l.strict waits (slots_dictionary m1.slots) m.counted m.cursor f h.place uses))
       (c.in-Ok.ensures.past m.cursor) (λ e. cc e) (search rules);
 }
@@ -79,13 +89,17 @@ returns-in-Err g c = record {
   went = λ set l m m1 from f uses old rest h.
       let passed = c.pass_value in
       let p = c.args.spot.now.place in
-      led_stopped g.S.Sink.takes g.S.Sink.stops set l m m1 c.after.result from p passed.new.place c.from.result f (option_map scalar_data c.args.value) c.args.bytes
-      (subst (λ (k : ℕ). IsLedTo set l m m1 from p k f (option_map scalar_data c.args.value) c.args.bytes) (sym c.from.ensures) h) (c.after.ensures ∙ ap (λ t. t.count + 1) old)
+      led_stopped g.S.Sink.takes g.S.Sink.stops set l m m1 c.after.result from p passed.new.place c.from.result f
+      (option_map scalar_data c.args.value) c.args.bytes
+      (subst (λ (k : ℕ). IsLedTo set l m m1 from p k f (option_map scalar_data c.args.value) c.args.bytes) (sym c.from.ensures) h)
+      (c.after.ensures ∙ ap (λ t. t.count + 1) old)
       (passed.ensures.place m.cursor h.place)
       _ c.args.sink.now passed.new.sink (take_rest c.args.spot.now.rest.now c.args.bytes ∙ ap (drop c.args.bytes) (sym rest))
       (λ waits. subst (λ (code : FaultCode). Moves g.S.Sink.takes g.S.Sink.stops
-      (reader_of l.strict (value_then set (bounds l) c.from.result (option_map scalar_data c.args.value) f (slots_dictionary m1.slots) m.counted (at_place m.cursor p)))
-      c.args.sink.now (Err code) passed.new.sink (reader_of l.strict (going_on set (bounds l) (slots_dictionary m1.slots) m.counted (at_place m.cursor passed.new.place))) waits)
+      (reader_of l.strict (value_then set (bounds l) c.from.result (option_map scalar_data c.args.value) f
+      (slots_dictionary m1.slots) m.counted (at_place m.cursor p)))
+      c.args.sink.now (Err code) passed.new.sink (reader_of l.strict
+      (going_on set (bounds l) (slots_dictionary m1.slots) m.counted (at_place m.cursor passed.new.place))) waits)
       c.in-Err.ensures.stopped (c.in-Err.ensures.moves set (bounds l) l.strict waits (slots_dictionary m1.slots) m.counted m.cursor f h.place uses))
       (some_or c.args.bytes);
 }

@@ -27,12 +27,18 @@ returns-in_default g c = record {
       let p = c.args.spot.now.place in
       let at = at_place m.cursor p in
       let past = c.pass.ensures in
-      let on = passed_on set (bounds l) d m.counted at (at_place m.cursor c.pass.new.self) f c.args.has_bit (past.past m.cursor) (past.bits m.cursor h.place) uses in
-      led_took g.S.Sink.takes g.S.Sink.stops set l m m1 c.after.result from p c.pass.new.self c.from-node.result f (option_map scalar_data c.args.value) c.args.bytes
-      (subst (λ (k : ℕ). IsLedTo set l m m1 from p k f (option_map scalar_data c.args.value) c.args.bytes) (sym c.from-node.ensures) h) (c.after.ensures ∙ ap (λ t. t.count + 1) old)
+      let on = passed_on set (bounds l) d m.counted at (at_place m.cursor c.pass.new.self) f c.args.has_bit (past.past m.cursor)
+      (past.bits m.cursor h.place) uses in
+      led_took g.S.Sink.takes g.S.Sink.stops set l m m1 c.after.result from p c.pass.new.self c.from-node.result f
+      (option_map scalar_data c.args.value) c.args.bytes
+      (subst (λ (k : ℕ). IsLedTo set l m m1 from p k f (option_map scalar_data c.args.value) c.args.bytes) (sym c.from-node.ensures) h)
+      (c.after.ensures ∙ ap (λ t. t.count + 1) old)
       (past.place m.cursor h.place)
       _ c.args.sink.now Handed c.hand.new.sink (take_rest c.args.spot.now.rest.now c.args.bytes ∙ ap (drop c.args.bytes) (sym rest)) refl
-      (λ waits. moves_one g.S.Sink.takes g.S.Sink.stops waits c.args.sink.now c.hand.new.sink (ap (λ v. reader_of l.strict (value_then set (bounds l) c.from-node.result (option_map scalar_data v) f d m.counted at)) c.in-Some.is ∙ ap (λ k. Emit (FieldValue c.from-node.result (scalar_data c.in-Some.value)) (reader_of l.strict k)) (sym on)) c.in_default.ensures)
+      (λ waits. moves_one g.S.Sink.takes g.S.Sink.stops waits c.args.sink.now c.hand.new.sink
+      (ap (λ v. reader_of l.strict (value_then set (bounds l) c.from-node.result (option_map scalar_data v) f d m.counted at))
+      c.in-Some.is ∙ ap (λ k. Emit (FieldValue c.from-node.result (scalar_data c.in-Some.value)) (reader_of l.strict k)) (sym on))
+      c.in_default.ensures)
       (record { same = past.past m.cursor }) (λ e. cc e) c.requires.some;
 }
 
@@ -43,12 +49,19 @@ returns-in-None g c = record {
       let p = c.args.spot.now.place in
       let at = at_place m.cursor p in
       let past = c.pass-in-None.ensures in
-      let on = passed_on set (bounds l) d m.counted at (at_place m.cursor c.pass-in-None.new.self) f c.args.has_bit (past.past m.cursor) (past.bits m.cursor h.place) uses in
-      led_took g.S.Sink.takes g.S.Sink.stops set l m m1 c.after.result from p c.pass-in-None.new.self c.from-node.result f (option_map scalar_data c.args.value) c.args.bytes
-      (subst (λ (k : ℕ). IsLedTo set l m m1 from p k f (option_map scalar_data c.args.value) c.args.bytes) (sym c.from-node.ensures) h) (c.after.ensures ∙ ap (λ t. t.count + 1) old)
+      let on = passed_on set (bounds l) d m.counted at (at_place m.cursor c.pass-in-None.new.self) f c.args.has_bit (past.past m.cursor)
+      (past.bits m.cursor h.place) uses in
+      led_took g.S.Sink.takes g.S.Sink.stops set l m m1 c.after.result from p c.pass-in-None.new.self c.from-node.result f
+      (option_map scalar_data c.args.value) c.args.bytes
+      (subst (λ (k : ℕ). IsLedTo set l m m1 from p k f (option_map scalar_data c.args.value) c.args.bytes) (sym c.from-node.ensures) h)
+      (c.after.ensures ∙ ap (λ t. t.count + 1) old)
       (past.place m.cursor h.place)
       _ c.args.sink.now Silent c.args.sink.now (take_rest c.args.spot.now.rest.now c.args.bytes ∙ ap (drop c.args.bytes) (sym rest)) refl
-      (λ waits. (ap (λ v. reader_of l.strict (value_then set (bounds l) c.from-node.result (option_map scalar_data v) f d m.counted at)) c.in-None.is ∙ ap (reader_of l.strict) (sym on), refl))
+      (λ waits. (
+        ap (λ v. reader_of l.strict (value_then set (bounds l) c.from-node.result (option_map scalar_data v) f d m.counted at))
+            c.in-None.is ∙ ap (reader_of l.strict) (sym on),
+        refl,
+      ))
       (record { same = past.past m.cursor }) (λ e. cc e) c.requires.some;
 }
 
@@ -59,12 +72,16 @@ returns-in-Err g c = record {
       let p = c.args.spot.now.place in
       let at = at_place m.cursor p in
       led_stopped g.S.Sink.takes g.S.Sink.stops set l m m1 c.after.result from p p c.from-node.result f (option_map scalar_data c.args.value) c.args.bytes
-      (subst (λ (k : ℕ). IsLedTo set l m m1 from p k f (option_map scalar_data c.args.value) c.args.bytes) (sym c.from-node.ensures) h) (c.after.ensures ∙ ap (λ t. t.count + 1) old)
+      (subst (λ (k : ℕ). IsLedTo set l m m1 from p k f (option_map scalar_data c.args.value) c.args.bytes) (sym c.from-node.ensures) h)
+      (c.after.ensures ∙ ap (λ t. t.count + 1) old)
       h.place
       _ c.args.sink.now c.hand.new.sink (take_rest c.args.spot.now.rest.now c.args.bytes ∙ ap (drop c.args.bytes) (sym rest))
       (λ waits. subst (λ (code : FaultCode). Moves g.S.Sink.takes g.S.Sink.stops
       (reader_of l.strict (value_then set (bounds l) c.from-node.result (option_map scalar_data c.args.value) f d m.counted at))
       c.args.sink.now (Err code) c.hand.new.sink (reader_of l.strict (going_on set (bounds l) d m.counted at)) waits)
-      c.in-Err.ensures.0 (moves_halt g.S.Sink.takes g.S.Sink.stops (reader_of l.strict (going_on set (bounds l) d m.counted at)) waits c.args.sink.now c.in-Err.field-0 c.hand.new.sink (ap (λ v. reader_of l.strict (value_then set (bounds l) c.from-node.result (option_map scalar_data v) f d m.counted at)) c.in-Some.is) c.in-Err.ensures))
+      c.in-Err.ensures.0 (moves_halt g.S.Sink.takes g.S.Sink.stops
+      (reader_of l.strict (going_on set (bounds l) d m.counted at)) waits c.args.sink.now c.in-Err.field-0 c.hand.new.sink
+      (ap (λ v. reader_of l.strict (value_then set (bounds l) c.from-node.result (option_map scalar_data v) f d m.counted at))
+      c.in-Some.is) c.in-Err.ensures))
       (inr c.requires.some);
 }

@@ -16,24 +16,33 @@ use Rattle.fast_loop.proofs.arms.Parts.{serves_as, exponent_serves, mantissa_ser
 use Rattle.fast_loop.proofs.part_arms.mantissa_arm.Goals as goal
 
 pub mantissa_part-requires-clause-within : goal.mantissa_part-requires-clause-within
-mantissa_part-requires-clause-within g c = (mantissa_serves (set_of c.args.templates.now) c.args.limits c.args.machine.now c.args.spot.now c.args.node c.args.exponent.now c.args.mantissa.now c.requires.decimal).within
+mantissa_part-requires-clause-within g c = (mantissa_serves
+    (set_of c.args.templates.now) c.args.limits c.args.machine.now c.args.spot.now c.args.node c.args.exponent.now c.args.mantissa.now
+    c.requires.decimal).within
 
 pub keep_part-requires-clause-within : goal.keep_part-requires-clause-within
-keep_part-requires-clause-within g c = (exponent_serves (set_of c.args.templates.now) c.args.limits c.args.machine.now c.args.spot.now c.args.node c.args.exponent.now c.args.mantissa.now c.requires.decimal).within
+keep_part-requires-clause-within g c = (exponent_serves
+    (set_of c.args.templates.now) c.args.limits c.args.machine.now c.args.spot.now c.args.node c.args.exponent.now c.args.mantissa.now
+    c.requires.decimal).within
 
 pub keep_part-requires-2-clause-within : goal.keep_part-requires-2-clause-within
 keep_part-requires-2-clause-within g c =
-    (serves_as (set_of c.args.templates.now) c.args.limits c.args.machine.now c.args.spot.now c.args.node c.args.exponent.now c.args.mantissa.now c.requires.decimal c.keep_part.new.slots c.args.mantissa.now c.keep_part.ensures.terms c.requires.decimal.mantissa).within
+    (serves_as (set_of c.args.templates.now) c.args.limits c.args.machine.now c.args.spot.now c.args.node c.args.exponent.now
+    c.args.mantissa.now c.requires.decimal c.keep_part.new.slots c.args.mantissa.now c.keep_part.ensures.terms
+    c.requires.decimal.mantissa).within
 
 pub overflow_add-used : goal.overflow_add-used
 overflow_add-used g c =
-    let all : c.args.used + c.in-Some-mantissa_part.bytes ≤ length c.args.spot.now.rest.now = both_within c.args.exponent.now c.args.mantissa.now c.args.bit c.in-Some.set c.args.limits.strict c.args.spot.now.rest.now c.args.machine.now.slots c.args.number c.in-Some-mantissa_part.value c.args.used c.in-Some-mantissa_part.bytes
+    let all : c.args.used + c.in-Some-mantissa_part.bytes ≤ length c.args.spot.now.rest.now =
+    both_within c.args.exponent.now c.args.mantissa.now c.args.bit c.in-Some.set c.args.limits.strict c.args.spot.now.rest.now
+    c.args.machine.now.slots c.args.number c.in-Some-mantissa_part.value c.args.used c.in-Some-mantissa_part.bytes
     c.requires.part c.in-Some-mantissa_part.ensures in
     search (rules, all)
 
 pub hand_behind-requires-clause-within : goal.hand_behind-requires-clause-within
 hand_behind-requires-clause-within g c =
-    both_within c.args.exponent.now c.args.mantissa.now c.args.bit c.in-Some.set c.args.limits.strict c.args.spot.now.rest.now c.args.machine.now.slots c.args.number c.in-Some-mantissa_part.value c.args.used c.in-Some-mantissa_part.bytes
+    both_within c.args.exponent.now c.args.mantissa.now c.args.bit c.in-Some.set c.args.limits.strict c.args.spot.now.rest.now
+    c.args.machine.now.slots c.args.number c.in-Some-mantissa_part.value c.args.used c.in-Some-mantissa_part.bytes
     c.requires.part c.in-Some-mantissa_part.ensures
 
 pub returns : goal.returns
@@ -53,16 +62,25 @@ returns g c =
     let mid = c.keep_part.new.slots in
     let new = c.keep_part-2.new.slots in
     let p = c.behind_bit-place.result in
-    let first : 0 < c.args.used → KeepsPart e m.slots mid (Some x) = λ some. subst (λ (z : ℤ). KeepsPart e m.slots mid (Some z)) (ap (λ z. to_z w64 (of_z w64 z)) (c.from.ensures ∙ again w32 x x_fits) ∙ again w64 x wide) (c.keep_part.ensures.kept some) in
-    let second : 0 < n → KeepsPart f mid new (Some y) = λ some. subst (λ (z : ℤ). KeepsPart f mid new (Some z)) (again w64 y y_fits) (c.keep_part-2.ensures.kept some) in
+    let first : 0 < c.args.used → KeepsPart e m.slots mid (Some x) =
+    λ some. subst (λ (z : ℤ). KeepsPart e m.slots mid (Some z))
+    (ap (λ z. to_z w64 (of_z w64 z)) (c.from.ensures ∙ again w32 x x_fits) ∙ again w64 x wide) (c.keep_part.ensures.kept some) in
+    let second : 0 < n → KeepsPart f mid new (Some y) = λ some. subst (λ (z : ℤ). KeepsPart f mid new (Some z)) (again w64 y y_fits)
+    (c.keep_part-2.ensures.kept some) in
     record {
       went = c.hand_behind.ensures.went set l m (record m { slots = new }) from (field_data f) c.uses_bit-has_bit.ensures refl refl
-          (subst (λ (v : Option ScalarData). IsLedTo set l m (record m { slots = new }) from p c.args.node (field_data f) v (c.args.used + n)) (ap (λ z. Some (Dec z y)) (sym (again w32 x x_fits)) ∙ ap (λ z. Some (Dec (to_z w32 (of_z w32 x)) z)) (sym (again w64 y y_fits)))
-          (decimal_led set l m from c.args.node e f c.requires.decimal mid c.args.bit c.requires.bit c.keep_part.ensures.terms c.args.used x y new p c.in-Some.set n
-          (c.behind_bit-place.ensures.bits m.cursor c.requires.decimal.spot.place ∙ ap (λ (b : Bool). if b then later_bits (bits_left (at_place m.cursor from.place)) else bits_left (at_place m.cursor from.place)) c.uses_bit.ensures)
+          (subst (λ (v : Option ScalarData). IsLedTo set l m (record m { slots = new }) from p c.args.node (field_data f) v
+          (c.args.used + n)) (ap (λ z. Some (Dec z y)) (sym (again w32 x x_fits))
+          ∙ ap (λ z. Some (Dec (to_z w32 (of_z w32 x)) z)) (sym (again w64 y y_fits)))
+          (decimal_led set l m from c.args.node e f c.requires.decimal mid c.args.bit c.requires.bit c.keep_part.ensures.terms c.args.used
+          x y new p c.in-Some.set n
+          (c.behind_bit-place.ensures.bits m.cursor c.requires.decimal.spot.place
+          ∙ ap (λ (b : Bool). if b then later_bits (bits_left (at_place m.cursor from.place)) else bits_left
+          (at_place m.cursor from.place)) c.uses_bit.ensures)
           c.behind_bit-place.ensures.left
           c.requires.within c.requires.part first c.keep_part.ensures.same
-          (c.in-Some.ensures.bit m.cursor (c.behind_bit-place.ensures.place m.cursor c.requires.decimal.spot.place) ∙ ap (λ (b : Bool). if b then first_bit (bits_left (at_place m.cursor p)) else true) c.uses_bit-has_bit.ensures)
+          (c.in-Some.ensures.bit m.cursor (c.behind_bit-place.ensures.place m.cursor c.requires.decimal.spot.place)
+          ∙ ap (λ (b : Bool). if b then first_bit (bits_left (at_place m.cursor p)) else true) c.uses_bit-has_bit.ensures)
           (c.leaves_mantissa.ensures (search rules))
           (subst (λ (w : List ℕ). IsPart f c.in-Some.set l.strict w m.slots (Some y) n) (take_rest from.rest.now c.args.used) c.in-Some-mantissa_part.ensures)
           second c.keep_part-2.ensures.same c.keep_part-2.ensures.terms (c.behind_bit-place.ensures.place m.cursor c.requires.decimal.spot.place)));

@@ -15,23 +15,27 @@ use Rattle.fast_loop.proofs.part_arms.other_parts_arm.Goals as goal
 pub exponent_part-requires-clause-within : goal.exponent_part-requires-clause-within
 exponent_part-requires-clause-within g c =
     let at = c.requires.decimal in
-    (exponent_serves (set_of c.args.templates.now) c.args.limits c.args.machine.now c.args.spot.now c.args.node c.args.exponent.now c.args.mantissa.now at).within
+    (exponent_serves (set_of c.args.templates.now) c.args.limits c.args.machine.now c.args.spot.now c.args.node c.args.exponent.now
+    c.args.mantissa.now at).within
 
 pub mantissa_arm-requires-clause-part : goal.mantissa_arm-requires-clause-part
 mantissa_arm-requires-clause-part g c =
     let fits : FitsSigned w32 c.in-Some-part.number = search rules in
-    subst (λ (x : Option ℤ). IsPart c.args.exponent.now c.in-Some.bit c.args.limits.strict c.args.spot.now.rest.now c.args.machine.now.slots x c.in-Some-exponent_part.used)
+    subst (λ (x : Option ℤ). IsPart c.args.exponent.now c.in-Some.bit c.args.limits.strict c.args.spot.now.rest.now
+    c.args.machine.now.slots x c.in-Some-exponent_part.used)
     (c.in-Some-part.is ∙ ap Some (sym (again w32 c.in-Some-part.number fits)))
     (c.in-Some-exponent_part.ensures.part c.args.limits.strict)
 
 pub keep_part-requires-clause-within : goal.keep_part-requires-clause-within
 keep_part-requires-clause-within g c =
     let at = c.requires.decimal in
-    (exponent_serves (set_of c.args.templates.now) c.args.limits c.args.machine.now c.args.spot.now c.args.node c.args.exponent.now c.args.mantissa.now at).within
+    (exponent_serves (set_of c.args.templates.now) c.args.limits c.args.machine.now c.args.spot.now c.args.node c.args.exponent.now
+    c.args.mantissa.now at).within
 
 pub hand_behind-requires-clause-within : goal.hand_behind-requires-clause-within
 hand_behind-requires-clause-within g c =
-    part_within c.args.exponent.now c.in-Some.bit c.args.limits.strict c.args.spot.now.rest.now c.args.machine.now.slots c.in-Some-exponent_part.part c.in-Some-exponent_part.used (c.in-Some-exponent_part.ensures.part c.args.limits.strict)
+    part_within c.args.exponent.now c.in-Some.bit c.args.limits.strict c.args.spot.now.rest.now c.args.machine.now.slots
+    c.in-Some-exponent_part.part c.in-Some-exponent_part.used (c.in-Some-exponent_part.ensures.part c.args.limits.strict)
 
 pub returns-in-None : goal.returns-in-None
 returns-in-None g c =
@@ -46,7 +50,9 @@ returns-in-None g c =
     record {
       went = c.hand_behind.ensures.went set l m (record m { slots = mid }) from (field_data e) c.uses_bit-has_bit.ensures refl refl
           (absent_led set l m from c.args.node e f at mid c.in-Some.bit
-          (c.in-Some.ensures.bit m.cursor at.spot.place ∙ ap (λ (b : Bool). if b then first_bit (bits_left (at_place m.cursor from.place)) else true) c.uses_bit-has_bit.ensures)
+          (c.in-Some.ensures.bit m.cursor at.spot.place ∙ ap (λ (b : Bool). if b then first_bit
+          (bits_left (at_place m.cursor from.place)) else true) c.uses_bit-has_bit.ensures)
           c.keep_part.ensures.terms c.in-Some-exponent_part.used
-          (subst (λ (x : Option ℤ). IsPart e c.in-Some.bit l.strict from.rest.now m.slots x c.in-Some-exponent_part.used) c.in-None.is (c.in-Some-exponent_part.ensures.part l.strict)) c.keep_part.ensures.kept c.keep_part.ensures.same);
+          (subst (λ (x : Option ℤ). IsPart e c.in-Some.bit l.strict from.rest.now m.slots x c.in-Some-exponent_part.used) c.in-None.is
+          (c.in-Some-exponent_part.ensures.part l.strict)) c.keep_part.ensures.kept c.keep_part.ensures.same);
     }

@@ -19,7 +19,8 @@ returns-then-bytes-gt0 g c = record {
       let at = at_place m.cursor p in
       let past = c.pass.ensures in
       let on = passed_on set (bounds l) d m.counted at (at_place m.cursor c.pass.new.self) f true (past.past m.cursor) (past.bits m.cursor h.place) uses in
-      led_took g.S.Sink.takes g.S.Sink.stops set l m m1 c.after.result from p c.pass.new.self node f None c.args.bytes h (c.after.ensures ∙ ap (λ t. t.count + 1) old)
+      led_took g.S.Sink.takes g.S.Sink.stops set l m m1 c.after.result from p c.pass.new.self node f None c.args.bytes h
+      (c.after.ensures ∙ ap (λ t. t.count + 1) old)
       (past.place m.cursor h.place)
       _ c.args.sink.now Silent c.args.sink.now (take_rest c.args.spot.now.rest.now c.args.bytes ∙ ap (drop c.args.bytes) (sym rest)) refl
       (λ waits. (ap (reader_of l.strict) (sym on), refl))
@@ -34,7 +35,8 @@ returns g c = record {
       let at = at_place m.cursor p in
       let past = c.pass.ensures in
       let on = passed_on set (bounds l) d m.counted at (at_place m.cursor c.pass.new.self) f true (past.past m.cursor) (past.bits m.cursor h.place) uses in
-      led_went g.S.Sink.takes g.S.Sink.stops set l m m1 c.after.result from p c.pass.new.self node f None c.args.bytes h (c.after.ensures ∙ ap (λ t. t.count + 1) old)
+      led_went g.S.Sink.takes g.S.Sink.stops set l m m1 c.after.result from p c.pass.new.self node f None c.args.bytes h
+      (c.after.ensures ∙ ap (λ t. t.count + 1) old)
       (past.place m.cursor h.place)
       _ c.args.sink.now Silent c.args.sink.now (take_rest c.args.spot.now.rest.now c.args.bytes ∙ ap (drop c.args.bytes) (sym rest)) refl
       (λ waits. (ap (reader_of l.strict) (sym on), refl))

@@ -26,7 +26,10 @@ returns-then-kept-gt0 g c =
       fed = kept_fed g.S.Sink.takes g.S.Sink.stops set l c.args.templates.now.nodes_name_later_nodes m a piece k c.args.sink.now kept;
       ready = ready;
       supplied = ready.supplied;
-      turns = λ way none h. (subst (λ t. t ≤ k * (1 + most_by way (tree_in set) l)) (sym (same ∙ none)) (omega arith), (most_by way (tree_in set) l, kept_turns set l m a piece k kept way (most_by way (tree_in set) l) h));
+      turns = λ way none h. (
+        subst (λ t. t ≤ k * (1 + most_by way (tree_in set) l)) (sym (same ∙ none)) (omega arith),
+        (most_by way (tree_in set) l, kept_turns set l m a piece k kept way (most_by way (tree_in set) l) h),
+      );
     }
 
 pub returns : goal.returns
@@ -40,9 +43,12 @@ returns g c =
     record {
       within = units.ensures.within;
       all = units.ensures.all;
-      fed = subst (λ (x : Machine). Fed g.S.Sink.takes g.S.Sink.stops (tree_in set) l (waiting_at (meaning set l x)) (take units.result.bytes c.args.piece.now) c.args.sink.now units.result.outcome units.new.sink (waiting_at (meaning set l units.new.machine))) same
+      fed = subst (λ (x : Machine). Fed g.S.Sink.takes g.S.Sink.stops (tree_in set) l (waiting_at (meaning set l x))
+          (take units.result.bytes c.args.piece.now) c.args.sink.now units.result.outcome units.new.sink
+          (waiting_at (meaning set l units.new.machine))) same
           units.ensures.fed;
       ready = units.ensures.ready;
       supplied = units.ensures.supplied;
-      turns = λ way none h. units.ensures.turns way (subst (λ (x : Machine). x.turns.count ≡ 0) (sym same) none) (subst (λ (x : Machine). HasTurnsWaiting way set l (most_by way (tree_in set) l) x) (sym same) h);
+      turns = λ way none h. units.ensures.turns way (subst (λ (x : Machine). x.turns.count ≡ 0) (sym same) none)
+          (subst (λ (x : Machine). HasTurnsWaiting way set l (most_by way (tree_in set) l) x) (sym same) h);
     }

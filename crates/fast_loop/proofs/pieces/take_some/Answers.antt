@@ -15,13 +15,15 @@ use Rattle.fast_loop.proofs.pieces.take_some.Goals as goal
 pub returns-in-Err-clause-fed : goal.returns-in-Err-clause-fed
 returns-in-Err-clause-fed g c =
     let unit = c.take_next-unit in
-    unit_alone g.S.Sink.takes g.S.Sink.stops (set_of c.args.templates.now) c.args.limits c.args.machine.now c.args.rest.now c.args.sink.now unit.result.bytes unit.result.turn (Err c.in-Err.code) unit.new.sink unit.new.self
+    unit_alone g.S.Sink.takes g.S.Sink.stops (set_of c.args.templates.now) c.args.limits c.args.machine.now c.args.rest.now c.args.sink.now
+    unit.result.bytes unit.result.turn (Err c.in-Err.code) unit.new.sink unit.new.self
     (λ t e. absurd (cc (sym c.in-Err.is ∙ e))) (λ t e. absurd (cc (sym c.in-Err.is ∙ e))) (λ x e. cc (sym c.in-Err.is ∙ e)) unit.ensures.taken
 
 pub returns-in-Err-clause-turns : goal.returns-in-Err-clause-turns
 returns-in-Err-clause-turns g c way =
     let unit = c.take_next-unit in
-    counted_one (set_of c.args.templates.now) c.args.limits c.args.machine.now unit.new.self unit.result.bytes unit.result.turn (Err c.in-Err.code) way unit.ensures.taken.some (unit.ensures.turns way)
+    counted_one (set_of c.args.templates.now) c.args.limits c.args.machine.now unit.new.self unit.result.bytes unit.result.turn
+    (Err c.in-Err.code) way unit.ensures.taken.some (unit.ensures.turns way)
     (λ t e. absurd (cc (sym c.in-Err.is ∙ e))) (λ t e. absurd (cc (sym c.in-Err.is ∙ e))) (λ x e. cc (sym c.in-Err.is ∙ e))
 
 pub returns-in-Waits : goal.returns-in-Waits
@@ -50,7 +52,8 @@ returns-in-Waits g c =
       ready = ready;
       supplied = ready.supplied;
       turns = λ way. kept_counted set l m b a (take (length rest - n) (drop n rest)) n k kept way
-          (counted_one set l m b n unit.result.turn (Ok tt) way some (unit.ensures.turns way) (λ t e. cc (sym is ∙ e)) (λ t e. refl) (λ x e. absurd (cc (sym is ∙ e))));
+          (counted_one set l m b n unit.result.turn (Ok tt) way some (unit.ensures.turns way) (λ t e. cc (sym is ∙ e)) (λ t e. refl)
+          (λ x e. absurd (cc (sym is ∙ e))));
     }
 
 pub returns-in_default : goal.returns-in_default
@@ -64,15 +67,21 @@ returns-in_default g c =
     let unit = c.take_next-unit in
     let run = c.go_on-run in
     let taken : IsTakenTo takes stops set l (meaning set l m) rest c.args.sink.now unit.result.bytes (Ok c.in-Ok.turn) unit.new.sink unit.new.self =
-    subst (λ (t : Result Turn FaultCode). IsTakenTo takes stops set l (meaning set l m) rest c.args.sink.now unit.result.bytes t unit.new.sink unit.new.self) c.in-Ok.is unit.ensures.taken in
+    subst (λ (t : Result Turn FaultCode). IsTakenTo takes stops set l
+    (meaning set l m) rest c.args.sink.now unit.result.bytes t unit.new.sink unit.new.self) c.in-Ok.is unit.ensures.taken in
     let some : 0 < unit.result.bytes = unit.ensures.taken.some in
     record {
       some = omega (arith, some);
       within = within_piece rest unit.result.bytes run.result.bytes taken.within run.ensures.step.within;
-      fed = unit_and_steps takes stops set l m unit.new.self rest c.args.sink.now unit.new.sink unit.result.bytes c.in-Ok.turn run.result c.outcome.result run.new.sink run.new.machine c.in_default.not-Waits taken run.ensures.step run.ensures.ends c.outcome.ensures.ok c.outcome.ensures.err;
-      ready = ready_end set l run.new.machine run.result.turn c.outcome.result run.ensures.ends c.outcome.ensures.ok c.outcome.ensures.err run.ensures.step.goes_on;
+      fed = unit_and_steps takes stops set l m unit.new.self rest c.args.sink.now unit.new.sink unit.result.bytes c.in-Ok.turn run.result
+          c.outcome.result run.new.sink run.new.machine c.in_default.not-Waits taken run.ensures.step run.ensures.ends c.outcome.ensures.ok
+          c.outcome.ensures.err;
+      ready = ready_end set l run.new.machine run.result.turn c.outcome.result run.ensures.ends c.outcome.ensures.ok c.outcome.ensures.err
+          run.ensures.step.goes_on;
       supplied = run.ensures.step.supplied;
-      turns = λ way. counted_both set l m unit.new.self run.new.machine unit.result.bytes c.in-Ok.turn run.result c.outcome.result way some c.in_default.not-Waits
-          (λ k h. subst (λ (t : Result Turn FaultCode). HasTurnsBehind t way set l (1 + k + turns_begun_at m.waiting m.cursor.map way (tree_in set) l) unit.new.self) c.in-Ok.is (unit.ensures.turns way k h))
+      turns = λ way. counted_both set l m unit.new.self run.new.machine unit.result.bytes c.in-Ok.turn run.result c.outcome.result way some
+          c.in_default.not-Waits
+          (λ k h. subst (λ (t : Result Turn FaultCode). HasTurnsBehind t way set l
+          (1 + k + turns_begun_at m.waiting m.cursor.map way (tree_in set) l) unit.new.self) c.in-Ok.is (unit.ensures.turns way k h))
           (run.ensures.step.turns way) run.ensures.ends c.outcome.ensures.ok c.outcome.ensures.err;
     }

@@ -11,7 +11,9 @@ returns-then-is_err-clause-fed g c =
     let set = set_of c.args.templates.now in
     let l = c.args.limits in
     let taken = c.take_some-taken in
-    fed_behind (tree_in set) l g.S.Sink.takes g.S.Sink.stops (waiting_at (meaning set l c.args.machine.now)) (waiting_at (meaning set l c.loop-bytes.machine)) (waiting_at (meaning set l taken.new.machine)) c.args.piece.now c.loop-bytes.bytes taken.result.bytes
+    fed_behind (tree_in set) l g.S.Sink.takes g.S.Sink.stops (waiting_at (meaning set l c.args.machine.now))
+    (waiting_at (meaning set l c.loop-bytes.machine)) (waiting_at (meaning set l taken.new.machine)) c.args.piece.now
+    c.loop-bytes.bytes taken.result.bytes
     c.args.sink.now c.loop-bytes.sink taken.new.sink taken.result.outcome c.loop-bytes.invariant.took taken.ensures.fed
 
 pub returns-then-is_err-clause-turns : goal.returns-then-is_err-clause-turns
@@ -20,7 +22,8 @@ returns-then-is_err-clause-turns g c way none h =
     let l = c.args.limits in
     let taken = c.take_some-taken in
     all_paid way set l (c.loop-bytes.bytes + taken.result.bytes) taken.new.machine taken.result.outcome
-    (after_some way set l c.loop-bytes.bytes taken.result.bytes c.loop-bytes.machine taken.new.machine taken.result.outcome (c.loop-bytes.invariant.turns way none h) (taken.ensures.turns way))
+    (after_some way set l c.loop-bytes.bytes taken.result.bytes c.loop-bytes.machine taken.new.machine taken.result.outcome
+    (c.loop-bytes.invariant.turns way none h) (taken.ensures.turns way))
 
 pub loop-bytes-preserved : goal.loop-bytes-preserved
 loop-bytes-preserved g c =
@@ -34,10 +37,14 @@ loop-bytes-preserved g c =
       within = within_piece c.args.piece.now c.loop-bytes.bytes taken.result.bytes c.loop-bytes.invariant.within taken.ensures.within;
       ready = on_ok taken.result.outcome ok taken.ensures.ready;
       took = fed_on (tree_in set) l takes stops _ _ _ taken.result.outcome _ _ ok
-          (fed_behind (tree_in set) l takes stops (waiting_at (meaning set l c.args.machine.now)) (waiting_at (meaning set l c.loop-bytes.machine)) (waiting_at (meaning set l taken.new.machine)) c.args.piece.now c.loop-bytes.bytes taken.result.bytes
+          (fed_behind (tree_in set) l takes stops (waiting_at (meaning set l c.args.machine.now))
+          (waiting_at (meaning set l c.loop-bytes.machine)) (waiting_at (meaning set l taken.new.machine)) c.args.piece.now
+          c.loop-bytes.bytes taken.result.bytes
           c.args.sink.now c.loop-bytes.sink taken.new.sink taken.result.outcome c.loop-bytes.invariant.took taken.ensures.fed);
-      turns = λ way none h. still_spent way set l c.loop-bytes.bytes taken.result.bytes c.loop-bytes.machine taken.new.machine taken.result.outcome ok taken.ensures.some (c.loop-bytes.invariant.turns way none h) (taken.ensures.turns way);
+      turns = λ way none h. still_spent way set l c.loop-bytes.bytes taken.result.bytes c.loop-bytes.machine taken.new.machine
+          taken.result.outcome ok taken.ensures.some (c.loop-bytes.invariant.turns way none h) (taken.ensures.turns way);
     }
 
 pub returns-clause-turns : goal.returns-clause-turns
-returns-clause-turns g c way none h = spent_paid way (set_of c.args.templates.now) c.args.limits c.loop-bytes.bytes c.loop-bytes.machine (c.loop-bytes.invariant.turns way none h)
+returns-clause-turns g c way none h = spent_paid way (set_of c.args.templates.now) c.args.limits c.loop-bytes.bytes c.loop-bytes.machine
+    (c.loop-bytes.invariant.turns way none h)

@@ -20,12 +20,19 @@ returns-in-Err g c =
     let m = c.args.machine.now in
     let from = c.args.spot.now in
     let (f, claimed, h, fits) = c.requires.length in
-    let is : c.advance.new.self ≡ record (at_place m.cursor from.place) { left = drop 1 (at_place m.cursor from.place).left } = c.advance.ensures ∙ ap (λ (x : CursorData). record x { left = drop 1 x.left }) c.set_place.ensures in
+    let is : c.advance.new.self ≡ record (at_place m.cursor from.place) { left = drop 1 (at_place m.cursor from.place).left } =
+    c.advance.ensures ∙ ap (λ (x : CursorData). record x { left = drop 1 x.left }) c.set_place.ensures in
     let code = c.in-Err.field-0 in
     record {
       went = went_stopped takes stops set l m from c.args.sink.now _ c.stand.new.self c.args.bytes code c.hand.new.sink
-          (record { at = c.stand.ensures.at; place = c.stand.ensures.place; rest = c.stand.ensures.rest ∙ take_rest from.rest.now c.args.bytes }) c.in-Err.ensures.0
-          (stopped_step takes stops set l m from c.args.node f (run_in set c.args.start) (Some (U claimed)) c.args.bytes h c.after-machine.result c.after-machine.ensures c.advance.new.self is claimed c.args.count refl fits c.requires.total
+          (record {
+            at = c.stand.ensures.at;
+            place = c.stand.ensures.place;
+            rest = c.stand.ensures.rest ∙ take_rest from.rest.now c.args.bytes;
+          }) c.in-Err.ensures.0
+          (stopped_step takes stops set l m from c.args.node f (run_in set c.args.start)
+          (Some (U claimed)) c.args.bytes h c.after-machine.result c.after-machine.ensures c.advance.new.self is claimed c.args.count
+          refl fits c.requires.total
           c.args.sink.now code c.hand.new.sink c.in-Err.ensures);
     }
 
@@ -36,8 +43,11 @@ begin_element-begun-requires-clause-turn g c =
     let m = c.args.machine.now in
     let from = c.args.spot.now in
     let (f, claimed, h, fits) = c.requires.length in
-    let is : c.advance.new.self ≡ record (at_place m.cursor from.place) { left = drop 1 (at_place m.cursor from.place).left } = c.advance.ensures ∙ ap (λ (x : CursorData). record x { left = drop 1 x.left }) c.set_place.ensures in
-    can_behind g.S.Sink.takes g.S.Sink.stops set l m from c.args.node f (run_in set c.args.start) (Some (U claimed)) c.args.bytes h c.after-machine.result c.after-machine.ensures c.advance.new.self is claimed c.args.count refl fits c.requires.total
+    let is : c.advance.new.self ≡ record (at_place m.cursor from.place) { left = drop 1 (at_place m.cursor from.place).left } =
+    c.advance.ensures ∙ ap (λ (x : CursorData). record x { left = drop 1 x.left }) c.set_place.ensures in
+    can_behind g.S.Sink.takes g.S.Sink.stops set l m from c.args.node f (run_in set c.args.start)
+    (Some (U claimed)) c.args.bytes h c.after-machine.result c.after-machine.ensures c.advance.new.self is claimed c.args.count refl
+    fits c.requires.total
 
 pub returns : goal.returns
 returns g c =
@@ -48,13 +58,18 @@ returns g c =
     let m = c.args.machine.now in
     let from = c.args.spot.now in
     let (f, claimed, h, fits) = c.requires.length in
-    let is : c.advance.new.self ≡ record (at_place m.cursor from.place) { left = drop 1 (at_place m.cursor from.place).left } = c.advance.ensures ∙ ap (λ (x : CursorData). record x { left = drop 1 x.left }) c.set_place.ensures in
+    let is : c.advance.new.self ≡ record (at_place m.cursor from.place) { left = drop 1 (at_place m.cursor from.place).left } =
+    c.advance.ensures ∙ ap (λ (x : CursorData). record x { left = drop 1 x.left }) c.set_place.ensures in
     let begun = c.begin_element-begun in
     record {
       went = c.segment_arm.ensures.went m from c.args.sink.now c.args.bytes (take_rest from.rest.now c.args.bytes) h.some
-          (elements_step takes stops set l m from c.args.node f (run_in set c.args.start) (Some (U claimed)) c.args.bytes h c.after-machine.result c.after-machine.ensures c.advance.new.self is claimed c.args.count refl fits c.requires.total
+          (elements_step takes stops set l m from c.args.node f (run_in set c.args.start)
+          (Some (U claimed)) c.args.bytes h c.after-machine.result c.after-machine.ensures c.advance.new.self is claimed c.args.count
+          refl fits c.requires.total
           c.args.sink.now c.hand.new.sink begun.result begun.new.sink begun.new.self c.in_default.ensures begun.ensures.turn begun.ensures.turns);
     }
 
 pub begin_element-begun-requires-clause-width : goal.begin_element-begun-requires-clause-width
-begin_element-begun-requires-clause-width g c = width_from (set_of c.args.templates.now) c.args.node c.args.start c.segment_bits-width.result c.requires.node c.requires.body c.segment_bits-width.ensures
+begin_element-begun-requires-clause-width g c = width_from
+    (set_of c.args.templates.now) c.args.node c.args.start c.segment_bits-width.result c.requires.node c.requires.body
+    c.segment_bits-width.ensures

@@ -18,6 +18,7 @@ returns g c = record {
       let a : Machine = record (placed m c.args.spot.now.place) { turns = c.after-machine.result } in
       c.segment_arm.ensures.went m c.args.spot.now c.args.sink.now 0 refl refl
       (placed_turn takes stops set l m a c.args.spot.now refl c.after-machine.ensures
-      c.args.sink.now (opened_result c.leave_segment-begun.result) c.leave_segment-begun.new.sink (opened_by c.leave_segment-begun.result c.leave_segment-begun.new.self)
+      c.args.sink.now (opened_result c.leave_segment-begun.result) c.leave_segment-begun.new.sink
+      (opened_by c.leave_segment-begun.result c.leave_segment-begun.new.self)
       (opened_not_silent c.leave_segment-begun.result) c.leave_segment-begun.ensures.turn c.leave_segment-begun.ensures.turns);
 }

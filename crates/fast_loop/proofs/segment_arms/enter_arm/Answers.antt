@@ -17,6 +17,8 @@ returns g c = record {
       let begun = c.enter_group-begun in
       let (optional, next) = c.requires.next in
       c.segment_arm.ensures.went m from c.args.sink.now 0 h.rest refl
-      (entered_step takes stops set l m from c.after-machine.result c.after-machine.ensures c.args.node (run_in set c.args.start) c.args.spot.now h c.set_place.new.self c.set_place.ensures optional next
-      c.args.sink.now (opened_result begun.result) begun.new.sink (opened_by begun.result begun.new.self) (opened_not_silent begun.result) begun.ensures.turn begun.ensures.turns);
+      (entered_step takes stops set l m from c.after-machine.result c.after-machine.ensures c.args.node
+      (run_in set c.args.start) c.args.spot.now h c.set_place.new.self c.set_place.ensures optional next
+      c.args.sink.now (opened_result begun.result) begun.new.sink (opened_by begun.result begun.new.self)
+      (opened_not_silent begun.result) begun.ensures.turn begun.ensures.turns);
 }

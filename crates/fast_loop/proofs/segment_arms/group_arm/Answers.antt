@@ -10,36 +10,46 @@ use Rattle.fast_loop.proofs.segment_arms.group_arm.Goals as goal
 pub enter_arm-requires-clause-next : goal.enter_arm-requires-clause-next
 enter_arm-requires-clause-next g c =
     let set = set_of c.args.templates.now in
-    let next = group_here c.args.templates.now c.args.machine.now.cursor c.args.spot.now.place c.args.op.now c.from-node.result c.node.result.now c.in-Group.optional c.in-Group.body (run_in set c.body_start-start.result) c.args.optional
-    c.requires.at c.requires.group c.from-node.ensures c.node.ensures.found c.in-Group.is ((c.body_start-start.ensures c.node.result.now c.node.ensures.found).nodes ∙ ap numbers_of c.in-Group.is) in
+    let next = group_here c.args.templates.now c.args.machine.now.cursor c.args.spot.now.place c.args.op.now c.from-node.result
+    c.node.result.now c.in-Group.optional c.in-Group.body (run_in set c.body_start-start.result) c.args.optional
+    c.requires.at c.requires.group c.from-node.ensures c.node.ensures.found c.in-Group.is
+    ((c.body_start-start.ensures c.node.result.now c.node.ensures.found).nodes ∙ ap numbers_of c.in-Group.is) in
     (c.args.optional, next)
 
 pub returns-then-not-optional : goal.returns-then-not-optional
 returns-then-not-optional g c =
     let set = set_of c.args.templates.now in
     let m = c.args.machine.now in
-    let next = group_here c.args.templates.now m.cursor c.args.spot.now.place c.args.op.now c.from-node.result c.node.result.now c.in-Group.optional c.in-Group.body (run_in set c.body_start-start.result) c.args.optional
-    c.requires.at c.requires.group c.from-node.ensures c.node.ensures.found c.in-Group.is ((c.body_start-start.ensures c.node.result.now c.node.ensures.found).nodes ∙ ap numbers_of c.in-Group.is) in
+    let next = group_here c.args.templates.now m.cursor c.args.spot.now.place c.args.op.now c.from-node.result c.node.result.now
+    c.in-Group.optional c.in-Group.body (run_in set c.body_start-start.result) c.args.optional
+    c.requires.at c.requires.group c.from-node.ensures c.node.ensures.found c.in-Group.is
+    ((c.body_start-start.ensures c.node.result.now c.node.ensures.found).nodes ∙ ap numbers_of c.in-Group.is) in
     record {
       went = c.enter_arm.ensures.went c.args.spot.now
           (group_always set c.args.limits m c.args.spot.now c.from-node.result (run_in set c.body_start-start.result)
-          (subst (λ b. IsAtGroup set (at_place m.cursor c.args.spot.now.place) c.from-node.result b (run_in set c.body_start-start.result)) c.if-not-optional.true next));
+          (subst (λ b. IsAtGroup set (at_place m.cursor c.args.spot.now.place) c.from-node.result b (run_in set c.body_start-start.result))
+          c.if-not-optional.true next));
     }
 
 pub returns-then-not-bit : goal.returns-then-not-bit
 returns-then-not-bit g c =
     let set = set_of c.args.templates.now in
     let m = c.args.machine.now in
-    let next = group_here c.args.templates.now m.cursor c.args.spot.now.place c.args.op.now c.from-node.result c.node.result.now c.in-Group.optional c.in-Group.body (run_in set c.body_start-start.result) c.args.optional
-    c.requires.at c.requires.group c.from-node.ensures c.node.ensures.found c.in-Group.is ((c.body_start-start.ensures c.node.result.now c.node.ensures.found).nodes ∙ ap numbers_of c.in-Group.is) in
+    let next = group_here c.args.templates.now m.cursor c.args.spot.now.place c.args.op.now c.from-node.result c.node.result.now
+    c.in-Group.optional c.in-Group.body (run_in set c.body_start-start.result) c.args.optional
+    c.requires.at c.requires.group c.from-node.ensures c.node.ensures.found c.in-Group.is
+    ((c.body_start-start.ensures c.node.result.now c.node.ensures.found).nodes ∙ ap numbers_of c.in-Group.is) in
     record {
       went = record {
         rest = refl;
         waits = c.requires.spot.waits;
         place = c.pass.ensures.place m.cursor c.requires.spot.place;
-        step = absent_group g.S.Sink.takes g.S.Sink.stops set c.args.limits m c.args.spot.now c.after-machine.result c.after-machine.ensures c.from-node.result (run_in set c.body_start-start.result) c.pass.new.self c.requires.spot.can
-            (subst (λ b. IsAtGroup set (at_place m.cursor c.args.spot.now.place) c.from-node.result b (run_in set c.body_start-start.result)) c.if-not-optional.false next)
-            (sym (c.bit.ensures.is m.cursor c.requires.spot.place (c.bit.ensures.clear c.if-not-bit.true)) ∙ c.if-not-bit.true) (c.pass.ensures.past m.cursor) (c.pass.ensures.bits m.cursor c.requires.spot.place) c.args.sink.now;
+        step = absent_group g.S.Sink.takes g.S.Sink.stops set c.args.limits m c.args.spot.now c.after-machine.result
+            c.after-machine.ensures c.from-node.result (run_in set c.body_start-start.result) c.pass.new.self c.requires.spot.can
+            (subst (λ b. IsAtGroup set (at_place m.cursor c.args.spot.now.place) c.from-node.result b
+            (run_in set c.body_start-start.result)) c.if-not-optional.false next)
+            (sym (c.bit.ensures.is m.cursor c.requires.spot.place (c.bit.ensures.clear c.if-not-bit.true)) ∙ c.if-not-bit.true)
+            (c.pass.ensures.past m.cursor) (c.pass.ensures.bits m.cursor c.requires.spot.place) c.args.sink.now;
       };
     }
 
@@ -47,20 +57,30 @@ pub enter_arm-requires-2-clause-next : goal.enter_arm-requires-2-clause-next
 enter_arm-requires-2-clause-next g c =
     let set = set_of c.args.templates.now in
     let m = c.args.machine.now in
-    let next = group_here c.args.templates.now m.cursor c.args.spot.now.place c.args.op.now c.from-node.result c.node.result.now c.in-Group.optional c.in-Group.body (run_in set c.body_start-start.result) c.args.optional
-    c.requires.at c.requires.group c.from-node.ensures c.node.ensures.found c.in-Group.is ((c.body_start-start.ensures c.node.result.now c.node.ensures.found).nodes ∙ ap numbers_of c.in-Group.is) in
-    (c.args.optional, subst (λ ns. IsAtGroup set (record m.cursor { left = ns }) c.from-node.result c.args.optional (run_in set c.body_start-start.result)) (sym c.use_bit.ensures.left) next)
+    let next = group_here c.args.templates.now m.cursor c.args.spot.now.place c.args.op.now c.from-node.result c.node.result.now
+    c.in-Group.optional c.in-Group.body (run_in set c.body_start-start.result) c.args.optional
+    c.requires.at c.requires.group c.from-node.ensures c.node.ensures.found c.in-Group.is
+    ((c.body_start-start.ensures c.node.result.now c.node.ensures.found).nodes ∙ ap numbers_of c.in-Group.is) in (
+      c.args.optional,
+      subst (λ ns. IsAtGroup set (record m.cursor { left = ns }) c.from-node.result c.args.optional
+          (run_in set c.body_start-start.result)) (sym c.use_bit.ensures.left) next,
+    )
 
 pub returns : goal.returns
 returns g c =
     let set = set_of c.args.templates.now in
     let m = c.args.machine.now in
-    let next = group_here c.args.templates.now m.cursor c.args.spot.now.place c.args.op.now c.from-node.result c.node.result.now c.in-Group.optional c.in-Group.body (run_in set c.body_start-start.result) c.args.optional
-    c.requires.at c.requires.group c.from-node.ensures c.node.ensures.found c.in-Group.is ((c.body_start-start.ensures c.node.result.now c.node.ensures.found).nodes ∙ ap numbers_of c.in-Group.is) in
+    let next = group_here c.args.templates.now m.cursor c.args.spot.now.place c.args.op.now c.from-node.result c.node.result.now
+    c.in-Group.optional c.in-Group.body (run_in set c.body_start-start.result) c.args.optional
+    c.requires.at c.requires.group c.from-node.ensures c.node.ensures.found c.in-Group.is
+    ((c.body_start-start.ensures c.node.result.now c.node.ensures.found).nodes ∙ ap numbers_of c.in-Group.is) in
     record {
       went = c.enter_arm-2.ensures.went c.args.spot.now
-          (group_by_bit set c.args.limits m c.args.spot.now _ c.from-node.result (run_in set c.body_start-start.result) refl c.use_bit.ensures.left (c.use_bit.ensures.bits m.cursor c.requires.spot.place) (c.use_bit.ensures.same m.cursor)
-          (subst (λ b. IsAtGroup set (at_place m.cursor c.args.spot.now.place) c.from-node.result b (run_in set c.body_start-start.result)) c.if-not-optional.false next)
+          (group_by_bit set c.args.limits m c.args.spot.now _ c.from-node.result
+          (run_in set c.body_start-start.result) refl c.use_bit.ensures.left (c.use_bit.ensures.bits m.cursor c.requires.spot.place)
+          (c.use_bit.ensures.same m.cursor)
+          (subst (λ b. IsAtGroup set (at_place m.cursor c.args.spot.now.place) c.from-node.result b (run_in set c.body_start-start.result))
+          c.if-not-optional.false next)
           (sym (c.bit.ensures.is m.cursor c.requires.spot.place (c.is_spent.ensures.more c.if-is_spent.false)) ∙ c.if-not-bit.false));
     }
 

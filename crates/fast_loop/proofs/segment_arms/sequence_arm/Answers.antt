@@ -25,8 +25,10 @@ returns-in_default-claimed g c = record {
       let l = c.args.limits in
       let m = c.args.machine.now in
       let from = c.args.spot.now in
-      let h = sequence_taken c.args.templates.now l m from c.args.op.now c.from-node.result c.node.result.now c.in-Sequence.length c.in-Sequence.body (run_in set c.body_start-start.result) c.args.optional c.in-Some.claimed c.in-Some.bytes
-      c.requires.spot c.requires.at c.requires.sequence c.from-node.ensures c.node.ensures.found c.in-Sequence.is ((c.body_start-start.ensures c.node.result.now c.node.ensures.found).nodes ∙ ap numbers_of c.in-Sequence.is) c.in-Some.ensures in
+      let h = sequence_taken c.args.templates.now l m from c.args.op.now c.from-node.result c.node.result.now c.in-Sequence.length
+      c.in-Sequence.body (run_in set c.body_start-start.result) c.args.optional c.in-Some.claimed c.in-Some.bytes
+      c.requires.spot c.requires.at c.requires.sequence c.from-node.ensures c.node.ensures.found c.in-Sequence.is
+      ((c.body_start-start.ensures c.node.result.now c.node.ensures.found).nodes ∙ ap numbers_of c.in-Sequence.is) c.in-Some.ensures in
       let none : option_map U c.in-Some.claimed ≡ None = ap (option_map U) c.in_default-claimed.is in (
         c.in-Some.bytes,
         h.some,
@@ -35,7 +37,9 @@ returns-in_default-claimed g c = record {
           waits = c.requires.spot.waits;
           place = c.advance.ensures.place m.cursor c.requires.spot.place;
           step = took_handed takes stops set l (placed m from.place) _ from.rest.now c.args.sink.now c.in-Some.bytes Silent c.args.sink.now h.some (λ e. cc e)
-              (absent_step takes stops set l m from c.from-node.result (field_data c.in-Sequence.length) (run_in set c.body_start-start.result) (option_map U c.in-Some.claimed) c.in-Some.bytes h c.after-machine.result c.after-machine.ensures
+              (absent_step takes stops set l m from c.from-node.result (field_data c.in-Sequence.length)
+              (run_in set c.body_start-start.result) (option_map U c.in-Some.claimed) c.in-Some.bytes h c.after-machine.result
+              c.after-machine.ensures
               (at_place m.cursor c.advance.new.self) (c.advance.ensures.left m.cursor) none c.args.sink.now);
         },
       );
@@ -48,11 +52,14 @@ elements_arm-requires-clause-length g c =
     let m = c.args.machine.now in
     let from = c.args.spot.now in
     let claimed = c.in-Some-claimed.claimed in
-    let h = sequence_taken c.args.templates.now l m from c.args.op.now c.from-node.result c.node.result.now c.in-Sequence.length c.in-Sequence.body (run_in set c.body_start-start.result) c.args.optional c.in-Some.claimed c.in-Some.bytes
-    c.requires.spot c.requires.at c.requires.sequence c.from-node.ensures c.node.ensures.found c.in-Sequence.is ((c.body_start-start.ensures c.node.result.now c.node.ensures.found).nodes ∙ ap numbers_of c.in-Sequence.is) c.in-Some.ensures in (
+    let h = sequence_taken c.args.templates.now l m from c.args.op.now c.from-node.result c.node.result.now c.in-Sequence.length
+    c.in-Sequence.body (run_in set c.body_start-start.result) c.args.optional c.in-Some.claimed c.in-Some.bytes
+    c.requires.spot c.requires.at c.requires.sequence c.from-node.ensures c.node.ensures.found c.in-Sequence.is
+    ((c.body_start-start.ensures c.node.result.now c.node.ensures.found).nodes ∙ ap numbers_of c.in-Sequence.is) c.in-Some.ensures in (
       field_data c.in-Sequence.length,
       claimed,
-      subst (λ (x : Option ℕ). IsLengthTaken set l m from c.from-node.result (field_data c.in-Sequence.length) (run_in set c.body_start-start.result) (option_map U x) c.in-Some.bytes) c.in-Some-claimed.is h,
+      subst (λ (x : Option ℕ). IsLengthTaken set l m from c.from-node.result (field_data c.in-Sequence.length)
+          (run_in set c.body_start-start.result) (option_map U x) c.in-Some.bytes) c.in-Some-claimed.is h,
       sym (c.in-Ok.ensures.count ∙ ap (within_limits (bounds l) m.counted) c.from.ensures),
     )
 
@@ -69,7 +76,8 @@ pub elements_arm-requires-clause-run : goal.elements_arm-requires-clause-run
 elements_arm-requires-clause-run g c = (c.body_start-start.ensures c.node.result.now c.node.ensures.found).run
 
 pub elements_arm-requires-clause-below : goal.elements_arm-requires-clause-below
-elements_arm-requires-clause-below g c = subst (λ (ns : List ℕ). AreBelow (length (set_of c.args.templates.now).nodes) ns) (sym (c.body_start-start.ensures c.node.result.now c.node.ensures.found).nodes) (λ i inside. (c.node.ensures.body i inside).1)
+elements_arm-requires-clause-below g c = subst (λ (ns : List ℕ). AreBelow (length (set_of c.args.templates.now).nodes) ns)
+    (sym (c.body_start-start.ensures c.node.result.now c.node.ensures.found).nodes) (λ i inside. (c.node.ensures.body i inside).1)
 
 pub elements_arm-requires-clause-body : goal.elements_arm-requires-clause-body
 elements_arm-requires-clause-body g c x found = (c.body_start-start.ensures x found).nodes
@@ -91,7 +99,9 @@ returns-in-Ok g c = record { went = c.elements_arm.ensures.went }
 
 pub unreachable-requires : goal.unreachable-requires
 unreachable-requires g c =
-    let (own, inside, is, operator, absent) = c.requires.sequence c.node.result.now (subst (λ (i : ℕ). slice_get (set_of c.args.templates.now).nodes i ≡ Some c.node.result.now) c.from-node.ensures c.node.ensures.found) in
+    let (own, inside, is, operator, absent) = c.requires.sequence c.node.result.now
+    (subst (λ (i : ℕ). slice_get (set_of c.args.templates.now).nodes i ≡ Some c.node.result.now) c.from-node.ensures
+    c.node.ensures.found) in
     c.in_default.not-Sequence own inside is
 
 pub slice_bounds-spot-count : goal.slice_bounds-spot-count

@@ -25,11 +25,17 @@ returns-in_default g c = record {
       let d = slots_dictionary m1.slots in
       let at = at_place m.cursor c.args.spot.now.place in
       let past = c.pass.ensures in
-      let on = passed_on set (bounds l) d m.counted at (at_place m.cursor c.pass.new.self) f c.args.has_bit (past.past m.cursor) (past.bits m.cursor h.spot.place) uses in
-      unsent_went g.S.Sink.takes g.S.Sink.stops set l m m1 c.after.result c.args.spot.now c.pass.new.self c.from-node.result f bit (option_map scalar_data c.args.value) (subst (λ (k : ℕ). IsFieldUnsent set l m m1 c.args.spot.now.place k f bit (option_map scalar_data c.args.value)) (sym c.from-node.ensures) h) (c.after.ensures ∙ ap (λ t. t.count + 1) old)
+      let on = passed_on set (bounds l) d m.counted at (at_place m.cursor c.pass.new.self) f c.args.has_bit (past.past m.cursor)
+      (past.bits m.cursor h.spot.place) uses in
+      unsent_went g.S.Sink.takes g.S.Sink.stops set l m m1 c.after.result c.args.spot.now c.pass.new.self c.from-node.result f bit
+      (option_map scalar_data c.args.value) (subst (λ (k : ℕ). IsFieldUnsent set l m m1 c.args.spot.now.place k f bit
+      (option_map scalar_data c.args.value)) (sym c.from-node.ensures) h) (c.after.ensures ∙ ap (λ t. t.count + 1) old)
       (past.place m.cursor h.spot.place)
       _ c.args.sink.now Handed c.hand.new.sink refl refl
-      (λ waits. moves_one g.S.Sink.takes g.S.Sink.stops waits c.args.sink.now c.hand.new.sink (ap (λ v. reader_of l.strict (value_then set (bounds l) c.from-node.result (option_map scalar_data v) f d m.counted at)) c.in-Some.is ∙ ap (λ k. Emit (FieldValue c.from-node.result (scalar_data c.in-Some.value)) (reader_of l.strict k)) (sym on)) c.in_default.ensures)
+      (λ waits. moves_one g.S.Sink.takes g.S.Sink.stops waits c.args.sink.now c.hand.new.sink
+      (ap (λ v. reader_of l.strict (value_then set (bounds l) c.from-node.result (option_map scalar_data v) f d m.counted at))
+      c.in-Some.is ∙ ap (λ k. Emit (FieldValue c.from-node.result (scalar_data c.in-Some.value)) (reader_of l.strict k)) (sym on))
+      c.in_default.ensures)
       (record { same = past.past m.cursor }) (λ e. cc e);
 }
 
@@ -39,11 +45,18 @@ returns-in-None g c = record {
       let d = slots_dictionary m1.slots in
       let at = at_place m.cursor c.args.spot.now.place in
       let past = c.pass-in-None.ensures in
-      let on = passed_on set (bounds l) d m.counted at (at_place m.cursor c.pass-in-None.new.self) f c.args.has_bit (past.past m.cursor) (past.bits m.cursor h.spot.place) uses in
-      unsent_went g.S.Sink.takes g.S.Sink.stops set l m m1 c.after.result c.args.spot.now c.pass-in-None.new.self c.from-node.result f bit (option_map scalar_data c.args.value) (subst (λ (k : ℕ). IsFieldUnsent set l m m1 c.args.spot.now.place k f bit (option_map scalar_data c.args.value)) (sym c.from-node.ensures) h) (c.after.ensures ∙ ap (λ t. t.count + 1) old)
+      let on = passed_on set (bounds l) d m.counted at (at_place m.cursor c.pass-in-None.new.self) f c.args.has_bit (past.past m.cursor)
+      (past.bits m.cursor h.spot.place) uses in
+      unsent_went g.S.Sink.takes g.S.Sink.stops set l m m1 c.after.result c.args.spot.now c.pass-in-None.new.self c.from-node.result f bit
+      (option_map scalar_data c.args.value) (subst (λ (k : ℕ). IsFieldUnsent set l m m1 c.args.spot.now.place k f bit
+      (option_map scalar_data c.args.value)) (sym c.from-node.ensures) h) (c.after.ensures ∙ ap (λ t. t.count + 1) old)
       (past.place m.cursor h.spot.place)
       _ c.args.sink.now Silent c.args.sink.now refl refl
-      (λ waits. (ap (λ v. reader_of l.strict (value_then set (bounds l) c.from-node.result (option_map scalar_data v) f d m.counted at)) c.in-None.is ∙ ap (reader_of l.strict) (sym on), refl))
+      (λ waits. (
+        ap (λ v. reader_of l.strict (value_then set (bounds l) c.from-node.result (option_map scalar_data v) f d m.counted at))
+            c.in-None.is ∙ ap (reader_of l.strict) (sym on),
+        refl,
+      ))
       (record { same = past.past m.cursor }) (λ e. cc e);
 }
 
@@ -52,11 +65,16 @@ returns-in-Err g c = record {
   went = λ set l m m1 f bit uses old h.
       let d = slots_dictionary m1.slots in
       let at = at_place m.cursor c.args.spot.now.place in
-      unsent_stopped g.S.Sink.takes g.S.Sink.stops set l m m1 c.after.result c.args.spot.now c.args.spot.now.place c.from-node.result f bit (option_map scalar_data c.args.value) (subst (λ (k : ℕ). IsFieldUnsent set l m m1 c.args.spot.now.place k f bit (option_map scalar_data c.args.value)) (sym c.from-node.ensures) h) (c.after.ensures ∙ ap (λ t. t.count + 1) old)
+      unsent_stopped g.S.Sink.takes g.S.Sink.stops set l m m1 c.after.result c.args.spot.now c.args.spot.now.place c.from-node.result f bit
+      (option_map scalar_data c.args.value) (subst (λ (k : ℕ). IsFieldUnsent set l m m1 c.args.spot.now.place k f bit
+      (option_map scalar_data c.args.value)) (sym c.from-node.ensures) h) (c.after.ensures ∙ ap (λ t. t.count + 1) old)
       h.spot.place
       c.args.sink.now c.hand.new.sink
       (λ waits. subst (λ (code : FaultCode). Moves g.S.Sink.takes g.S.Sink.stops
       (reader_of l.strict (value_then set (bounds l) c.from-node.result (option_map scalar_data c.args.value) f d m.counted at))
       c.args.sink.now (Err code) c.hand.new.sink (reader_of l.strict (going_on set (bounds l) d m.counted at)) waits)
-      c.in-Err.ensures.0 (moves_halt g.S.Sink.takes g.S.Sink.stops (reader_of l.strict (going_on set (bounds l) d m.counted at)) waits c.args.sink.now c.in-Err.field-0 c.hand.new.sink (ap (λ v. reader_of l.strict (value_then set (bounds l) c.from-node.result (option_map scalar_data v) f d m.counted at)) c.in-Some.is) c.in-Err.ensures));
+      c.in-Err.ensures.0 (moves_halt g.S.Sink.takes g.S.Sink.stops
+      (reader_of l.strict (going_on set (bounds l) d m.counted at)) waits c.args.sink.now c.in-Err.field-0 c.hand.new.sink
+      (ap (λ v. reader_of l.strict (value_then set (bounds l) c.from-node.result (option_map scalar_data v) f d m.counted at))
+      c.in-Some.is) c.in-Err.ensures));
 }

@@ -16,7 +16,9 @@ returns-in_ok-hand-in-Some-clause-moves g c set l strict waits d counted at f h 
     let old = at_place at c.args.place.now in
     moves_one g.S.Sink.takes g.S.Sink.stops waits c.args.sink.now c.hand.new.sink
     (ap (λ v. reader_of strict (value_then set l c.args.node (option_map scalar_data v) f d counted old)) c.in-Some.is
-    ∙ ap (λ k. Emit (FieldValue c.args.node (scalar_data c.in-Some.value)) (reader_of strict k)) (sym (passed_on set l d counted old (at_place at c.pass.new.self) f c.args.has_bit (c.pass.ensures.past at) (c.pass.ensures.bits at h) bit)))
+    ∙ ap (λ k. Emit (FieldValue c.args.node (scalar_data c.in-Some.value)) (reader_of strict k))
+    (sym (passed_on set l d counted old (at_place at c.pass.new.self) f c.args.has_bit (c.pass.ensures.past at)
+    (c.pass.ensures.bits at h) bit)))
     c.in_ok-hand-in-Some.ensures
 
 pub returns-in_ok-hand-in-Some-clause-past : goal.returns-in_ok-hand-in-Some-clause-past
@@ -26,7 +28,8 @@ pub returns-in-None-clause-moves : goal.returns-in-None-clause-moves
 returns-in-None-clause-moves g c set l strict waits d counted at f h bit =
     let old = at_place at c.args.place.now in (
       ap (λ v. reader_of strict (value_then set l c.args.node (option_map scalar_data v) f d counted old)) c.in-None.is
-          ∙ ap (reader_of strict) (sym (passed_on set l d counted old (at_place at c.pass-in-None.new.self) f c.args.has_bit (c.pass-in-None.ensures.past at) (c.pass-in-None.ensures.bits at h) bit)),
+          ∙ ap (reader_of strict) (sym (passed_on set l d counted old (at_place at c.pass-in-None.new.self) f c.args.has_bit
+          (c.pass-in-None.ensures.past at) (c.pass-in-None.ensures.bits at h) bit)),
       refl,
     )
 

@@ -24,7 +24,8 @@ returns-in-Err g c = record {
         0,
         refl,
         c.requires.place,
-        placed_turn takes stops set l m a from (ap (λ (y : Machine). placed y from.place) same) counts c.args.sink.now (Err SinkStopped) c.hand_end.new.sink a (λ e. cc e)
+        placed_turn takes stops set l m a from (ap (λ (y : Machine). placed y from.place) same) counts c.args.sink.now
+            (Err SinkStopped) c.hand_end.new.sink a (λ e. cc e)
             (turn_halt takes stops set l (turning set l a) (Done (slots_dictionary a.slots)) MessageEnd c.args.sink.now SinkStopped c.hand_end.new.sink a
             (message_end set l a c.requires.end c.requires.outermost) (refl, c.in-Err.ensures.1) c.requires.turn.supplied)
             (λ way k h. turns_taken way set l k a.turns.count a.counted a.cursor h),

@@ -27,10 +27,20 @@ returns-in-Err-clause-turn g c t found =
     let m = c.args.machine.now in
     let rest = c.args.spot.now.rest.now in
     let x : Machine = placed m c.args.spot.now.place in
-    turn_halt g.S.Sink.takes g.S.Sink.stops set l (reader_of l.strict (message_from set (bounds l) c.args.start.now.number t (slots_dictionary m.slots) (take 1 rest))) _ (MessageStart c.args.start.now.number) c.args.sink.now SinkStopped c.hand.new.sink x
-    (ap (reader_of l.strict) (begin_message (bounds l) c.args.start.now.number (template_data (instructions_from 0 set.nodes) t) (state_past identifier (slots_dictionary m.slots) 0 (mapped_by m rest).cursor)))
+    turn_halt g.S.Sink.takes g.S.Sink.stops set l (reader_of l.strict
+    (message_from set (bounds l) c.args.start.now.number t (slots_dictionary m.slots) (take 1 rest))) _
+    (MessageStart c.args.start.now.number) c.args.sink.now SinkStopped c.hand.new.sink x
+    (ap (reader_of l.strict) (begin_message (bounds l) c.args.start.now.number (template_data (instructions_from 0 set.nodes) t)
+    (state_past identifier (slots_dictionary m.slots) 0 (mapped_by m rest).cursor)))
     (refl, c.in-Err.ensures.1)
-    (supplied_like set l (mapped_by m rest) x c.requires.behind.supplied (record { terms = refl; text = refl; joined = refl; identifier = refl; rests = refl; latest = refl }) c.requires.behind.supplied.counted)
+    (supplied_like set l (mapped_by m rest) x c.requires.behind.supplied (record {
+      terms = refl;
+      text = refl;
+      joined = refl;
+      identifier = refl;
+      rests = refl;
+      latest = refl;
+    }) c.requires.behind.supplied.counted)
 
 pub returns-clause-answer : goal.returns-clause-answer
 returns-clause-answer g c = inl c.message_opens.ensures.answer
@@ -41,10 +51,13 @@ returns-clause-turn g c t found =
     let l = c.args.limits in
     let m = c.args.machine.now in
     let o = c.message_opens in
-    subst (λ (w : Went). IsTurn g.S.Sink.takes g.S.Sink.stops set l (reader_of l.strict (message_from set (bounds l) c.args.start.now.number t (slots_dictionary m.slots) (take 1 c.args.spot.now.rest.now))) c.args.sink.now (begun_by w) o.new.sink (placed o.new.machine o.new.spot.place))
+    subst (λ (w : Went). IsTurn g.S.Sink.takes g.S.Sink.stops set l
+    (reader_of l.strict (message_from set (bounds l) c.args.start.now.number t (slots_dictionary m.slots)
+    (take 1 c.args.spot.now.rest.now))) c.args.sink.now (begun_by w) o.new.sink (placed o.new.machine o.new.spot.place))
     (sym o.ensures.answer) (o.ensures.turn c.args.sink.now t c.in_default.ensures found)
 
 pub returns-clause-turns : goal.returns-clause-turns
 returns-clause-turns g c way n h =
     let o = c.message_opens in
-    subst (λ (w : Went). HasTurnsBehind (begun_by w) way (set_of c.args.templates.now) c.args.limits (1 + n) (placed o.new.machine o.new.spot.place)) (sym o.ensures.answer) (o.ensures.turns way n h)
+    subst (λ (w : Went). HasTurnsBehind (begun_by w) way (set_of c.args.templates.now) c.args.limits (1 + n)
+    (placed o.new.machine o.new.spot.place)) (sym o.ensures.answer) (o.ensures.turns way n h)

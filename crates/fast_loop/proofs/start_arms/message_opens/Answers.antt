@@ -39,15 +39,21 @@ returns-clause-turn g c s t taken found =
     let same : u ≡ t = cc both in
     let x : CursorData = at_place c.begin_message.new.self c.begin_message.new.place in
     let at : IsBegunAt m.cursor x rest u.body.items =
-    begun_at m.cursor c.begin_message.new.self x rest u.body.items (get_or rest 0 0) c.args.start.now.at c.requires.outermost (first_byte rest c.requires.some) c.begin_message.ensures.same c.begin_message.ensures.at c.begin_message.ensures.bits
+    begun_at m.cursor c.begin_message.new.self x rest u.body.items (get_or rest 0 0) c.args.start.now.at c.requires.outermost
+    (first_byte rest c.requires.some) c.begin_message.ensures.same c.begin_message.ensures.at c.begin_message.ensures.bits
     (ap (λ (ops : List Op). run_at ops c.args.start.now.at) c.requires.behind.supplied.program ∙ c.requires.start.2.body.nodes) in
     let b : Machine = mapped_by m rest in
     let m' : Machine = record m { cursor = x; slots = c.reset_if.new.slots; counted = 0; turns = c.after-machine.result } in
     let can : CanTurn set l m' =
-    begun_turns set l b c.args.start.now.number u x c.reset_if.new.slots c.after-machine.result m.latest c.requires.behind.supplied.latest c.requires.behind c.requires.start.1 (c.args.templates.now.templates_name_nodes c.args.start.now.number u c.requires.start.1) c.reset_if.ensures.terms at.frames at.left at.map at.rests in
-    subst (λ (v : Template). IsTurn g.S.Sink.takes g.S.Sink.stops set l (reader_of l.strict (message_from set (bounds l) c.args.start.now.number v d (take 1 rest))) s (Ok Handed) c.args.sink.now m') same
-    (turn_one g.S.Sink.takes g.S.Sink.stops set l (reader_of l.strict (message_from set (bounds l) c.args.start.now.number u d (take 1 rest))) (MessageStart c.args.start.now.number) s c.args.sink.now m'
-    (begun set l.strict (bounds l) c.args.start.now.number u d (slots_dictionary c.reset_if.new.slots) b.cursor x (c.reset_if.ensures.entries ∙ ap (λ (r : Bool). if r then reset d else d) c.requires.start.2.reset) at.frames at.left at.bits)
+    begun_turns set l b c.args.start.now.number u x c.reset_if.new.slots c.after-machine.result m.latest c.requires.behind.supplied.latest
+    c.requires.behind c.requires.start.1 (c.args.templates.now.templates_name_nodes c.args.start.now.number u c.requires.start.1)
+    c.reset_if.ensures.terms at.frames at.left at.map at.rests in
+    subst (λ (v : Template). IsTurn g.S.Sink.takes g.S.Sink.stops set l
+    (reader_of l.strict (message_from set (bounds l) c.args.start.now.number v d (take 1 rest))) s (Ok Handed) c.args.sink.now m') same
+    (turn_one g.S.Sink.takes g.S.Sink.stops set l (reader_of l.strict
+    (message_from set (bounds l) c.args.start.now.number u d (take 1 rest))) (MessageStart c.args.start.now.number) s c.args.sink.now m'
+    (begun set l.strict (bounds l) c.args.start.now.number u d (slots_dictionary c.reset_if.new.slots) b.cursor x
+    (c.reset_if.ensures.entries ∙ ap (λ (r : Bool). if r then reset d else d) c.requires.start.2.reset) at.frames at.left at.bits)
     taken can)
 
 pub returns-clause-turns : goal.returns-clause-turns
@@ -59,8 +65,10 @@ returns-clause-turns g c way n h =
     let u = c.requires.start.0 in
     let x : CursorData = at_place c.begin_message.new.self c.begin_message.new.place in
     let at : IsBegunAt m.cursor x rest u.body.items =
-    begun_at m.cursor c.begin_message.new.self x rest u.body.items (get_or rest 0 0) c.args.start.now.at c.requires.outermost (first_byte rest c.requires.some) c.begin_message.ensures.same c.begin_message.ensures.at c.begin_message.ensures.bits
+    begun_at m.cursor c.begin_message.new.self x rest u.body.items (get_or rest 0 0) c.args.start.now.at c.requires.outermost
+    (first_byte rest c.requires.some) c.begin_message.ensures.same c.begin_message.ensures.at c.begin_message.ensures.bits
     (ap (λ (ops : List Op). run_at ops c.args.start.now.at) c.requires.behind.supplied.program ∙ c.requires.start.2.body.nodes) in
     let unit = c.after-unit.ensures in
     let paid : c.after-unit.result.count + most_by way (tree_in set) l ≤ 1 + n = omega (arith, unit, h) in
-    message_begun way set l (1 + n) c.after-unit.result.count c.after-machine.result.count c.args.start.now.number u x paid c.requires.start.1 c.after-machine.ensures at.left at.frames
+    message_begun way set l (1 + n) c.after-unit.result.count c.after-machine.result.count c.args.start.now.number u x paid
+    c.requires.start.1 c.after-machine.ensures at.left at.frames

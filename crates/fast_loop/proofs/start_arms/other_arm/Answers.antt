@@ -15,9 +15,14 @@ returns-in_default g c = record {
       let from = c.args.spot.now in
       let a : Machine = placed c.args.machine.now from.place in
       let none = c.no_message in
-      none_went g.S.Sink.takes g.S.Sink.stops (set_of c.args.templates.now) c.args.limits m a from (ap (λ (y : Machine). placed y from.place) same) counts c.requires.turn c.requires.end c.requires.outermost s c.args.sink.now taken
+      none_went g.S.Sink.takes g.S.Sink.stops (set_of c.args.templates.now) c.args.limits m a from
+      (ap (λ (y : Machine). placed y from.place) same) counts c.requires.turn c.requires.end c.requires.outermost s c.args.sink.now
+      taken
       none.result none.new.machine none.new.spot none.ensures.waits none.ensures.rest none.ensures.place
-      (none.ensures.at ∙ ap (λ (y : Machine). record (placed y from.place) { waiting = Map; cursor = record (at_place y.cursor from.place) { map = []; used = 0; ends = 8 } }) c.in_default.ensures.none);
+      (none.ensures.at ∙ ap (λ (y : Machine). record (placed y from.place) {
+        waiting = Map;
+        cursor = record (at_place y.cursor from.place) { map = []; used = 0; ends = 8 };
+      }) c.in_default.ensures.none);
 }
 
 pub returns : goal.returns
@@ -32,7 +37,11 @@ returns g c = record {
       let some = c.in-Some in
       let b = c.message_begins in
       let turns : y.turns.count ≡ a.turns.count = ap (λ (z : Machine). z.turns.count) kept in
-      start_went g.S.Sink.takes g.S.Sink.stops set l m a from (ap (λ (z : Machine). placed z from.place) same) counts c.requires.turn c.requires.end c.requires.outermost s c.args.sink.now taken
-      some.start.now.number some.bytes (slots_dictionary y.slots) b.result b.new.sink b.new.machine b.new.spot some.ensures.ahead b.ensures.answer b.ensures.rest (b.ensures.waits ∙ ap (λ (z : Machine). z.waiting) kept ∙ c.requires.waits) b.ensures.place b.ensures.turn
+      start_went g.S.Sink.takes g.S.Sink.stops set l m a from
+      (ap (λ (z : Machine). placed z from.place) same) counts c.requires.turn c.requires.end c.requires.outermost s c.args.sink.now
+      taken
+      some.start.now.number some.bytes (slots_dictionary y.slots) b.result b.new.sink b.new.machine b.new.spot some.ensures.ahead
+      b.ensures.answer b.ensures.rest (b.ensures.waits ∙ ap (λ (z : Machine). z.waiting) kept ∙ c.requires.waits) b.ensures.place
+      b.ensures.turn
       (λ way k h. b.ensures.turns way k (omega (arith, h, turns)));
 }

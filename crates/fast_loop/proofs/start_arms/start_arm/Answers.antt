@@ -30,11 +30,16 @@ returns-then-turn_message g c = record {
       let y = c.args.machine.now in
       let both = c.if-turn_message.ensures.both in
       let b = c.message_opens in
-      start_went g.S.Sink.takes g.S.Sink.stops set c.args.limits m a from at counts c.requires.turn c.requires.end c.requires.outermost c.args.sink.now both.0 both.1
-      c.args.start.now.number 1 (slots_dictionary y.slots) b.result b.new.sink b.new.machine b.new.spot ahead (inl b.ensures.answer) b.ensures.rest (b.ensures.waits ∙ c.requires.waits) b.ensures.place
-      (λ t found. subst (λ (w : Went). IsTurn g.S.Sink.takes g.S.Sink.stops set c.args.limits (reader_of c.args.limits.strict (message_from set (bounds c.args.limits) c.args.start.now.number t (slots_dictionary y.slots) (take 1 from.rest.now))) both.0 (begun_by w) b.new.sink (placed b.new.machine b.new.spot.place))
+      start_went g.S.Sink.takes g.S.Sink.stops set c.args.limits m a from at counts c.requires.turn c.requires.end c.requires.outermost
+      c.args.sink.now both.0 both.1
+      c.args.start.now.number 1 (slots_dictionary y.slots) b.result b.new.sink b.new.machine b.new.spot ahead
+      (inl b.ensures.answer) b.ensures.rest (b.ensures.waits ∙ c.requires.waits) b.ensures.place
+      (λ t found. subst (λ (w : Went). IsTurn g.S.Sink.takes g.S.Sink.stops set c.args.limits
+      (reader_of c.args.limits.strict (message_from set (bounds c.args.limits) c.args.start.now.number t (slots_dictionary y.slots)
+      (take 1 from.rest.now))) both.0 (begun_by w) b.new.sink (placed b.new.machine b.new.spot.place))
       (sym b.ensures.answer) (b.ensures.turn both.0 t both.2 found))
-      (λ way k h. subst (λ (w : Went). HasTurnsBehind (begun_by w) way set c.args.limits (1 + k) (placed b.new.machine b.new.spot.place)) (sym b.ensures.answer) (b.ensures.turns way k h));
+      (λ way k h. subst (λ (w : Went). HasTurnsBehind (begun_by w) way set c.args.limits (1 + k) (placed b.new.machine b.new.spot.place))
+      (sym b.ensures.answer) (b.ensures.turns way k h));
 }
 
 pub returns-in-Err : goal.returns-in-Err
@@ -53,8 +58,10 @@ returns-in-Err g c = record {
         refl,
         c.requires.place,
         placed_turn takes stops set l m a from at counts c.args.sink.now (Err SinkStopped) c.hand_end.new.sink x (λ e. cc e)
-            (turn_halt takes stops set l (turning set l a) (Done (slots_dictionary a.slots)) MessageEnd c.args.sink.now SinkStopped c.hand_end.new.sink x (message_end set l a c.requires.end c.requires.outermost)
-            (refl, subst (λ (s : g.row.S.Denot). stops s MessageEnd c.hand_end.new.sink) c.if-turn_message.ensures.none c.in-Err.ensures.1) c.requires.turn.supplied)
+            (turn_halt takes stops set l (turning set l a) (Done (slots_dictionary a.slots)) MessageEnd c.args.sink.now SinkStopped
+            c.hand_end.new.sink x (message_end set l a c.requires.end c.requires.outermost)
+            (refl, subst (λ (s : g.row.S.Denot). stops s MessageEnd c.hand_end.new.sink) c.if-turn_message.ensures.none c.in-Err.ensures.1)
+            c.requires.turn.supplied)
             (λ way k h. turns_taken way set l k a.turns.count a.counted a.cursor h),
       );
 }
@@ -68,8 +75,10 @@ returns g c = record {
       let set = set_of c.args.templates.now in
       let y = c.args.machine.now in
       let b = c.message_begins in
-      start_went g.S.Sink.takes g.S.Sink.stops set c.args.limits m a c.args.spot.now at counts c.requires.turn c.requires.end c.requires.outermost c.args.sink.now c.hand_end.new.sink
+      start_went g.S.Sink.takes g.S.Sink.stops set c.args.limits m a c.args.spot.now at counts c.requires.turn c.requires.end
+      c.requires.outermost c.args.sink.now c.hand_end.new.sink
       (subst (λ (s : g.row.S.Denot). g.S.Sink.takes s MessageEnd c.hand_end.new.sink) c.if-turn_message.ensures.none c.in_default.ensures)
-      c.args.start.now.number 1 (slots_dictionary y.slots) b.result b.new.sink b.new.machine b.new.spot ahead b.ensures.answer b.ensures.rest (b.ensures.waits ∙ c.requires.waits) b.ensures.place b.ensures.turn
+      c.args.start.now.number 1 (slots_dictionary y.slots) b.result b.new.sink b.new.machine b.new.spot ahead b.ensures.answer
+      b.ensures.rest (b.ensures.waits ∙ c.requires.waits) b.ensures.place b.ensures.turn
       b.ensures.turns;
 }

@@ -27,7 +27,8 @@ ascii_taken-requires-clause-within g c =
     let m = c.args.machine.now in
     let p = c.args.spot.now.place in
     let (x, found) = op_node c.args.templates.now m p c.args.op.now c.requires.at in
-    entry_there c.args.templates.now c.args.limits m p c.args.op.now Ascii c.args.operator c.args.optional c.requires.spot c.requires.at c.requires.field x found
+    entry_there c.args.templates.now c.args.limits m p c.args.op.now Ascii c.args.operator c.args.optional c.requires.spot c.requires.at
+    c.requires.field x found
 
 pub hand_taken-requires-clause-within : goal.hand_taken-requires-clause-within
 hand_taken-requires-clause-within g c =
@@ -36,7 +37,8 @@ hand_taken-requires-clause-within g c =
     let m = c.args.machine.now in
     let p = c.args.spot.now.place in
     let (x, found) = op_node t m p c.args.op.now c.requires.at in
-    (c.in-Some.ensures.unit x (instruction t l m p c.args.op.now Ascii c.args.operator c.args.optional c.requires.spot c.requires.at c.requires.field x found) l.strict (bounds l) found
+    (c.in-Some.ensures.unit x (instruction t l m p c.args.op.now Ascii c.args.operator c.args.optional c.requires.spot c.requires.at
+    c.requires.field x found) l.strict (bounds l) found
     (shape_is t l m p c.args.op.now Ascii c.args.operator c.args.optional c.requires.spot c.requires.at c.requires.field x found) refl
     (as_coded t l m p c.args.op.now Ascii c.args.operator c.args.optional c.requires.spot c.requires.at c.requires.field x found)
     (served t l m p c.args.op.now Ascii c.args.operator c.args.optional c.requires.spot c.requires.at c.requires.field x found)).1
@@ -59,12 +61,17 @@ returns-in-Some g c =
     record {
       went = c.hand_taken.ensures.went (set_of t) l m (record m { slots = slots; text = text }) f
           (c.uses_bit-has_bit.ensures ∙ sym (uses_as t l m from.place op Ascii operator optional c.requires.spot c.requires.at c.requires.field x found)) refl
-          (text_taken t l m from op Ascii operator optional c.requires.spot c.requires.at c.requires.field x found slots text m.joined taken.source taken.from taken.bytes text.text _ c.requires.no_constant
-          (subst (λ (b : Bool). (b ≡ false) ⊎ (first_bit (bits_left (at_place m.cursor from.place)) ≡ true)) c.uses_bit-has_bit.ensures (c.in-Sent.ensures.sent refl m.cursor c.requires.spot.place))
+          (text_taken t l m from op Ascii operator optional c.requires.spot c.requires.at c.requires.field x found slots text m.joined
+          taken.source taken.from taken.bytes text.text _ c.requires.no_constant
+          (subst (λ (b : Bool). (b ≡ false) ⊎ (first_bit (bits_left (at_place m.cursor from.place)) ≡ true)) c.uses_bit-has_bit.ensures
+          (c.in-Sent.ensures.sent refl m.cursor c.requires.spot.place))
           c.in-Some.ensures.terms c.in-Some.ensures.capacity refl
-          (c.in-Some.ensures.unit x (instruction t l m from.place op Ascii operator optional c.requires.spot c.requires.at c.requires.field x found) l.strict (bounds l) found
-          (shape_is t l m from.place op Ascii operator optional c.requires.spot c.requires.at c.requires.field x found) refl same (served t l m from.place op Ascii operator optional c.requires.spot c.requires.at c.requires.field x found))
-          (subst (λ (s : List ℕ). option_map scalar_data c.ascii_at-value.result ≡ value_at taken.source f (slots_dictionary slots) s (drop taken.from (take taken.bytes from.rest.now))) c.as_slice-text.ensures
+          (c.in-Some.ensures.unit x (instruction t l m from.place op Ascii operator optional c.requires.spot c.requires.at c.requires.field
+          x found) l.strict (bounds l) found
+          (shape_is t l m from.place op Ascii operator optional c.requires.spot c.requires.at c.requires.field x found) refl same
+          (served t l m from.place op Ascii operator optional c.requires.spot c.requires.at c.requires.field x found))
+          (subst (λ (s : List ℕ). option_map scalar_data c.ascii_at-value.result ≡ value_at taken.source f (slots_dictionary slots) s
+          (drop taken.from (take taken.bytes from.rest.now))) c.as_slice-text.ensures
           (c.ascii_at-value.ensures f optional operator (drop taken.from (take taken.bytes from.rest.now)) same c.in-Some.ensures.source)));
     }
 
@@ -85,17 +92,23 @@ returns-in-None g c =
     let (x, found) = op_node t m from.place op c.requires.at in
     let f = field_of t l m from.place op Ascii operator optional c.requires.spot c.requires.at c.requires.field x found in
     let own = as_coded t l m from.place op Ascii operator optional c.requires.spot c.requires.at c.requires.field x found in
-    let same : record m { slots = slots; text = text } ≡ m = ap (λ (s : Slots). record m { slots = s; text = text }) none.0 ∙ ap (λ (v : Scratch). record m { text = v }) none.1 in
-    let told = subst (λ (a : Machine). kept.result ≡ true → IsKeptAs Text a kept.new.machine from.rest.now × (0 < length from.rest.now) × ((nullable : Bool) → ascii_text nullable (slots_terms a.slots).max_text from.rest.now [] cut)) same kept.ensures.kept in
+    let same : record m {
+      slots = slots;
+      text = text;
+    } ≡ m = ap (λ (s : Slots). record m { slots = s; text = text }) none.0 ∙ ap (λ (v : Scratch). record m { text = v }) none.1 in
+    let told = subst (λ (a : Machine). kept.result ≡ true → IsKeptAs Text a kept.new.machine from.rest.now × (0 < length from.rest.now)
+    × ((nullable : Bool) → ascii_text nullable (slots_terms a.slots).max_text from.rest.now [] cut)) same kept.ensures.kept in
     record {
       went = kept_or_not g.S.Sink.takes g.S.Sink.stops (set_of t) l m kept.new.machine from done.new.spot done.result c.args.sink.now kept.result
           (λ e.
           let (in_hand, some, front) = told e in
           let (waits, place, end) = done.ensures.kept e in
-          ascii_went g.S.Sink.takes g.S.Sink.stops (set_of t) l m kept.new.machine from done.new.spot done.result c.args.sink.now waits place end c.requires.spot t.nodes_name_later_nodes op.node f
+          ascii_went g.S.Sink.takes g.S.Sink.stops (set_of t) l m kept.new.machine from done.new.spot done.result c.args.sink.now waits
+          place end c.requires.spot t.nodes_name_later_nodes op.node f
           (at_field t l m from.place op Ascii operator optional c.requires.spot c.requires.at c.requires.field x found)
           (is_sent t l m from.place op Ascii operator optional c.requires.spot c.requires.at c.requires.field x found c.requires.no_constant
-          (subst (λ (b : Bool). (b ≡ false) ⊎ (first_bit (bits_left (at_place m.cursor from.place)) ≡ true)) c.uses_bit-has_bit.ensures (c.in-Sent.ensures.sent refl m.cursor c.requires.spot.place)))
+          (subst (λ (b : Bool). (b ≡ false) ⊎ (first_bit (bits_left (at_place m.cursor from.place)) ≡ true)) c.uses_bit-has_bit.ensures
+          (c.in-Sent.ensures.sent refl m.cursor c.requires.spot.place)))
           (own.kind, λ i. c.requires.no_delta (sym own.operator ∙ i)) in_hand some
           (λ nullable. subst (λ (most : ℕ). ascii_text nullable most from.rest.now [] cut) c.requires.spot.can.supplied.max_text (front nullable)))
           done.ensures.declined (λ e. kept.ensures.same e ∙ same);

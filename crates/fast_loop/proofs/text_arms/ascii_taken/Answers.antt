@@ -13,7 +13,8 @@ use Rattle.fast_machine.specs.device.Positions.{set_of}
 use Rattle.fast_loop.proofs.text_arms.ascii_taken.Goals as goal
 
 pub returns-in-Some-clause-unit : goal.returns-in-Some-clause-unit
-returns-in-Some-clause-unit c x i strict b found shape room said serves = c.in-Some.ensures.unit (field_data i) strict b (room ∙ sym c.requires.limit) said serves
+returns-in-Some-clause-unit c x i strict b found shape room said serves =
+    c.in-Some.ensures.unit (field_data i) strict b (room ∙ sym c.requires.limit) said serves
 
 pub returns-in_ok-bytes-in-Tail-clause-unit : goal.returns-in_ok-bytes-in-Tail-clause-unit
 returns-in_ok-bytes-in-Tail-clause-unit c =

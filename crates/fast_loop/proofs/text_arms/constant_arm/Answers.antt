@@ -19,7 +19,9 @@ returns g c =
     let same : own ≡ i = same_field own i (sym shape ∙ c.in-Some.ensures x found) in
     record {
       went = c.hand_unsent.ensures.went (set_of t) c.args.limits m m (field_data i) true
-          (sym (constant_bit i (ap (λ (k : FieldInstruction). k.operator) (sym same) ∙ operator) (ap (λ (k : FieldInstruction). k.optional) (sym same) ∙ optional))) refl
+          (sym (constant_bit i (ap (λ (k : FieldInstruction). k.operator) (sym same) ∙ operator)
+          (ap (λ (k : FieldInstruction). k.optional) (sym same) ∙ optional))) refl
           (constant_unsent t c.args.limits m p c.args.op.now i x _ c.requires.spot c.requires.at found (c.in-Some.ensures x found)
-          (ap (λ (k : FieldInstruction). k.operator) (sym same) ∙ operator) (ap (λ (k : FieldInstruction). k.optional) (sym same) ∙ optional) c.initial_value-value.ensures);
+          (ap (λ (k : FieldInstruction). k.operator) (sym same) ∙ operator)
+          (ap (λ (k : FieldInstruction). k.optional) (sym same) ∙ optional) c.initial_value-value.ensures);
     }

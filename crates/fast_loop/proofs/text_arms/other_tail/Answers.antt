@@ -10,9 +10,12 @@ use Rattle.fast_machine.specs.device.Positions.{set_of}
 use Rattle.fast_loop.proofs.text_arms.other_tail.Goals as goal
 
 pub returns-in-Some-clause-unit : goal.returns-in-Some-clause-unit
-returns-in-Some-clause-unit c x i strict b found shape room said serves = c.in-Some.ensures.unit (field_data i) strict b (room ∙ sym c.max_text-max_text.ensures) said serves
+returns-in-Some-clause-unit c x i strict b found shape room said serves =
+    c.in-Some.ensures.unit (field_data i) strict b (room ∙ sym c.max_text-max_text.ensures) said serves
 
 pub returns-clause-unit : goal.returns-clause-unit
 returns-clause-unit c =
-    subst (λ (s : Slots). IsOpText (set_of c.args.templates.now) c.args.op.now Tail c.args.optional (slots_terms s).max_text c.args.rest.now s c.first_tail.new.slots c.first_tail.new.scratch.text (text_taken Tail c.in_ok-bytes.bytes))
+    subst (λ (s : Slots). IsOpText (set_of c.args.templates.now) c.args.op.now Tail c.args.optional
+    (slots_terms s).max_text c.args.rest.now s c.first_tail.new.slots c.first_tail.new.scratch.text
+    (text_taken Tail c.in_ok-bytes.bytes))
     c.in_default.ensures.none.0 (c.in_ok-bytes.ensures.unit c.args.optional)

@@ -13,7 +13,8 @@ unsent_ascii-requires g c =
     let p = c.args.spot.now.place in
     let (x, found) = op_node c.args.templates.now m p c.args.op.now c.requires.at in
     record {
-      within = entry_there c.args.templates.now c.args.limits m p c.args.op.now Ascii c.args.operator c.args.optional c.requires.spot c.requires.at c.requires.field x found (keeps_text c.args.operator c.in-Copy.is).0;
+      within = entry_there c.args.templates.now c.args.limits m p c.args.op.now Ascii c.args.operator c.args.optional c.requires.spot
+          c.requires.at c.requires.field x found (keeps_text c.args.operator c.in-Copy.is).0;
     }
 
 pub returns-in-Some : goal.returns-in-Some
@@ -30,7 +31,8 @@ returns-in-Some g c =
     record {
       went = c.hand_unsent.ensures.went (set_of t) l m m f false
           (sym (uses_as t l m p op Ascii operator optional c.requires.spot c.requires.at c.requires.field x found ∙ c.requires.uses)) refl
-          (text_unsent t l m p op Ascii operator optional c.requires.spot c.requires.at c.requires.field x found c.in-Some.source _ [] _ c.in-Copy.is c.requires.uses c.requires.clear c.in-Some.ensures.decided
+          (text_unsent t l m p op Ascii operator optional c.requires.spot c.requires.at c.requires.field x found c.in-Some.source _
+          [] _ c.in-Copy.is c.requires.uses c.requires.clear c.in-Some.ensures.decided
           (c.ascii_at-value.ensures f optional operator [] (as_coded t l m p op Ascii operator optional c.requires.spot c.requires.at c.requires.field x found)
           (c.in-Some.ensures.source operator (keeps_text operator c.in-Copy.is).0)));
     }

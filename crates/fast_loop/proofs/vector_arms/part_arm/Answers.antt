@@ -22,7 +22,8 @@ sent_delta-requires-clause-there g c =
     let m = c.args.machine.now in
     let p = c.args.spot.now.place in
     let (x, found) = op_node c.args.templates.now m p c.args.op.now c.requires.at in
-    entry_there c.args.templates.now c.args.limits m p c.args.op.now c.args.kind Delta c.args.optional c.requires.spot c.requires.at c.requires.field x found refl
+    entry_there c.args.templates.now c.args.limits m p c.args.op.now c.args.kind Delta c.args.optional c.requires.spot c.requires.at
+    c.requires.field x found refl
 
 pub kept_at-value-requires-clause-there : goal.kept_at-value-requires-clause-there
 kept_at-value-requires-clause-there g c =
@@ -30,7 +31,8 @@ kept_at-value-requires-clause-there g c =
     let p = c.args.spot.now.place in
     let (x, found) = op_node c.args.templates.now m p c.args.op.now c.requires.at in
     entry_kept c.args.op.now.entry m.slots c.sent_delta.new.slots c.in-Some.ensures.terms
-    (entry_there c.args.templates.now c.args.limits m p c.args.op.now c.args.kind Delta c.args.optional c.requires.spot c.requires.at c.requires.field x found refl)
+    (entry_there c.args.templates.now c.args.limits m p c.args.op.now c.args.kind Delta c.args.optional c.requires.spot c.requires.at
+    c.requires.field x found refl)
 
 pub returns-in-Some : goal.returns-in-Some
 returns-in-Some g c =
@@ -50,7 +52,8 @@ returns-in-Some g c =
     record {
       went = c.hand_taken.ensures.went (set_of t) l m (record m { slots = slots; joined = joined }) f
           (sym (uses_as t l m from.place op kind Delta optional c.requires.spot c.requires.at c.requires.field x found)) refl
-          (text_taken t l m from op kind Delta optional c.requires.spot c.requires.at c.requires.field x found slots m.text joined taken.source taken.from taken.bytes [] (option_map scalar_data c.kept_at-value.result) (λ e. cc e)
+          (text_taken t l m from op kind Delta optional c.requires.spot c.requires.at c.requires.field x found slots m.text joined
+          taken.source taken.from taken.bytes [] (option_map scalar_data c.kept_at-value.result) (λ e. cc e)
           (inl refl) c.in-Some.ensures.terms refl c.in-Some.ensures.joined
           (c.in-Some.ensures.unit f [] same (served t l m from.place op kind Delta optional c.requires.spot c.requires.at c.requires.field x found))
           (c.kept_at-value.ensures f optional Delta [] (drop taken.from (take taken.bytes from.rest.now)) same refl));
@@ -62,7 +65,8 @@ keep_delta-kept-requires-clause-there g c =
     let p = c.args.spot.now.place in
     let (x, found) = op_node c.args.templates.now m p c.args.op.now c.requires.at in
     subst (λ (s : Slots). c.args.op.now.entry < length (slots_dictionary s)) (sym c.in-None.ensures.none.0)
-    (entry_there c.args.templates.now c.args.limits m p c.args.op.now c.args.kind Delta c.args.optional c.requires.spot c.requires.at c.requires.field x found refl)
+    (entry_there c.args.templates.now c.args.limits m p c.args.op.now c.args.kind Delta c.args.optional c.requires.spot c.requires.at
+    c.requires.field x found refl)
 
 pub returns-in-None : goal.returns-in-None
 returns-in-None g c =
@@ -80,17 +84,24 @@ returns-in-None g c =
     let done = c.kept_or_declined in
     let (x, found) = op_node t m from.place op c.requires.at in
     let f = field_of t l m from.place op kind Delta optional c.requires.spot c.requires.at c.requires.field x found in
-    let same : record m { slots = slots; joined = joined } ≡ m = ap (λ (s : Slots). record m { slots = s; joined = joined }) none.0 ∙ ap (λ (j : Scratch). record m { joined = j }) none.1 in
-    let told = subst (λ (a : Machine). kept.result ≡ true → (r : BegunText) × IsKeptFrom a kept.new.machine from.rest.now r × IsBegunText kind optional Delta op.entry l.strict (slots_terms a.slots).max_text from.rest.now a.slots r) same kept.ensures.kept in
+    let same : record m {
+      slots = slots;
+      joined = joined;
+    } ≡ m = ap (λ (s : Slots). record m { slots = s; joined = joined }) none.0 ∙ ap (λ (j : Scratch). record m { joined = j }) none.1 in
+    let told = subst (λ (a : Machine). kept.result ≡ true → (r : BegunText) × IsKeptFrom a kept.new.machine from.rest.now r
+    × IsBegunText kind optional Delta op.entry l.strict (slots_terms a.slots).max_text from.rest.now a.slots r) same
+    kept.ensures.kept in
     record {
       went = kept_or_not g.S.Sink.takes g.S.Sink.stops (set_of t) l m kept.new.machine from done.new.spot done.result c.args.sink.now kept.result
           (λ e.
           let (r, in_hand, begun) = told e in
           let (waits, place, end) = done.ensures.kept e in
-          begun_went g.S.Sink.takes g.S.Sink.stops (set_of t) l m kept.new.machine from done.new.spot done.result c.args.sink.now waits place end c.requires.spot t.nodes_name_later_nodes op.node f
+          begun_went g.S.Sink.takes g.S.Sink.stops (set_of t) l m kept.new.machine from done.new.spot done.result c.args.sink.now waits
+          place end c.requires.spot t.nodes_name_later_nodes op.node f
           (at_field t l m from.place op kind Delta optional c.requires.spot c.requires.at c.requires.field x found)
           (is_sent t l m from.place op kind Delta optional c.requires.spot c.requires.at c.requires.field x found (λ i. cc i) (inl refl)) r in_hand
-          (begun f (bounds l) (sym c.requires.spot.can.supplied.max_text) (as_coded t l m from.place op kind Delta optional c.requires.spot c.requires.at c.requires.field x found)
+          (begun f (bounds l) (sym c.requires.spot.can.supplied.max_text)
+          (as_coded t l m from.place op kind Delta optional c.requires.spot c.requires.at c.requires.field x found)
           (served t l m from.place op kind Delta optional c.requires.spot c.requires.at c.requires.field x found)))
           done.ensures.declined (λ e. kept.ensures.same e ∙ same);
     }

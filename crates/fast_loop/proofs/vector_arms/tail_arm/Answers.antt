@@ -21,7 +21,8 @@ sent_tail-requires-clause-there g c =
     let m = c.args.machine.now in
     let p = c.args.spot.now.place in
     let (x, found) = op_node c.args.templates.now m p c.args.op.now c.requires.at in
-    entry_there c.args.templates.now c.args.limits m p c.args.op.now c.args.kind Tail c.args.optional c.requires.spot c.requires.at c.requires.field x found refl
+    entry_there c.args.templates.now c.args.limits m p c.args.op.now c.args.kind Tail c.args.optional c.requires.spot c.requires.at
+    c.requires.field x found refl
 
 pub kept_at-value-requires-clause-there : goal.kept_at-value-requires-clause-there
 kept_at-value-requires-clause-there g c =
@@ -29,7 +30,8 @@ kept_at-value-requires-clause-there g c =
     let p = c.args.spot.now.place in
     let (x, found) = op_node c.args.templates.now m p c.args.op.now c.requires.at in
     entry_kept c.args.op.now.entry m.slots c.sent_tail.new.slots c.in-Some.ensures.terms
-    (entry_there c.args.templates.now c.args.limits m p c.args.op.now c.args.kind Tail c.args.optional c.requires.spot c.requires.at c.requires.field x found refl)
+    (entry_there c.args.templates.now c.args.limits m p c.args.op.now c.args.kind Tail c.args.optional c.requires.spot c.requires.at
+    c.requires.field x found refl)
 
 pub returns-in-Some : goal.returns-in-Some
 returns-in-Some g c =
@@ -48,7 +50,8 @@ returns-in-Some g c =
     record {
       went = c.hand_taken.ensures.went (set_of t) l m (record m { slots = slots }) f
           (sym (uses_as t l m from.place op kind Tail optional c.requires.spot c.requires.at c.requires.field x found)) refl
-          (text_taken t l m from op kind Tail optional c.requires.spot c.requires.at c.requires.field x found slots m.text m.joined taken.source taken.from taken.bytes [] (option_map scalar_data c.kept_at-value.result) (λ e. cc e)
+          (text_taken t l m from op kind Tail optional c.requires.spot c.requires.at c.requires.field x found slots m.text m.joined
+          taken.source taken.from taken.bytes [] (option_map scalar_data c.kept_at-value.result) (λ e. cc e)
           (c.in-Sent.ensures.sent refl m.cursor c.requires.spot.place) c.in-Some.ensures.terms refl refl
           (c.in-Some.ensures.unit f [] same (served t l m from.place op kind Tail optional c.requires.spot c.requires.at c.requires.field x found))
           (c.kept_at-value.ensures f optional Tail [] (drop taken.from (take taken.bytes from.rest.now)) same refl));
@@ -77,10 +80,13 @@ returns-in-None g c =
           (λ e.
           let (r, in_hand, begun) = told e in
           let (waits, place, end) = done.ensures.kept e in
-          begun_went g.S.Sink.takes g.S.Sink.stops (set_of t) l m kept.new.machine from done.new.spot done.result c.args.sink.now waits place end c.requires.spot t.nodes_name_later_nodes op.node f
+          begun_went g.S.Sink.takes g.S.Sink.stops (set_of t) l m kept.new.machine from done.new.spot done.result c.args.sink.now waits
+          place end c.requires.spot t.nodes_name_later_nodes op.node f
           (at_field t l m from.place op kind Tail optional c.requires.spot c.requires.at c.requires.field x found)
-          (is_sent t l m from.place op kind Tail optional c.requires.spot c.requires.at c.requires.field x found (λ i. cc i) (c.in-Sent.ensures.sent refl m.cursor c.requires.spot.place)) r in_hand
-          (begun op.entry m.slots f (bounds l) (sym c.requires.spot.can.supplied.max_text) (as_coded t l m from.place op kind Tail optional c.requires.spot c.requires.at c.requires.field x found)
+          (is_sent t l m from.place op kind Tail optional c.requires.spot c.requires.at c.requires.field x found (λ i. cc i)
+          (c.in-Sent.ensures.sent refl m.cursor c.requires.spot.place)) r in_hand
+          (begun op.entry m.slots f (bounds l) (sym c.requires.spot.can.supplied.max_text)
+          (as_coded t l m from.place op kind Tail optional c.requires.spot c.requires.at c.requires.field x found)
           (served t l m from.place op kind Tail optional c.requires.spot c.requires.at c.requires.field x found)))
           done.ensures.declined (λ e. kept.ensures.same e ∙ same);
     }

@@ -12,14 +12,18 @@ unsent_text-requires g c =
     let m = c.args.machine.now in
     let p = c.args.spot.now.place in
     let (x, found) = op_node c.args.templates.now m p c.args.op.now c.requires.at in
-    record { there = entry_there c.args.templates.now c.args.limits m p c.args.op.now c.args.kind Tail c.args.optional c.requires.spot c.requires.at c.requires.field x found refl }
+    record {
+      there = entry_there c.args.templates.now c.args.limits m p c.args.op.now c.args.kind Tail c.args.optional c.requires.spot
+          c.requires.at c.requires.field x found refl;
+    }
 
 pub kept_at-value-requires-clause-there : goal.kept_at-value-requires-clause-there
 kept_at-value-requires-clause-there g c =
     let m = c.args.machine.now in
     let p = c.args.spot.now.place in
     let (x, found) = op_node c.args.templates.now m p c.args.op.now c.requires.at in
-    entry_there c.args.templates.now c.args.limits m p c.args.op.now c.args.kind Tail c.args.optional c.requires.spot c.requires.at c.requires.field x found refl
+    entry_there c.args.templates.now c.args.limits m p c.args.op.now c.args.kind Tail c.args.optional c.requires.spot c.requires.at
+    c.requires.field x found refl
 
 pub returns-in-Some : goal.returns-in-Some
 returns-in-Some g c =
@@ -35,6 +39,7 @@ returns-in-Some g c =
     record {
       went = c.hand_unsent.ensures.went (set_of t) l m m f false
           (sym (uses_as t l m p op kind Tail optional c.requires.spot c.requires.at c.requires.field x found)) refl
-          (text_unsent t l m p op kind Tail optional c.requires.spot c.requires.at c.requires.field x found c.in-Some.source [] [] _ (inr refl) refl c.requires.clear c.in-Some.ensures.decided
+          (text_unsent t l m p op kind Tail optional c.requires.spot c.requires.at c.requires.field x found c.in-Some.source [] [] _
+          (inr refl) refl c.requires.clear c.in-Some.ensures.decided
           (c.kept_at-value.ensures f optional Tail [] [] (as_coded t l m p op kind Tail optional c.requires.spot c.requires.at c.requires.field x found) refl));
     }

@@ -28,10 +28,14 @@ returns-in-Some g c =
     record {
       went = c.hand_taken.ensures.went (set_of t) l m m f
           (sym (uses_as t l m from.place op kind None optional c.requires.spot c.requires.at c.requires.field x found)) refl
-          (text_taken t l m from op kind None optional c.requires.spot c.requires.at c.requires.field x found m.slots m.text m.joined taken.source taken.from taken.bytes [] (option_map scalar_data c.lent_at-value.result) (λ e. cc e)
+          (text_taken t l m from op kind None optional c.requires.spot c.requires.at c.requires.field x found m.slots m.text m.joined
+          taken.source taken.from taken.bytes [] (option_map scalar_data c.lent_at-value.result) (λ e. cc e)
           (inl refl) refl refl refl
-          (c.in-Some.ensures.unit op.entry m.slots f [] same (served t l m from.place op kind None optional c.requires.spot c.requires.at c.requires.field x found))
-          (c.lent_at-value.ensures f (slots_dictionary m.slots) [] same.kind ∙ ap (value_at taken.source f (slots_dictionary m.slots) []) (bytes_between taken.from taken.bytes from.rest.now c.in-Some.ensures.within.0)));
+          (c.in-Some.ensures.unit op.entry m.slots f [] same (served t l m from.place op kind None optional c.requires.spot c.requires.at
+          c.requires.field x found))
+          (c.lent_at-value.ensures f (slots_dictionary m.slots) [] same.kind
+          ∙ ap (value_at taken.source f (slots_dictionary m.slots) [])
+          (bytes_between taken.from taken.bytes from.rest.now c.in-Some.ensures.within.0)));
     }
 
 pub returns-in-None : goal.returns-in-None
@@ -52,10 +56,12 @@ returns-in-None g c =
           (λ e.
           let (r, in_hand, begun) = kept.ensures.kept e in
           let (waits, place, end) = done.ensures.kept e in
-          begun_went g.S.Sink.takes g.S.Sink.stops (set_of t) l m kept.new.machine from done.new.spot done.result c.args.sink.now waits place end c.requires.spot t.nodes_name_later_nodes op.node f
+          begun_went g.S.Sink.takes g.S.Sink.stops (set_of t) l m kept.new.machine from done.new.spot done.result c.args.sink.now waits
+          place end c.requires.spot t.nodes_name_later_nodes op.node f
           (at_field t l m from.place op kind None optional c.requires.spot c.requires.at c.requires.field x found)
           (is_sent t l m from.place op kind None optional c.requires.spot c.requires.at c.requires.field x found (λ i. cc i) (inl refl)) r in_hand
-          (begun op.entry m.slots f (bounds l) (sym c.requires.spot.can.supplied.max_text) (as_coded t l m from.place op kind None optional c.requires.spot c.requires.at c.requires.field x found)
+          (begun op.entry m.slots f (bounds l) (sym c.requires.spot.can.supplied.max_text)
+          (as_coded t l m from.place op kind None optional c.requires.spot c.requires.at c.requires.field x found)
           (served t l m from.place op kind None optional c.requires.spot c.requires.at c.requires.field x found)))
           done.ensures.declined kept.ensures.same;
     }

@@ -22,8 +22,14 @@ returns-then-step-gt0-2 g c =
           rest = take_rest c.args.spot.now.rest.now c.general_step-step.result.bytes;
           waits = c.general_step-step.ensures.waits Silent (is) (λ e. cc e);
           place = c.place-spot.ensures.place;
-          step = took_handed g.S.Sink.takes g.S.Sink.stops (set_of c.args.templates.now) c.args.limits.now (placed c.args.machine.now c.args.spot.now.place) (placed c.general_step-step.new.machine c.place-spot.result) c.args.spot.now.rest.now c.args.sink.now c.general_step-step.result.bytes Silent c.general_step-step.new.sink c.if-step-gt0-2.true (λ e. cc e)
-              (step_at g.S.Sink.takes g.S.Sink.stops (set_of c.args.templates.now) c.args.limits.now c.args.machine.now c.args.spot.now c.args.sink.now c.set_place.new.self c.general_step-step.result.bytes (Ok Silent) c.general_step-step.result c.general_step-step.new.sink c.general_step-step.new.machine c.place-spot.result c.set_place.ensures refl (is) c.place-spot.ensures.same c.general_step-step.ensures.step);
+          step = took_handed g.S.Sink.takes g.S.Sink.stops (set_of c.args.templates.now) c.args.limits.now
+              (placed c.args.machine.now c.args.spot.now.place) (placed c.general_step-step.new.machine c.place-spot.result)
+              c.args.spot.now.rest.now c.args.sink.now c.general_step-step.result.bytes Silent c.general_step-step.new.sink
+              c.if-step-gt0-2.true (λ e. cc e)
+              (step_at g.S.Sink.takes g.S.Sink.stops (set_of c.args.templates.now) c.args.limits.now c.args.machine.now c.args.spot.now
+              c.args.sink.now c.set_place.new.self c.general_step-step.result.bytes
+              (Ok Silent) c.general_step-step.result c.general_step-step.new.sink c.general_step-step.new.machine c.place-spot.result
+              c.set_place.ensures refl (is) c.place-spot.ensures.same c.general_step-step.ensures.step);
         },
       );
     }
@@ -33,9 +39,16 @@ returns-in-Err g c = record {
   gone = (
     c.general_step-step.result.bytes,
     take_rest c.args.spot.now.rest.now c.general_step-step.result.bytes,
-    subst (λ (b : Machine). IsStep g.S.Sink.takes g.S.Sink.stops (set_of c.args.templates.now) c.args.limits.now (placed c.args.machine.now c.args.spot.now.place) c.args.spot.now.rest.now c.args.sink.now (record { bytes = c.general_step-step.result.bytes; turn = Err c.in-Err.code }) c.general_step-step.new.sink b)
+    subst (λ (b : Machine). IsStep g.S.Sink.takes g.S.Sink.stops (set_of c.args.templates.now) c.args.limits.now
+        (placed c.args.machine.now c.args.spot.now.place) c.args.spot.now.rest.now c.args.sink.now (record {
+          bytes = c.general_step-step.result.bytes;
+          turn = Err c.in-Err.code;
+        }) c.general_step-step.new.sink b)
         (ap (λ (x : CursorData). record c.general_step-step.new.machine { cursor = x }) c.place-spot.ensures.same)
-        (step_at g.S.Sink.takes g.S.Sink.stops (set_of c.args.templates.now) c.args.limits.now c.args.machine.now c.args.spot.now c.args.sink.now c.set_place.new.self c.general_step-step.result.bytes (Err c.in-Err.code) c.general_step-step.result c.general_step-step.new.sink c.general_step-step.new.machine c.place-spot.result c.set_place.ensures refl (c.in-Err.is) c.place-spot.ensures.same c.general_step-step.ensures.step),
+        (step_at g.S.Sink.takes g.S.Sink.stops (set_of c.args.templates.now) c.args.limits.now c.args.machine.now c.args.spot.now
+        c.args.sink.now c.set_place.new.self c.general_step-step.result.bytes
+        (Err c.in-Err.code) c.general_step-step.result c.general_step-step.new.sink c.general_step-step.new.machine c.place-spot.result
+        c.set_place.ensures refl (c.in-Err.is) c.place-spot.ensures.same c.general_step-step.ensures.step),
   );
 }
 
@@ -48,7 +61,10 @@ returns-else-step-gt0 g c =
         rest = take_rest c.args.spot.now.rest.now c.general_step-step.result.bytes ∙ ap (λ k. drop k c.args.spot.now.rest.now) none;
         waits = c.general_step-step.ensures.waits Handed (is) (λ e. cc e);
         place = c.place-spot.ensures.place;
-        step = step_at g.S.Sink.takes g.S.Sink.stops (set_of c.args.templates.now) c.args.limits.now c.args.machine.now c.args.spot.now c.args.sink.now c.set_place.new.self 0 (Ok Handed) c.general_step-step.result c.general_step-step.new.sink c.general_step-step.new.machine c.place-spot.result c.set_place.ensures none (is) c.place-spot.ensures.same c.general_step-step.ensures.step;
+        step = step_at g.S.Sink.takes g.S.Sink.stops (set_of c.args.templates.now) c.args.limits.now c.args.machine.now c.args.spot.now
+            c.args.sink.now c.set_place.new.self 0 (Ok Handed) c.general_step-step.result c.general_step-step.new.sink
+            c.general_step-step.new.machine c.place-spot.result c.set_place.ensures none
+            (is) c.place-spot.ensures.same c.general_step-step.ensures.step;
       };
     }
 
@@ -61,7 +77,10 @@ returns-else-step-gt0-2 g c =
         rest = take_rest c.args.spot.now.rest.now c.general_step-step.result.bytes ∙ ap (λ k. drop k c.args.spot.now.rest.now) none;
         waits = c.general_step-step.ensures.waits Silent (is) (λ e. cc e);
         place = c.place-spot.ensures.place;
-        step = step_at g.S.Sink.takes g.S.Sink.stops (set_of c.args.templates.now) c.args.limits.now c.args.machine.now c.args.spot.now c.args.sink.now c.set_place.new.self 0 (Ok Silent) c.general_step-step.result c.general_step-step.new.sink c.general_step-step.new.machine c.place-spot.result c.set_place.ensures none (is) c.place-spot.ensures.same c.general_step-step.ensures.step;
+        step = step_at g.S.Sink.takes g.S.Sink.stops (set_of c.args.templates.now) c.args.limits.now c.args.machine.now c.args.spot.now
+            c.args.sink.now c.set_place.new.self 0 (Ok Silent) c.general_step-step.result c.general_step-step.new.sink
+            c.general_step-step.new.machine c.place-spot.result c.set_place.ensures none
+            (is) c.place-spot.ensures.same c.general_step-step.ensures.step;
       };
     }
 
@@ -76,8 +95,14 @@ returns-then-step-gt0 g c =
           rest = take_rest c.args.spot.now.rest.now c.general_step-step.result.bytes;
           waits = c.general_step-step.ensures.waits Handed (is) (λ e. cc e);
           place = c.place-spot.ensures.place;
-          step = took_handed g.S.Sink.takes g.S.Sink.stops (set_of c.args.templates.now) c.args.limits.now (placed c.args.machine.now c.args.spot.now.place) (placed c.general_step-step.new.machine c.place-spot.result) c.args.spot.now.rest.now c.args.sink.now c.general_step-step.result.bytes Handed c.general_step-step.new.sink c.if-step-gt0.true (λ e. cc e)
-              (step_at g.S.Sink.takes g.S.Sink.stops (set_of c.args.templates.now) c.args.limits.now c.args.machine.now c.args.spot.now c.args.sink.now c.set_place.new.self c.general_step-step.result.bytes (Ok Handed) c.general_step-step.result c.general_step-step.new.sink c.general_step-step.new.machine c.place-spot.result c.set_place.ensures refl (is) c.place-spot.ensures.same c.general_step-step.ensures.step);
+          step = took_handed g.S.Sink.takes g.S.Sink.stops (set_of c.args.templates.now) c.args.limits.now
+              (placed c.args.machine.now c.args.spot.now.place) (placed c.general_step-step.new.machine c.place-spot.result)
+              c.args.spot.now.rest.now c.args.sink.now c.general_step-step.result.bytes Handed c.general_step-step.new.sink
+              c.if-step-gt0.true (λ e. cc e)
+              (step_at g.S.Sink.takes g.S.Sink.stops (set_of c.args.templates.now) c.args.limits.now c.args.machine.now c.args.spot.now
+              c.args.sink.now c.set_place.new.self c.general_step-step.result.bytes
+              (Ok Handed) c.general_step-step.result c.general_step-step.new.sink c.general_step-step.new.machine c.place-spot.result
+              c.set_place.ensures refl (is) c.place-spot.ensures.same c.general_step-step.ensures.step);
         },
       );
     }
@@ -87,9 +112,16 @@ returns-in-Waits g c = record {
   gone = (
     c.general_step-step.result.bytes,
     take_rest c.args.spot.now.rest.now c.general_step-step.result.bytes,
-    subst (λ (b : Machine). IsStep g.S.Sink.takes g.S.Sink.stops (set_of c.args.templates.now) c.args.limits.now (placed c.args.machine.now c.args.spot.now.place) c.args.spot.now.rest.now c.args.sink.now (record { bytes = c.general_step-step.result.bytes; turn = Ok Waits }) c.general_step-step.new.sink b)
+    subst (λ (b : Machine). IsStep g.S.Sink.takes g.S.Sink.stops (set_of c.args.templates.now) c.args.limits.now
+        (placed c.args.machine.now c.args.spot.now.place) c.args.spot.now.rest.now c.args.sink.now (record {
+          bytes = c.general_step-step.result.bytes;
+          turn = Ok Waits;
+        }) c.general_step-step.new.sink b)
         (ap (λ (x : CursorData). record c.general_step-step.new.machine { cursor = x }) c.place-spot.ensures.same)
-        (step_at g.S.Sink.takes g.S.Sink.stops (set_of c.args.templates.now) c.args.limits.now c.args.machine.now c.args.spot.now c.args.sink.now c.set_place.new.self c.general_step-step.result.bytes (Ok Waits) c.general_step-step.result c.general_step-step.new.sink c.general_step-step.new.machine c.place-spot.result c.set_place.ensures refl (c.in-Ok.is ∙ ap Ok c.in-Waits.is) c.place-spot.ensures.same c.general_step-step.ensures.step),
+        (step_at g.S.Sink.takes g.S.Sink.stops (set_of c.args.templates.now) c.args.limits.now c.args.machine.now c.args.spot.now
+        c.args.sink.now c.set_place.new.self c.general_step-step.result.bytes
+        (Ok Waits) c.general_step-step.result c.general_step-step.new.sink c.general_step-step.new.machine c.place-spot.result
+        c.set_place.ensures refl (c.in-Ok.is ∙ ap Ok c.in-Waits.is) c.place-spot.ensures.same c.general_step-step.ensures.step),
   );
 }
 
@@ -97,7 +129,8 @@ pub set_place-requires : goal.set_place-requires
 set_place-requires g c = c.requires.spot.place
 
 pub general_step-step-requires-clause-turn : goal.general_step-step-requires-clause-turn
-general_step-step-requires-clause-turn g c = subst (λ (x : CursorData). CanTurn (set_of c.args.templates.now) c.args.limits.now (record c.args.machine.now { cursor = x })) (sym c.set_place.ensures) c.requires.spot.can
+general_step-step-requires-clause-turn g c = subst (λ (x : CursorData). CanTurn (set_of c.args.templates.now) c.args.limits.now
+    (record c.args.machine.now { cursor = x })) (sym c.set_place.ensures) c.requires.spot.can
 
 pub general_step-step-requires-clause-waits : goal.general_step-step-requires-clause-waits
 general_step-step-requires-clause-waits g c = c.requires.spot.waits

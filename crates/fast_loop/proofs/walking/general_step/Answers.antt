@@ -22,7 +22,8 @@ returns-then-not-goes_on-clause-step g c =
     let q = c.in-Some.quick in
     let b = c.take_last_number.new.self in
     let sink = c.take_last_number.new.sink in
-    so_far_end takes stops set l m rest s left c.loop-quick.sink c.loop-quick.machine q q.turn sink b refl (c.if-not-goes_on.ensures.off refl) c.loop-quick.invariant.far c.in-Some.ensures.step
+    so_far_end takes stops set l m rest s left c.loop-quick.sink c.loop-quick.machine q q.turn sink b refl
+    (c.if-not-goes_on.ensures.off refl) c.loop-quick.invariant.far c.in-Some.ensures.step
 
 pub returns-then-left-ge-FEW-clause-step : goal.returns-then-left-ge-FEW-clause-step
 returns-then-left-ge-FEW-clause-step g c =
@@ -38,9 +39,12 @@ returns-then-left-ge-FEW-clause-step g c =
     let b = c.take_last_number.new.self in
     let sink = c.take_last_number.new.sink in
     let (turn, is, on) = c.if-not-goes_on.ensures.on refl in
-    let far = so_far_step takes stops set l m rest s left c.loop-quick.sink c.loop-quick.machine q turn sink b is on c.loop-quick.invariant.far c.in-Some.ensures.step in
-    let fewer = fewer_left takes stops set l left q.bytes (length rest) c.in-Some.ensures.some c.in-Some.ensures.step.within c.loop-quick.invariant.far.within in
-    so_far_on takes stops set l m rest s (take (length left - q.bytes) (drop q.bytes left)) c.gone_on.result sink b c.gone_on.ensures.bytes c.gone_on.ensures.turn fewer far
+    let far = so_far_step takes stops set l m rest s left c.loop-quick.sink c.loop-quick.machine q turn sink b is on
+    c.loop-quick.invariant.far c.in-Some.ensures.step in
+    let fewer = fewer_left takes stops set l left q.bytes (length rest) c.in-Some.ensures.some c.in-Some.ensures.step.within
+    c.loop-quick.invariant.far.within in
+    so_far_on takes stops set l m rest s (take (length left - q.bytes) (drop q.bytes left)) c.gone_on.result sink b c.gone_on.ensures.bytes
+    c.gone_on.ensures.turn fewer far
 
 pub loop-quick-preserved : goal.loop-quick-preserved
 loop-quick-preserved g c =
@@ -56,8 +60,10 @@ loop-quick-preserved g c =
     let b = c.take_last_number.new.self in
     let sink = c.take_last_number.new.sink in
     let (turn, is, on) = c.if-not-goes_on.ensures.on refl in
-    let far = so_far_step takes stops set l m rest s left c.loop-quick.sink c.loop-quick.machine q turn sink b is on c.loop-quick.invariant.far c.in-Some.ensures.step in
-    let fewer = fewer_left takes stops set l left q.bytes (length rest) c.in-Some.ensures.some c.in-Some.ensures.step.within c.loop-quick.invariant.far.within in
+    let far = so_far_step takes stops set l m rest s left c.loop-quick.sink c.loop-quick.machine q turn sink b is on
+    c.loop-quick.invariant.far c.in-Some.ensures.step in
+    let fewer = fewer_left takes stops set l left q.bytes (length rest) c.in-Some.ensures.some c.in-Some.ensures.step.within
+    c.loop-quick.invariant.far.within in
     record {
       far = far;
       waits = c.take_last_number.ensures.waits;
@@ -85,7 +91,8 @@ returns-then-goes_on-clause-step g c =
     let (turn, is, on) = c.if-goes_on.ensures.on refl in
     let far = so_far_step takes stops set l m rest s left mid b q turn slow.new.sink slow.new.self is on before step in
     let fewer = fewer_left takes stops set l left q.bytes (length rest) (slow.ensures.some turn is on) step.within before.within in
-    so_far_on takes stops set l m rest s (take (length left - q.bytes) (drop q.bytes left)) c.gone_on-then-goes_on.result slow.new.sink slow.new.self c.gone_on-then-goes_on.ensures.bytes c.gone_on-then-goes_on.ensures.turn fewer far
+    so_far_on takes stops set l m rest s (take (length left - q.bytes) (drop q.bytes left)) c.gone_on-then-goes_on.result slow.new.sink
+    slow.new.self c.gone_on-then-goes_on.ensures.bytes c.gone_on-then-goes_on.ensures.turn fewer far
 
 pub returns-then-waits_at_once-clause-step : goal.returns-then-waits_at_once-clause-step
 returns-then-waits_at_once-clause-step g c =
@@ -123,7 +130,8 @@ returns-then-left-rest-clause-step g c =
     let before = so_far_as takes stops set l m rest s left mid b was.1 was.0 c.loop-quick.invariant.far in
     let none = c.waits_at_once.ensures.none c.if-waits_at_once.false in
     let done = c.gone_on-then-left-rest in
-    so_far_on takes stops set l m rest s left done.result c.waits_at_once.new.sink c.waits_at_once.new.self done.ensures.bytes done.ensures.turn c.if-left-rest.true
+    so_far_on takes stops set l m rest s left done.result c.waits_at_once.new.sink c.waits_at_once.new.self done.ensures.bytes
+    done.ensures.turn c.if-left-rest.true
     (so_far_as takes stops set l m rest s left c.waits_at_once.new.sink c.waits_at_once.new.self c.waits_at_once.ensures.same none before)
 
 pub returns-clause-step : goal.returns-clause-step
@@ -141,7 +149,8 @@ returns-clause-step g c =
     let start = c.loop-quick.invariant.same all in
     let t = c.step_by_turn in
     subst (λ (x : Machine). IsStep takes stops set l x rest c.args.sink.now t.result t.new.sink t.new.self) (none ∙ was.0 ∙ start.0)
-    (subst (λ x. IsStep takes stops set l c.waits_at_once.new.self rest x t.result t.new.sink t.new.self) (c.waits_at_once.ensures.same ∙ was.1 ∙ start.1) t.ensures.step)
+    (subst (λ x. IsStep takes stops set l c.waits_at_once.new.self rest x t.result t.new.sink t.new.self)
+    (c.waits_at_once.ensures.same ∙ was.1 ∙ start.1) t.ensures.step)
 
 pub returns-then-not-goes_on-clause-waits : goal.returns-then-not-goes_on-clause-waits
 returns-then-not-goes_on-clause-waits g c t e on = c.take_last_number.ensures.waits
@@ -156,7 +165,8 @@ pub returns-then-waits_at_once-clause-waits : goal.returns-then-waits_at_once-cl
 returns-then-waits_at_once-clause-waits g c t e on = c.take_slowly-step.ensures.waits t e on
 
 pub returns-then-left-rest-clause-waits : goal.returns-then-left-rest-clause-waits
-returns-then-left-rest-clause-waits g c t e on = ap (λ (x : Machine). x.waiting) (c.waits_at_once.ensures.none c.if-waits_at_once.false) ∙ c.take_last_number.ensures.waits
+returns-then-left-rest-clause-waits g c t e on = ap (λ (x : Machine). x.waiting) (c.waits_at_once.ensures.none c.if-waits_at_once.false)
+    ∙ c.take_last_number.ensures.waits
 
 pub returns-clause-waits : goal.returns-clause-waits
 returns-clause-waits g c t e on = c.step_by_turn.ensures.waits t e on
@@ -168,7 +178,10 @@ pub take_last_number-requires-clause-turn : goal.take_last_number-requires-claus
 take_last_number-requires-clause-turn g c = c.loop-quick.invariant.far.turn
 
 pub waits_at_once-requires : goal.waits_at_once-requires
-waits_at_once-requires g c = record { turn = subst (λ (x : Machine). CanTurn (set_of c.args.templates.now) c.args.limits.now x) (sym c.in_default.ensures.none.0) c.loop-quick.invariant.far.turn }
+waits_at_once-requires g c = record {
+  turn = subst (λ (x : Machine). CanTurn (set_of c.args.templates.now) c.args.limits.now x)
+      (sym c.in_default.ensures.none.0) c.loop-quick.invariant.far.turn;
+}
 
 pub take_slowly-step-requires : goal.take_slowly-step-requires
 take_slowly-step-requires g c = record { ready = c.waits_at_once.ensures.ready c.if-waits_at_once.true }
@@ -194,7 +207,8 @@ overflow_sub-result g c =
     let l = c.args.limits.now in
     let rest = c.args.rest.now in
     let left = c.loop-quick.left.now in
-    let fewer = fewer_left takes stops set l left c.in-Some.quick.bytes (length rest) c.in-Some.ensures.some c.in-Some.ensures.step.within c.loop-quick.invariant.far.within in
+    let fewer = fewer_left takes stops set l left c.in-Some.quick.bytes
+    (length rest) c.in-Some.ensures.some c.in-Some.ensures.step.within c.loop-quick.invariant.far.within in
     omega (arith, fewer)
 
 pub overflow_sub-rest : goal.overflow_sub-rest
@@ -205,7 +219,8 @@ overflow_sub-rest g c =
     let l = c.args.limits.now in
     let rest = c.args.rest.now in
     let left = c.loop-quick.left.now in
-    let fewer = fewer_left takes stops set l left c.in-Some.quick.bytes (length rest) c.in-Some.ensures.some c.in-Some.ensures.step.within c.loop-quick.invariant.far.within in
+    let fewer = fewer_left takes stops set l left c.in-Some.quick.bytes
+    (length rest) c.in-Some.ensures.some c.in-Some.ensures.step.within c.loop-quick.invariant.far.within in
     omega (arith, fewer)
 
 pub overflow_sub-rest-then-left-rest : goal.overflow_sub-rest-then-left-rest
@@ -241,7 +256,8 @@ overflow_sub-bytes g c =
 
 pub loop-quick-init : goal.loop-quick-init
 loop-quick-init g c = record {
-  far = so_far_none g.S.Sink.takes g.S.Sink.stops (set_of c.args.templates.now) c.args.limits.now c.args.machine.now c.args.rest.now c.args.sink.now c.requires.turn;
+  far = so_far_none g.S.Sink.takes g.S.Sink.stops (set_of c.args.templates.now) c.args.limits.now c.args.machine.now c.args.rest.now
+      c.args.sink.now c.requires.turn;
   waits = c.requires.waits;
   same = λ e. (refl, refl);
 }

@@ -12,14 +12,17 @@ use Rattle.fast_loop.proofs.arms.Ops.{not_end, node_below, get_behind}
 use Rattle.fast_loop.proofs.walking.op_at.Goals as goal
 
 -- the node that the op is one of
-suited : (c : goal.After-op) → c.op.result.now.code ≢ End → (x : Node) × (slice_get (set_of c.args.templates.now).nodes c.op.result.now.node ≡ Some x) × IsOpOf c.op.result.now c.op.result.now.node x.shape
+suited : (c : goal.After-op) → c.op.result.now.code ≢ End
+    → (x : Node) × (slice_get (set_of c.args.templates.now).nodes c.op.result.now.node ≡ Some x)
+    × IsOpOf c.op.result.now c.op.result.now.node x.shape
 suited c more =
     let nodes = (set_of c.args.templates.now).nodes in
     let op = c.op.result.now in
     let program = c.args.machine.now.cursor.ops in
     let (n, within, is) = c.requires.spot.place.ahead.end in
     let there : slice_get program n ≡ Some op = sym (get_behind program n) ∙ ap (λ (ahead : List Op). slice_get ahead 0) (sym is) ∙ c.op.ensures.here in
-    let suits : SuitNodes program nodes = subst (λ (ops : List Op). SuitNodes ops nodes) (c.program.ensures.is ∙ sym c.requires.spot.can.supplied.program) c.program.ensures.suits in
+    let suits : SuitNodes program nodes = subst (λ (ops : List Op). SuitNodes ops nodes)
+    (c.program.ensures.is ∙ sym c.requires.spot.can.supplied.program) c.program.ensures.suits in
     suits n op there (not_end op.code more)
 
 pub returns-clause-at : goal.returns-clause-at

@@ -8,8 +8,12 @@ pub returns-then-id-from-clause-some : goal.returns-then-id-from-clause-some
 returns-then-id-from-clause-some c =
     let id = c.in_ok-id.id in
     let (t, found, own, first) = c.in_ok-number.ensures.some in
-    let (u, there, is) = c.start_of.ensures.start in
-    (id, c.in_ok-id.was, start_numbered (set_of c.args.templates.now) id c.in_ok-number.number c.start_of.result.now t u c.start_of.ensures.number there is found own first)
+    let (u, there, is) = c.start_of.ensures.start in (
+      id,
+      c.in_ok-id.was,
+      start_numbered (set_of c.args.templates.now) id c.in_ok-number.number c.start_of.result.now t u
+          c.start_of.ensures.number there is found own first,
+    )
 
 pub returns-in_err-id-clause-some : goal.returns-in_err-id-clause-some
 returns-in_err-id-clause-some c = rw c.from_residual.ensures tt
@@ -21,7 +25,8 @@ pub returns-in_err-number-clause-some : goal.returns-in_err-number-clause-some
 returns-in_err-number-clause-some c = rw c.from_residual-in_err-number.ensures tt
 
 pub returns-in_err-number-clause-none : goal.returns-in_err-number-clause-none
-returns-in_err-number-clause-none c = rw c.from_residual-in_err-number.ensures (λ id j t is found own. c.in_err-number.ensures.none j t found (own ∙ sym is ∙ c.in_ok-id.was))
+returns-in_err-number-clause-none c = rw c.from_residual-in_err-number.ensures
+    (λ id j t is found own. c.in_err-number.ensures.none j t found (own ∙ sym is ∙ c.in_ok-id.was))
 
 pub returns-then-id-from-clause-none : goal.returns-then-id-from-clause-none
 returns-then-id-from-clause-none c = tt

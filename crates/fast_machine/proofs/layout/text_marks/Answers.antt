@@ -9,11 +9,13 @@ pub loop-n-preserved : goal.loop-n-preserved
 loop-n-preserved c =
     let nodes = nodes_of c.args.templates.now in
     let kept : take c.loop-n.marks.len (c.mark_node.new.marks ++ drop (length c.mark_node.new.marks) c.loop-n.marks.items) ≡ c.mark_node.new.marks =
-    written_back c.loop-n.marks.len c.mark_node.new.marks c.loop-n.marks.items c.loop-n.marks.ok.0 (c.mark_node.ensures.long ∙ ap length c.deref_mut.ensures.value) in
+    written_back c.loop-n.marks.len c.mark_node.new.marks c.loop-n.marks.items c.loop-n.marks.ok.0
+    (c.mark_node.ensures.long ∙ ap length c.deref_mut.ensures.value) in
     let old : c.deref_mut.result.now ≡ c.loop-n.marks.items = c.deref_mut.ensures.value in
     rw kept (record {
       long = c.mark_node.ensures.long ∙ ap length old ∙ c.loop-n.invariant.long;
-      marked = λ e. marked_more (slice_index_or c.deref_mut.result.now e false) (slice_index_or c.mark_node.new.marks e false) (rw old (c.loop-n.invariant.marked e)) (c.mark_node.ensures.marked e)
+      marked = λ e. marked_more (slice_index_or c.deref_mut.result.now e false) (slice_index_or c.mark_node.new.marks e false)
+          (rw old (c.loop-n.invariant.marked e)) (c.mark_node.ensures.marked e)
           (field_more (HoldsTextAt e) nodes c.loop-n.n c.node.result.now c.node.ensures.found);
     })
 

@@ -10,5 +10,6 @@ use Rattle.fast_machine.proofs.layout.text_marks.Given as goal
 abbrev pub invariant-loop-n : goal.invariant-loop-n
 invariant-loop-n l = record {
   long : length l.marks.items ≡ (tree_of l.templates).entries;
-  marked : (e : ℕ) → IsTrue (slice_index_or l.marks.items e false) ↔ ((k : ℕ) × (v : Node) × (k < l.n) × (slice_get (nodes_of l.templates) k ≡ Some v) × AnyField (HoldsTextAt e) (shape_data v.shape));
+  marked : (e : ℕ) → IsTrue (slice_index_or l.marks.items e false) ↔
+      ((k : ℕ) × (v : Node) × (k < l.n) × (slice_get (nodes_of l.templates) k ≡ Some v) × AnyField (HoldsTextAt e) (shape_data v.shape));
 }

@@ -49,19 +49,25 @@ read_body-loop-i-preserved t c =
     elim c.if-names.branch [
       | read_body-then-names+in_ok-item+in_ok-push w ↦
           rw (w.place-is, w.slots-is) (
-          subst (λ (z : List (Option Item)). IsReadTo set (body_among nodes body) z (body_among nodes (drop (i + 1) body)) c.args.at w.in_ok-item.next) (sym {A = List (Option Item)} w.in_ok-push.ensures.ok)
-          (present_at set nodes body i (slice_index body i) inside refl own xs c.args.at c.loop-i.place c.loop-i.invariant w.in_ok-item.item w.in_ok-item.next (c.names.ensures.0 w.if-names.true) w.in_ok-item.ensures.ok)
+          subst (λ (z : List (Option Item)). IsReadTo set (body_among nodes body) z
+          (body_among nodes (drop (i + 1) body)) c.args.at w.in_ok-item.next) (sym {A = List (Option Item)} w.in_ok-push.ensures.ok)
+          (present_at set nodes body i (slice_index body i) inside refl own xs c.args.at c.loop-i.place c.loop-i.invariant
+          w.in_ok-item.item w.in_ok-item.next (c.names.ensures.0 w.if-names.true) w.in_ok-item.ensures.ok)
           )
       | read_body-else-names+then-may_be_passed+in_ok-push-2 w ↦
           rw (w.place-is, w.slots-is) (
-          subst (λ (z : List (Option Item)). IsReadTo set (body_among nodes body) z (body_among nodes (drop (i + 1) body)) c.args.at c.loop-i.place) (sym {A = List (Option Item)} w.in_ok-push-2.ensures.ok)
-          (absent_at set nodes body i (slice_index body i) inside refl own xs c.args.at c.loop-i.place c.loop-i.invariant (λ h. absurd (cc (w.if-names.false, c.names.ensures.1 h))) (w.may_be_passed.ensures.0 w.if-may_be_passed.true))
+          subst (λ (z : List (Option Item)). IsReadTo set (body_among nodes body) z
+          (body_among nodes (drop (i + 1) body)) c.args.at c.loop-i.place) (sym {A = List (Option Item)} w.in_ok-push-2.ensures.ok)
+          (absent_at set nodes body i (slice_index body i) inside refl own xs c.args.at c.loop-i.place c.loop-i.invariant
+          (λ h. absurd (cc (w.if-names.false, c.names.ensures.1 h))) (w.may_be_passed.ensures.0 w.if-may_be_passed.true))
           )
     ]
 
 pub read_body-returns-clause-ok : goal.read_body-returns-clause-ok
 read_body-returns-clause-ok t c =
-    body_ended (tree_of c.args.templates.now) (nodes_of c.args.templates.now) c.args.body.now c.loop-i.i c.loop-i.slots.items c.args.ending c.args.at c.loop-i.place c.in_ok-next.next c.loop-i-test.false c.loop-i.invariant (c.if-not-is_ending.ensures.0 refl) c.in_ok-next.ensures.ok
+    body_ended (tree_of c.args.templates.now) (nodes_of c.args.templates.now) c.args.body.now c.loop-i.i c.loop-i.slots.items c.args.ending
+    c.args.at c.loop-i.place c.in_ok-next.next c.loop-i-test.false c.loop-i.invariant
+    (c.if-not-is_ending.ensures.0 refl) c.in_ok-next.ensures.ok
 
 pub read_item-read_value-requires-clause-field : goal.read_item-read_value-requires-clause-field
 read_item-read_value-requires-clause-field t c =
@@ -76,8 +82,11 @@ read_item-returns-in_ok-slots-in-Group-clause-ok t c =
     let n = c.args.node in
     let v = c.node.result.now in
     let slots = c.in_ok-slots-in-Group.slots in
-    group_read (tree_of c.args.templates.now) n (instruction_in nodes n) (label_of n v) c.in-Group.optional (body_among nodes c.in-Group.body.items) (slots_data slots.items) (item_data (V.Group slots)) c.args.at c.in_ok-next-in-Group.next c.in_ok-slots-in-Group.next
-    (at_shape nodes n v (Group c.in-Group.optional c.in-Group.body) c.node.ensures.found c.node.ensures.body c.in-Group.is) refl (item_data-Group slots) c.requires.named c.in_ok-next-in-Group.ensures.ok
+    group_read (tree_of c.args.templates.now) n (instruction_in nodes n) (label_of n v) c.in-Group.optional
+    (body_among nodes c.in-Group.body.items) (slots_data slots.items)
+    (item_data (V.Group slots)) c.args.at c.in_ok-next-in-Group.next c.in_ok-slots-in-Group.next
+    (at_shape nodes n v (Group c.in-Group.optional c.in-Group.body) c.node.ensures.found c.node.ensures.body c.in-Group.is) refl
+    (item_data-Group slots) c.requires.named c.in_ok-next-in-Group.ensures.ok
     (rw c.deref.ensures.value at c.in_ok-slots-in-Group.ensures.ok)
 
 pub read_item-returns-in_ok-rows-in-Sequence-clause-ok : goal.read_item-returns-in_ok-rows-in-Sequence-clause-ok
@@ -87,8 +96,11 @@ read_item-returns-in_ok-rows-in-Sequence-clause-ok t c =
     let v = c.node.result.now in
     let rows = c.in_ok-rows-in-Sequence.rows in
     let few : c.count_of-count.result < 2 ^ 32 = search rules in
-    sequence_read (tree_of c.args.templates.now) n (instruction_in nodes n) (label_of n v) (field_data c.in-Sequence.length) (body_among nodes c.in-Sequence.body.items) (elements_data rows.items) c.count_of-count.result (item_data (V.Sequence rows)) c.args.at c.in_ok-next-in-Sequence.next c.in_ok-rows-in-Sequence.next
-    (at_shape nodes n v (Sequence c.in-Sequence.length c.in-Sequence.body) c.node.ensures.found c.node.ensures.body c.in-Sequence.is) refl (item_data-Sequence rows) few c.count_of-count.ensures c.requires.named c.in_ok-next-in-Sequence.ensures.ok
+    sequence_read (tree_of c.args.templates.now) n (instruction_in nodes n) (label_of n v) (field_data c.in-Sequence.length)
+    (body_among nodes c.in-Sequence.body.items) (elements_data rows.items) c.count_of-count.result
+    (item_data (V.Sequence rows)) c.args.at c.in_ok-next-in-Sequence.next c.in_ok-rows-in-Sequence.next
+    (at_shape nodes n v (Sequence c.in-Sequence.length c.in-Sequence.body) c.node.ensures.found c.node.ensures.body c.in-Sequence.is) refl
+    (item_data-Sequence rows) few c.count_of-count.ensures c.requires.named c.in_ok-next-in-Sequence.ensures.ok
     (rw c.deref-in-Sequence.ensures.value at c.in_ok-rows-in-Sequence.ensures.ok)
 
 pub read_rows-loop-rows-preserved : goal.read_rows-loop-rows-preserved
@@ -103,7 +115,8 @@ read_rows-loop-rows-preserved t c =
     let few = c.loop-rows.invariant.few in
     record {
       read = subst (λ (z : List (Vec (Option Item) Global)). AreReadTo set body z c.args.at c.in_ok-row.next) (sym c.in_ok-push.ensures.ok)
-          (rows_more set body rs r c.args.at c.loop-rows.place c.in_ok-next.next c.in_ok-row.next c.loop-rows.invariant.read (c.is_element.ensures.0 c.loop-rows-test.true) c.in_ok-next.ensures.ok c.in_ok-row.ensures.ok);
+          (rows_more set body rs r c.args.at c.loop-rows.place c.in_ok-next.next c.in_ok-row.next c.loop-rows.invariant.read
+          (c.is_element.ensures.0 c.loop-rows-test.true) c.in_ok-next.ensures.ok c.in_ok-row.ensures.ok);
       few = grind (arith, long, grown, one, few, c.has_all.ensures.1, c.if-has_all.false);
     }
 
@@ -113,7 +126,9 @@ read_rows-returns-clause-ok t c =
     let long : c.len-2.result ≡ length rs = c.len-2.ensures ∙ c.loop-rows.rows.ok.0 in
     let few = c.loop-rows.invariant.few in
     let many : length rs ≡ c.args.count = grind (arith, long, few, c.lacks_some.ensures.1, c.if-lacks_some.false) in
-    rows_done (tree_of c.args.templates.now) (body_among (nodes_of c.args.templates.now) c.args.body.now) rs c.args.count c.args.at c.loop-rows.place c.in_ok-next-2.next c.loop-rows.invariant.read many (c.if-not-is_sequence_end.ensures.0 refl) c.in_ok-next-2.ensures.ok
+    rows_done (tree_of c.args.templates.now) (body_among (nodes_of c.args.templates.now) c.args.body.now) rs c.args.count c.args.at
+    c.loop-rows.place c.in_ok-next-2.next c.loop-rows.invariant.read many
+    (c.if-not-is_sequence_end.ensures.0 refl) c.in_ok-next-2.ensures.ok
 
 pub read_body-loop-i-init : goal.read_body-loop-i-init
 read_body-loop-i-init t c =
@@ -121,7 +136,8 @@ read_body-loop-i-init t c =
     let nodes = nodes_of c.args.templates.now in
     let body = c.args.body.now in
     let whole = body_among nodes body in
-    subst (λ (z : List (Option Item)). IsReadTo set whole z whole c.args.at c.args.at) (sym {A = List (Option Item)} c.new-slots.ensures.items) (read_start set whole c.args.at)
+    subst (λ (z : List (Option Item)). IsReadTo set whole z whole c.args.at c.args.at)
+    (sym {A = List (Option Item)} c.new-slots.ensures.items) (read_start set whole c.args.at)
 
 pub read_body-returns-in_err-item-clause-refused : goal.read_body-returns-in_err-item-clause-refused
 read_body-returns-in_err-item-clause-refused t c =
@@ -133,8 +149,10 @@ read_body-returns-in_err-item-clause-refused t c =
     let inside : i < length body = omega arith in
     let own = numbered c.args.templates.now (slice_index body i) (c.requires i inside) in
     let p = err_from_is_err_and c.from_residual.result c.from_residual.ensures.1 in
-    rw p.1 (subst (OnBadLine (HasNoBody set whole c.args.ending c.args.at)) (sym p.2) (on_bad (HasNoItem set (instruction_in nodes (slice_index body i)) c.loop-i.place) (HasNoBody set whole c.args.ending c.args.at)
-    (λ none. item_at set nodes body i (slice_index body i) inside refl own c.loop-i.slots.items c.args.at c.loop-i.place c.loop-i.invariant c.args.ending (c.names.ensures.0 c.if-names.true) none)
+    rw p.1 (subst (OnBadLine (HasNoBody set whole c.args.ending c.args.at)) (sym p.2)
+    (on_bad (HasNoItem set (instruction_in nodes (slice_index body i)) c.loop-i.place) (HasNoBody set whole c.args.ending c.args.at)
+    (λ none. item_at set nodes body i (slice_index body i) inside refl own c.loop-i.slots.items c.args.at c.loop-i.place c.loop-i.invariant
+    c.args.ending (c.names.ensures.0 c.if-names.true) none)
     c.in_err-item.field-0.0 (c.in_err-item.ensures.refused)))
 
 pub read_body-returns-else-may_be_passed-clause-refused : goal.read_body-returns-else-may_be_passed-clause-refused
@@ -146,7 +164,9 @@ read_body-returns-else-may_be_passed-clause-refused t c =
     let i = c.loop-i.i in
     let inside : i < length body = omega arith in
     let own = numbered c.args.templates.now (slice_index body i) (c.requires i inside) in
-    mandatory_at set nodes body i (slice_index body i) inside refl own c.loop-i.slots.items c.args.at c.loop-i.place c.loop-i.invariant c.args.ending (λ h. absurd (cc (c.if-names.false, c.names.ensures.1 h))) (λ h. absurd (cc (c.if-may_be_passed.false, c.may_be_passed.ensures.1 h)))
+    mandatory_at set nodes body i (slice_index body i) inside refl own c.loop-i.slots.items c.args.at c.loop-i.place c.loop-i.invariant
+    c.args.ending (λ h. absurd (cc (c.if-names.false, c.names.ensures.1 h)))
+    (λ h. absurd (cc (c.if-may_be_passed.false, c.may_be_passed.ensures.1 h)))
 
 pub read_body-returns-then-not-is_ending-clause-refused : goal.read_body-returns-then-not-is_ending-clause-refused
 read_body-returns-then-not-is_ending-clause-refused t c =
@@ -154,7 +174,9 @@ read_body-returns-then-not-is_ending-clause-refused t c =
     let nodes = nodes_of c.args.templates.now in
     let body = c.args.body.now in
     let whole = body_among nodes body in
-    always (HasNoBody set whole c.args.ending c.args.at) c.fault.result (body_unended set nodes body c.loop-i.i c.loop-i.slots.items c.args.ending c.args.at c.loop-i.place c.loop-i-test.false c.loop-i.invariant (λ h. absurd (cc (c.if-not-is_ending.true, c.is_ending.ensures.1 h))))
+    always (HasNoBody set whole c.args.ending c.args.at) c.fault.result
+    (body_unended set nodes body c.loop-i.i c.loop-i.slots.items c.args.ending c.args.at c.loop-i.place c.loop-i-test.false
+    c.loop-i.invariant (λ h. absurd (cc (c.if-not-is_ending.true, c.is_ending.ensures.1 h))))
 
 pub read_body-returns-in_err-next-clause-refused : goal.read_body-returns-in_err-next-clause-refused
 read_body-returns-in_err-next-clause-refused t c =
@@ -163,8 +185,10 @@ read_body-returns-in_err-next-clause-refused t c =
     let body = c.args.body.now in
     let whole = body_among nodes body in
     let p = err_from_is_err_and c.from_residual-in_err-next.result c.from_residual-in_err-next.ensures.1 in
-    rw p.1 (subst (OnBadLine (HasNoBody set whole c.args.ending c.args.at)) (sym p.2) (on_bad (HasNoNext c.loop-i.place) (HasNoBody set whole c.args.ending c.args.at)
-    (λ none. place_refused set whole (body_among nodes (drop c.loop-i.i body)) c.loop-i.slots.items c.args.ending c.args.at c.loop-i.place c.loop-i.invariant none)
+    rw p.1 (subst (OnBadLine (HasNoBody set whole c.args.ending c.args.at)) (sym p.2)
+    (on_bad (HasNoNext c.loop-i.place) (HasNoBody set whole c.args.ending c.args.at)
+    (λ none. place_refused set whole (body_among nodes (drop c.loop-i.i body)) c.loop-i.slots.items c.args.ending c.args.at c.loop-i.place
+    c.loop-i.invariant none)
     c.in_err-next.field-0.0 (c.in_err-next.ensures.refused)))
 
 pub read_item-returns-in_err-next-in-Group-clause-refused : goal.read_item-returns-in_err-next-in-Group-clause-refused
@@ -188,8 +212,11 @@ read_item-returns-in_err-slots-in-Group-clause-refused t c =
     let i = instruction_in nodes n in
     let inner = body_among nodes c.in-Group.body.items in
     let p = err_from_is_err_and c.from_residual-in_err-slots-in-Group.result c.from_residual-in_err-slots-in-Group.ensures.1 in
-    rw p.1 (subst (OnBadLine (HasNoItem set i c.args.at)) (sym p.2) (on_bad (HasNoBody set inner Ends.Group c.in_ok-next-in-Group.next) (HasNoItem set i c.args.at)
-    (λ none. group_refused set i (label_of n v) c.in-Group.optional inner c.args.at c.in_ok-next-in-Group.next (at_shape nodes n v (Group c.in-Group.optional c.in-Group.body) c.node.ensures.found c.node.ensures.body c.in-Group.is) c.in_ok-next-in-Group.ensures.ok none)
+    rw p.1 (subst (OnBadLine (HasNoItem set i c.args.at)) (sym p.2)
+    (on_bad (HasNoBody set inner Ends.Group c.in_ok-next-in-Group.next) (HasNoItem set i c.args.at)
+    (λ none. group_refused set i (label_of n v) c.in-Group.optional inner c.args.at c.in_ok-next-in-Group.next
+    (at_shape nodes n v (Group c.in-Group.optional c.in-Group.body) c.node.ensures.found c.node.ensures.body c.in-Group.is)
+    c.in_ok-next-in-Group.ensures.ok none)
     c.in_err-slots-in-Group.field-0.0 (rw c.deref.ensures.value at c.in_err-slots-in-Group.ensures.refused)))
 
 pub read_item-returns-in_err-next-in-Sequence-clause-refused : goal.read_item-returns-in_err-next-in-Sequence-clause-refused
@@ -213,8 +240,11 @@ read_item-returns-in_err-rows-in-Sequence-clause-refused t c =
     let i = instruction_in nodes n in
     let inner = body_among nodes c.in-Sequence.body.items in
     let p = err_from_is_err_and c.from_residual-in_err-rows-in-Sequence.result c.from_residual-in_err-rows-in-Sequence.ensures.1 in
-    rw p.1 (subst (OnBadLine (HasNoItem set i c.args.at)) (sym p.2) (on_bad (HasNoRows set inner c.count_of-count.result c.in_ok-next-in-Sequence.next) (HasNoItem set i c.args.at)
-    (λ none. sequence_refused set i (label_of n v) (field_data c.in-Sequence.length) inner c.count_of-count.result c.args.at c.in_ok-next-in-Sequence.next (at_shape nodes n v (Sequence c.in-Sequence.length c.in-Sequence.body) c.node.ensures.found c.node.ensures.body c.in-Sequence.is) c.count_of-count.ensures c.in_ok-next-in-Sequence.ensures.ok none)
+    rw p.1 (subst (OnBadLine (HasNoItem set i c.args.at)) (sym p.2)
+    (on_bad (HasNoRows set inner c.count_of-count.result c.in_ok-next-in-Sequence.next) (HasNoItem set i c.args.at)
+    (λ none. sequence_refused set i (label_of n v) (field_data c.in-Sequence.length) inner c.count_of-count.result c.args.at
+    c.in_ok-next-in-Sequence.next (at_shape nodes n v (Sequence c.in-Sequence.length c.in-Sequence.body) c.node.ensures.found
+    c.node.ensures.body c.in-Sequence.is) c.count_of-count.ensures c.in_ok-next-in-Sequence.ensures.ok none)
     c.in_err-rows-in-Sequence.field-0.0 (rw c.deref-in-Sequence.ensures.value at c.in_err-rows-in-Sequence.ensures.refused)))
 
 pub read_rows-returns-then-has_all-clause-refused : goal.read_rows-returns-then-has_all-clause-refused
@@ -224,7 +254,9 @@ read_rows-returns-then-has_all-clause-refused t c =
     let rs = c.loop-rows.rows.items in
     let long : c.len.result ≡ length rs = c.len.ensures ∙ c.loop-rows.rows.ok.0 in
     let all : length rs ≡ c.args.count = sym long ∙ c.has_all.ensures.0 c.if-has_all.true in
-    always (HasNoRows set body c.args.count c.args.at) c.fault.result (rows_surplus set body rs c.args.count c.args.at c.loop-rows.place c.loop-rows.invariant.read (c.is_element.ensures.0 c.loop-rows-test.true) all)
+    always (HasNoRows set body c.args.count c.args.at) c.fault.result
+    (rows_surplus set body rs c.args.count c.args.at c.loop-rows.place c.loop-rows.invariant.read
+    (c.is_element.ensures.0 c.loop-rows-test.true) all)
 
 pub read_rows-returns-in_err-next-clause-refused : goal.read_rows-returns-in_err-next-clause-refused
 read_rows-returns-in_err-next-clause-refused t c =
@@ -232,7 +264,8 @@ read_rows-returns-in_err-next-clause-refused t c =
     let body = body_among (nodes_of c.args.templates.now) c.args.body.now in
     let rs = c.loop-rows.rows.items in
     let p = err_from_is_err_and c.from_residual.result c.from_residual.ensures.1 in
-    rw p.1 (subst (OnBadLine (HasNoRows set body c.args.count c.args.at)) (sym p.2) (on_bad (HasNoNext c.loop-rows.place) (HasNoRows set body c.args.count c.args.at)
+    rw p.1 (subst (OnBadLine (HasNoRows set body c.args.count c.args.at)) (sym p.2)
+    (on_bad (HasNoNext c.loop-rows.place) (HasNoRows set body c.args.count c.args.at)
     (λ none. rows_next set body rs c.args.count c.args.at c.loop-rows.place c.loop-rows.invariant.read none)
     c.in_err-next.field-0.0 (c.in_err-next.ensures.refused)))
 
@@ -242,8 +275,10 @@ read_rows-returns-in_err-row-clause-refused t c =
     let body = body_among (nodes_of c.args.templates.now) c.args.body.now in
     let rs = c.loop-rows.rows.items in
     let p = err_from_is_err_and c.from_residual-in_err-row.result c.from_residual-in_err-row.ensures.1 in
-    rw p.1 (subst (OnBadLine (HasNoRows set body c.args.count c.args.at)) (sym p.2) (on_bad (HasNoBody set body Ends.Element c.in_ok-next.next) (HasNoRows set body c.args.count c.args.at)
-    (λ none. rows_element set body rs c.args.count c.args.at c.loop-rows.place c.loop-rows.invariant.read c.in_ok-next.next (c.is_element.ensures.0 c.loop-rows-test.true) c.in_ok-next.ensures.ok none)
+    rw p.1 (subst (OnBadLine (HasNoRows set body c.args.count c.args.at)) (sym p.2)
+    (on_bad (HasNoBody set body Ends.Element c.in_ok-next.next) (HasNoRows set body c.args.count c.args.at)
+    (λ none. rows_element set body rs c.args.count c.args.at c.loop-rows.place c.loop-rows.invariant.read c.in_ok-next.next
+    (c.is_element.ensures.0 c.loop-rows-test.true) c.in_ok-next.ensures.ok none)
     c.in_err-row.field-0.0 (c.in_err-row.ensures.refused)))
 
 pub read_rows-returns-then-not-is_sequence_end-clause-refused : goal.read_rows-returns-then-not-is_sequence_end-clause-refused
@@ -251,7 +286,10 @@ read_rows-returns-then-not-is_sequence_end-clause-refused t c =
     let set = tree_of c.args.templates.now in
     let body = body_among (nodes_of c.args.templates.now) c.args.body.now in
     let rs = c.loop-rows.rows.items in
-    always (HasNoRows set body c.args.count c.args.at) c.fault-then-not-is_sequence_end.result (rows_misplaced set body rs c.args.count c.args.at c.loop-rows.place c.loop-rows.invariant.read (λ h. absurd (cc (c.loop-rows-test.false, c.is_element.ensures.1 h))) (λ h. absurd (cc (c.if-not-is_sequence_end.true, c.is_sequence_end.ensures.1 h))))
+    always (HasNoRows set body c.args.count c.args.at) c.fault-then-not-is_sequence_end.result
+    (rows_misplaced set body rs c.args.count c.args.at c.loop-rows.place c.loop-rows.invariant.read
+    (λ h. absurd (cc (c.loop-rows-test.false, c.is_element.ensures.1 h)))
+    (λ h. absurd (cc (c.if-not-is_sequence_end.true, c.is_sequence_end.ensures.1 h))))
 
 pub read_rows-returns-then-lacks_some-clause-refused : goal.read_rows-returns-then-lacks_some-clause-refused
 read_rows-returns-then-lacks_some-clause-refused t c =
@@ -260,7 +298,9 @@ read_rows-returns-then-lacks_some-clause-refused t c =
     let rs = c.loop-rows.rows.items in
     let long : c.len-2.result ≡ length rs = c.len-2.ensures ∙ c.loop-rows.rows.ok.0 in
     let few : length rs < c.args.count = omega (arith, long, c.lacks_some.ensures.0 c.if-lacks_some.true) in
-    always (HasNoRows set body c.args.count c.args.at) c.fault-then-lacks_some.result (rows_missing set body rs c.args.count c.args.at c.loop-rows.place c.loop-rows.invariant.read (λ h. absurd (cc (c.loop-rows-test.false, c.is_element.ensures.1 h))) few)
+    always (HasNoRows set body c.args.count c.args.at) c.fault-then-lacks_some.result
+    (rows_missing set body rs c.args.count c.args.at c.loop-rows.place c.loop-rows.invariant.read
+    (λ h. absurd (cc (c.loop-rows-test.false, c.is_element.ensures.1 h))) few)
 
 pub read_rows-returns-in_err-next-2-clause-refused : goal.read_rows-returns-in_err-next-2-clause-refused
 read_rows-returns-in_err-next-2-clause-refused t c =
@@ -268,7 +308,8 @@ read_rows-returns-in_err-next-2-clause-refused t c =
     let body = body_among (nodes_of c.args.templates.now) c.args.body.now in
     let rs = c.loop-rows.rows.items in
     let p = err_from_is_err_and c.from_residual-in_err-next-2.result c.from_residual-in_err-next-2.ensures.1 in
-    rw p.1 (subst (OnBadLine (HasNoRows set body c.args.count c.args.at)) (sym p.2) (on_bad (HasNoNext c.loop-rows.place) (HasNoRows set body c.args.count c.args.at)
+    rw p.1 (subst (OnBadLine (HasNoRows set body c.args.count c.args.at)) (sym p.2)
+    (on_bad (HasNoNext c.loop-rows.place) (HasNoRows set body c.args.count c.args.at)
     (λ none. rows_next set body rs c.args.count c.args.at c.loop-rows.place c.loop-rows.invariant.read none)
     c.in_err-next-2.field-0.0 (c.in_err-next-2.ensures.refused)))
 
@@ -288,13 +329,16 @@ pub read_item-returns-in_err-next-in-Group-clause-ok : goal.read_item-returns-in
 read_item-returns-in_err-next-in-Group-clause-ok t c = on_handed_on _ _ c.from_residual.result c.from_residual.ensures.1
 
 pub read_item-returns-in_err-slots-in-Group-clause-ok : goal.read_item-returns-in_err-slots-in-Group-clause-ok
-read_item-returns-in_err-slots-in-Group-clause-ok t c = on_handed_on _ _ c.from_residual-in_err-slots-in-Group.result c.from_residual-in_err-slots-in-Group.ensures.1
+read_item-returns-in_err-slots-in-Group-clause-ok t c =
+    on_handed_on _ _ c.from_residual-in_err-slots-in-Group.result c.from_residual-in_err-slots-in-Group.ensures.1
 
 pub read_item-returns-in_err-next-in-Sequence-clause-ok : goal.read_item-returns-in_err-next-in-Sequence-clause-ok
-read_item-returns-in_err-next-in-Sequence-clause-ok t c = on_handed_on _ _ c.from_residual-in_err-next-in-Sequence.result c.from_residual-in_err-next-in-Sequence.ensures.1
+read_item-returns-in_err-next-in-Sequence-clause-ok t c =
+    on_handed_on _ _ c.from_residual-in_err-next-in-Sequence.result c.from_residual-in_err-next-in-Sequence.ensures.1
 
 pub read_item-returns-in_err-rows-in-Sequence-clause-ok : goal.read_item-returns-in_err-rows-in-Sequence-clause-ok
-read_item-returns-in_err-rows-in-Sequence-clause-ok t c = on_handed_on _ _ c.from_residual-in_err-rows-in-Sequence.result c.from_residual-in_err-rows-in-Sequence.ensures.1
+read_item-returns-in_err-rows-in-Sequence-clause-ok t c =
+    on_handed_on _ _ c.from_residual-in_err-rows-in-Sequence.result c.from_residual-in_err-rows-in-Sequence.ensures.1
 
 pub read_rows-returns-in_err-next-clause-ok : goal.read_rows-returns-in_err-next-clause-ok
 read_rows-returns-in_err-next-clause-ok t c = on_handed_on _ _ c.from_residual.result c.from_residual.ensures.1

@@ -7,7 +7,8 @@ use Rattle.fast_messages.specs.device.Progress.{IsReadTo, AreReadTo}
 use Rattle.fast_messages.proofs.messages.+reading.Given as goal
 
 abbrev pub invariant-read_body-loop-i : goal.invariant-read_body-loop-i
-invariant-read_body-loop-i l = IsReadTo (tree_of l.templates) (body_among (nodes_of l.templates) l.body) l.slots.items (body_among (nodes_of l.templates) (drop l.i l.body)) l.fn.at l.place
+invariant-read_body-loop-i l = IsReadTo (tree_of l.templates) (body_among (nodes_of l.templates) l.body) l.slots.items
+    (body_among (nodes_of l.templates) (drop l.i l.body)) l.fn.at l.place
 
 abbrev pub invariant-read_rows-loop-rows : goal.invariant-read_rows-loop-rows
 invariant-read_rows-loop-rows l = record {

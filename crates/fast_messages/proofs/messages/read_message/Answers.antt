@@ -26,9 +26,14 @@ returns-clause-ok c =
     let same : c.in-Some.ensures.found.0 ≡ u = cc (c.in-Some.ensures.found.1, c.template.ensures.found) in
     let name : c.in-Some-Message.name.now ≡ string_bytes u.name = sym c.in-Some.ensures.found.2 ∙ ap (λ (z : Template). string_bytes z.name) same in
     let here = rw c.in-Some-Message.is at c.in-Some-Message.field-0-is in
-    let line : option_map line_data c.args.at.line ≡ Some (message (string_bytes u.name)) = ap (option_map line_data) (c.in-Some-Message.is ∙ ap Some here) ∙ ap (λ (z : List ℕ). Some (message z)) name in
-    message_read (tree_of set) n (f u) (slots_data c.in_ok-items.items.items) (message_data (record { template = n; items = c.in_ok-items.items })) c.args.at c.in_ok-next.next c.in_ok-items.next refl
-    (slice_get-map f (templates_of set) n ∙ ap (option_map f) c.template.ensures.found) line c.in_ok-next.ensures.ok (rw c.deref.ensures.value at c.in_ok-items.ensures.ok)
+    let line : option_map line_data c.args.at.line ≡ Some (message (string_bytes u.name)) =
+    ap (option_map line_data) (c.in-Some-Message.is ∙ ap Some here) ∙ ap (λ (z : List ℕ). Some (message z)) name in
+    message_read (tree_of set) n (f u) (slots_data c.in_ok-items.items.items) (message_data (record {
+      template = n;
+      items = c.in_ok-items.items;
+    })) c.args.at c.in_ok-next.next c.in_ok-items.next refl
+    (slice_get-map f (templates_of set) n ∙ ap (option_map f) c.template.ensures.found) line c.in_ok-next.ensures.ok
+    (rw c.deref.ensures.value at c.in_ok-items.ensures.ok)
 
 pub template-requires : goal.template-requires
 template-requires c =
@@ -38,8 +43,10 @@ pub returns-in_default-number_of-clause-refused : goal.returns-in_default-number
 returns-in_default-number_of-clause-refused c =
     let set = tree_of c.args.templates.now in
     let here = rw c.in-Some-Message.is at c.in-Some-Message.field-0-is in
-    let line : option_map line_data c.args.at.line ≡ Some (message c.in-Some-Message.name.now) = ap (option_map line_data) (c.in-Some-Message.is ∙ ap Some here) in
-    always (HasNoMessage set c.args.at) c.fault-in_default-number_of.result (no_template c.args.templates.now c.args.at c.in-Some-Message.name.now line c.in_default-number_of.ensures.none)
+    let line : option_map line_data c.args.at.line ≡ Some (message c.in-Some-Message.name.now) =
+    ap (option_map line_data) (c.in-Some-Message.is ∙ ap Some here) in
+    always (HasNoMessage set c.args.at) c.fault-in_default-number_of.result
+    (no_template c.args.templates.now c.args.at c.in-Some-Message.name.now line c.in_default-number_of.ensures.none)
 
 pub returns-in_err-next-clause-refused : goal.returns-in_err-next-clause-refused
 returns-in_err-next-clause-refused c =
@@ -59,9 +66,12 @@ returns-in_err-items-clause-refused c =
     let same : c.in-Some.ensures.found.0 ≡ u = cc (c.in-Some.ensures.found.1, c.template.ensures.found) in
     let name : c.in-Some-Message.name.now ≡ string_bytes u.name = sym c.in-Some.ensures.found.2 ∙ ap (λ (z : Template). string_bytes z.name) same in
     let here = rw c.in-Some-Message.is at c.in-Some-Message.field-0-is in
-    let line : option_map line_data c.args.at.line ≡ Some (message (string_bytes u.name)) = ap (option_map line_data) (c.in-Some-Message.is ∙ ap Some here) ∙ ap (λ (z : List ℕ). Some (message z)) name in
+    let line : option_map line_data c.args.at.line ≡ Some (message (string_bytes u.name)) =
+    ap (option_map line_data) (c.in-Some-Message.is ∙ ap Some here) ∙ ap (λ (z : List ℕ). Some (message z)) name in
     let found : slice_get set.templates n ≡ Some (f u) = slice_get-map f (templates_of s) n ∙ ap (option_map f) c.template.ensures.found in
     let p = err_from_is_err_and c.from_residual-in_err-items.result c.from_residual-in_err-items.ensures.1 in
-    rw p.1 (subst (OnBadLine (HasNoMessage set c.args.at)) (sym p.2) (on_bad (HasNoBody set (f u).body Ends.Message c.in_ok-next.next) (HasNoMessage set c.args.at)
-    (λ none. no_slots_due set n (f u) c.args.at c.in_ok-next.next (distinct_bodies set (nodes_of s) s.nodes_in_preorder) found line c.in_ok-next.ensures.ok none)
+    rw p.1 (subst (OnBadLine (HasNoMessage set c.args.at)) (sym p.2)
+    (on_bad (HasNoBody set (f u).body Ends.Message c.in_ok-next.next) (HasNoMessage set c.args.at)
+    (λ none. no_slots_due set n (f u) c.args.at c.in_ok-next.next
+    (distinct_bodies set (nodes_of s) s.nodes_in_preorder) found line c.in_ok-next.ensures.ok none)
     c.in_err-items.field-0.0 (rw c.deref.ensures.value at c.in_err-items.ensures.refused)))

@@ -22,7 +22,8 @@ use Rattle.fast_messages.proofs.messages.read_value.Goals as goal
 
 pub returns-in_err-next-clause-line : goal.returns-in_err-next-clause-line
 returns-in_err-next-clause-line c =
-    let some : IsSome c.args.at.line = names_some (tree_of c.args.templates.now) c.args.node (instruction_in (nodes_of c.args.templates.now) c.args.node) c.args.at.line c.requires.named in
+    let some : IsSome c.args.at.line = names_some (tree_of c.args.templates.now) c.args.node
+    (instruction_in (nodes_of c.args.templates.now) c.args.node) c.args.at.line c.requires.named in
     let p = err_from_is_err_and c.from_residual.result c.from_residual.ensures.1 in
     rw p.1 (subst (IsNear c.args.at) (sym p.2) (next_near c.args.at c.in_err-next.field-0.0 some c.in_err-next.ensures.line))
 
@@ -31,7 +32,8 @@ returns-clause-ok c =
     let t = c.args.templates.now in
     let i = instruction_in (nodes_of t) c.args.node in
     let some : IsSome c.args.at.line = names_some (tree_of t) c.args.node i c.args.at.line c.requires.named in
-    value_read (tree_of t) c.args.node i c.in-Some.value (item_data (V.One c.in-Some.value)) c.args.at c.in_ok-next.next c.requires.field (numbered t c.args.node c.requires.node) (item_data-One c.in-Some.value) c.in-Some.is c.requires.named
+    value_read (tree_of t) c.args.node i c.in-Some.value (item_data (V.One c.in-Some.value)) c.args.at c.in_ok-next.next c.requires.field
+    (numbered t c.args.node c.requires.node) (item_data-One c.in-Some.value) c.in-Some.is c.requires.named
     (one_on c.args.at c.in_ok-next.next some c.in_ok-next.ensures.ahead c.in_ok-next.ensures.number) (c.if-not-suits_item.ensures.0 refl)
 
 pub returns-in_default-clause-refused : goal.returns-in_default-clause-refused

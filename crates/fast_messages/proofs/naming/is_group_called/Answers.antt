@@ -9,13 +9,18 @@ use Rattle.fast_messages.proofs.names.Named.{fails_there, called_there}
 use Rattle.fast_messages.proofs.naming.is_group_called.Goals as goal
 
 pub returns-in-Group : goal.returns-in-Group
-returns-in-Group c = called_there c.args.templates.now c.args.node c.node-of.result.now c.node-of.ensures.found c.node-of.ensures.body IsGroup (Group c.in-Group.optional c.in-Group.body) c.in-Group.is c.eq.result c.args.name.now c.as_bytes.result.now tt (slice_eq-Decides Decides-eqb _ _ _ c.eq.ensures) c.as_bytes.ensures.value
+returns-in-Group c = called_there c.args.templates.now c.args.node c.node-of.result.now c.node-of.ensures.found c.node-of.ensures.body
+    IsGroup (Group c.in-Group.optional c.in-Group.body) c.in-Group.is c.eq.result c.args.name.now c.as_bytes.result.now tt
+    (slice_eq-Decides Decides-eqb _ _ _ c.eq.ensures) c.as_bytes.ensures.value
 
 pub returns-in-Field : goal.returns-in-Field
 returns-in-Field c = elim c.in-Field.is [
-  | inl w ↦ fails_there c.args.templates.now c.args.node c.node-of.result.now c.node-of.ensures.found c.node-of.ensures.body IsGroup (Field w.0) w.1 (c.args.name.now ≡ node_name (tree_of c.args.templates.now) c.args.node) (λ h. h)
+  | inl w ↦ fails_there c.args.templates.now c.args.node c.node-of.result.now c.node-of.ensures.found c.node-of.ensures.body IsGroup
+      (Field w.0) w.1 (c.args.name.now ≡ node_name (tree_of c.args.templates.now) c.args.node) (λ h. h)
   | inr w ↦ elim w [
-    | inl u ↦ fails_there c.args.templates.now c.args.node c.node-of.result.now c.node-of.ensures.found c.node-of.ensures.body IsGroup (Decimal u.0 u.1) u.2 (c.args.name.now ≡ node_name (tree_of c.args.templates.now) c.args.node) (λ h. h)
-    | inr u ↦ fails_there c.args.templates.now c.args.node c.node-of.result.now c.node-of.ensures.found c.node-of.ensures.body IsGroup (Sequence u.0 u.1) u.2 (c.args.name.now ≡ node_name (tree_of c.args.templates.now) c.args.node) (λ h. h)
+    | inl u ↦ fails_there c.args.templates.now c.args.node c.node-of.result.now c.node-of.ensures.found c.node-of.ensures.body IsGroup
+        (Decimal u.0 u.1) u.2 (c.args.name.now ≡ node_name (tree_of c.args.templates.now) c.args.node) (λ h. h)
+    | inr u ↦ fails_there c.args.templates.now c.args.node c.node-of.result.now c.node-of.ensures.found c.node-of.ensures.body IsGroup
+        (Sequence u.0 u.1) u.2 (c.args.name.now ≡ node_name (tree_of c.args.templates.now) c.args.node) (λ h. h)
   ]
 ]

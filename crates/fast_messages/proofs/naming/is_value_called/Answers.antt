@@ -12,12 +12,16 @@ pub returns-in-Field : goal.returns-in-Field
 returns-in-Field c =
     let same = slice_eq-Decides Decides-eqb _ _ _ c.eq.ensures in
     elim c.in-Field.is [
-      | inl w ↦ called_there c.args.templates.now c.args.node c.node-of.result.now c.node-of.ensures.found c.node-of.ensures.body IsValue (Field w.0) w.1 c.eq.result c.args.name.now c.as_bytes.result.now tt same c.as_bytes.ensures.value
-      | inr w ↦ called_there c.args.templates.now c.args.node c.node-of.result.now c.node-of.ensures.found c.node-of.ensures.body IsValue (Decimal w.0 w.1) w.2 c.eq.result c.args.name.now c.as_bytes.result.now tt same c.as_bytes.ensures.value
+      | inl w ↦ called_there c.args.templates.now c.args.node c.node-of.result.now c.node-of.ensures.found c.node-of.ensures.body IsValue
+          (Field w.0) w.1 c.eq.result c.args.name.now c.as_bytes.result.now tt same c.as_bytes.ensures.value
+      | inr w ↦ called_there c.args.templates.now c.args.node c.node-of.result.now c.node-of.ensures.found c.node-of.ensures.body IsValue
+          (Decimal w.0 w.1) w.2 c.eq.result c.args.name.now c.as_bytes.result.now tt same c.as_bytes.ensures.value
     ]
 
 pub returns-in-Group : goal.returns-in-Group
 returns-in-Group c = elim c.in-Group.is [
-  | inl w ↦ fails_there c.args.templates.now c.args.node c.node-of.result.now c.node-of.ensures.found c.node-of.ensures.body IsValue (Group w.0 w.1) w.2 (c.args.name.now ≡ node_name (tree_of c.args.templates.now) c.args.node) (λ h. h)
-  | inr w ↦ fails_there c.args.templates.now c.args.node c.node-of.result.now c.node-of.ensures.found c.node-of.ensures.body IsValue (Sequence w.0 w.1) w.2 (c.args.name.now ≡ node_name (tree_of c.args.templates.now) c.args.node) (λ h. h)
+  | inl w ↦ fails_there c.args.templates.now c.args.node c.node-of.result.now c.node-of.ensures.found c.node-of.ensures.body IsValue
+      (Group w.0 w.1) w.2 (c.args.name.now ≡ node_name (tree_of c.args.templates.now) c.args.node) (λ h. h)
+  | inr w ↦ fails_there c.args.templates.now c.args.node c.node-of.result.now c.node-of.ensures.found c.node-of.ensures.body IsValue
+      (Sequence w.0 w.1) w.2 (c.args.name.now ≡ node_name (tree_of c.args.templates.now) c.args.node) (λ h. h)
 ]

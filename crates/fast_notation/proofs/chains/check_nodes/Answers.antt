@@ -8,7 +8,8 @@ pub returns-then-nodes-room-clause-fault : goal.returns-then-nodes-room-clause-f
 returns-then-nodes-room-clause-fault c =
     let k = c.loop-k.k in
     let more = sum_by_more known_nodes c.args.extents.now k None c.loop-k-test.true in
-    let next : sum_by known_nodes (take (suc k) c.args.extents.now) ≡ sum_by known_nodes (take (k + 1) c.args.extents.now) = ap (λ n. sum_by known_nodes (take n c.args.extents.now)) (sym (add-one k)) in
+    let next : sum_by known_nodes (take (suc k) c.args.extents.now) ≡ sum_by known_nodes (take (k + 1) c.args.extents.now) =
+    ap (λ n. sum_by known_nodes (take n c.args.extents.now)) (sym (add-one k)) in
     let here = c.known_nodes-nodes.ensures in
     (k, refl, refl, c.loop-k-test.true, omega (arith, more, next, here, c.loop-k.invariant))
 

@@ -10,7 +10,8 @@ use Rattle.fast_notation.proofs.chains.extents_of.Goals as goal
 
 pub loop-round-init : goal.loop-round-init
 loop-round-init c =
-    no_round (map written_data c.args.templates.now) (length c.args.templates.now) c.in_ok-extents.extents.items (sym (length-map c.args.templates.now written_data)) c.in_ok-extents.ensures
+    no_round (map written_data c.args.templates.now) (length c.args.templates.now) c.in_ok-extents.extents.items
+    (sym (length-map c.args.templates.now written_data)) c.in_ok-extents.ensures
 
 pub returns-then-are_known : goal.returns-then-are_known
 returns-then-are_known c =
@@ -27,6 +28,7 @@ loop-round-preserved c =
     let look = get_by_text c.args.names.now in
     let es = c.loop-round.extents.items in
     let n = c.loop-round._round in
-    let is : c.in_ok-extents-2.extents.items ≡ next_extents (named_extent look es) es ts = c.in_ok-extents-2.ensures ∙ ap (λ xs. next_extents (named_extent look xs) xs ts) c.deref-in-loop-round.ensures.value in
+    let is : c.in_ok-extents-2.extents.items ≡ next_extents (named_extent look es) es ts = c.in_ok-extents-2.ensures
+    ∙ ap (λ xs. next_extents (named_extent look xs) xs ts) c.deref-in-loop-round.ensures.value in
     let next = next_round ts look n es c.requires.index c.requires.apart c.requires.known c.loop-round.invariant in
     subst (λ r. AreExtents ts r c.in_ok-extents-2.extents.items) (sym (add-one n)) (subst (AreExtents ts (suc n)) (sym is) next)

@@ -22,7 +22,9 @@ loop-k-preserved c =
     let fields = ap (λ (u : WrittenTemplate). extent_by of (fields_data u.fields.items) nothing) c.index-templates-k.is in
     let is : x ≡ or_extent (get_or es k None) other = elim c.match-extents-k.branch [
       | in-Some w ↦ w.extent-is ∙ sym (ap (λ o. or_extent o other) w.in-Some.is)
-      | in-None w ↦ w.extent-is ∙ w.extent_of_fields-extent.ensures ∙ ap (λ fs. extent_by of (fields_data fs) nothing) w.deref.ensures.value ∙ fields ∙ sym (ap (λ o. or_extent o other) w.in-None.is)
+      | in-None w ↦ w.extent-is ∙ w.extent_of_fields-extent.ensures
+          ∙ ap (λ fs. extent_by of (fields_data fs) nothing) w.deref.ensures.value ∙ fields ∙ sym (ap (λ o. or_extent o other) w.in-None.is)
     ] in
     let next = next_one of k es ts None t (omega (arith, size, there)) there in
-    rw (c.in_ok-push.ensures.items, append_assoc, add-one) (ap (λ e. c.loop-k.next.items ++ e ∷ rest) is ∙ ap (λ n. c.loop-k.next.items ++ n) (sym next) ∙ c.loop-k.invariant)
+    rw (c.in_ok-push.ensures.items, append_assoc, add-one)
+    (ap (λ e. c.loop-k.next.items ++ e ∷ rest) is ∙ ap (λ n. c.loop-k.next.items ++ n) (sym next) ∙ c.loop-k.invariant)

@@ -12,4 +12,5 @@ pub is_known-returns-in-Reference : goal.is_known-returns-in-Reference
 is_known-returns-in-Reference t c =
     let look = get_by_text c.args.names.now in
     let found : option_copied c.get.result ≡ look (string_bytes c.in-Reference.name) = rw c.as_str.ensures.value at c.get.ensures.value in
-    c.is_some.ensures ∙ one_known look c.get.result c.in-Reference.name found ∙ sym (ap (λ i. list_all (λ q. is_some (look q)) (references (instruction_data i))) c.in-Reference.is)
+    c.is_some.ensures ∙ one_known look c.get.result c.in-Reference.name found
+    ∙ sym (ap (λ i. list_all (λ q. is_some (look q)) (references (instruction_data i))) c.in-Reference.is)

@@ -14,7 +14,8 @@ use Rattle.fast_notation.proofs.checks.index_names.Goals as goal
 
 pub returns-clause-names : goal.returns-clause-names
 returns-clause-names c =
-    subst (λ ts. AllPairs (λ a b. a.name ≢ b.name) (map written_data ts)) (take_all c.loop-k.k c.args.templates.now c.loop-k-test.false) c.loop-k.invariant.names
+    subst (λ ts. AllPairs (λ a b. a.name ≢ b.name) (map written_data ts))
+    (take_all c.loop-k.k c.args.templates.now c.loop-k-test.false) c.loop-k.invariant.names
 
 pub returns-then-is_some-clause-fault : goal.returns-then-is_some-clause-fault
 returns-then-is_some-clause-fault c =
@@ -30,7 +31,11 @@ returns-then-is_some-clause-fault c =
 
 pub returns-then-is_some-clause-first : goal.returns-then-is_some-clause-first
 returns-then-is_some-clause-first c =
-    rw c.fault_at.ensures (refl, subst (AllPairs (λ a b. a.name ≢ b.name)) (sym (take-map written_data c.loop-k.k c.args.templates.now)) c.loop-k.invariant.names)
+    rw c.fault_at.ensures (
+      refl,
+      subst (AllPairs (λ a b. a.name ≢ b.name))
+          (sym (take-map written_data c.loop-k.k c.args.templates.now)) c.loop-k.invariant.names,
+    )
 
 pub loop-k-preserved : goal.loop-k-preserved
 loop-k-preserved c =
@@ -40,13 +45,16 @@ loop-k-preserved c =
     let us = map written_data (take k ts) in
     let found : option_copied c.get.result ≡ get_by_text c.loop-k.names (string_bytes t.name) = rw c.as_str.ensures.value at c.get.ensures.value in
     let none = found_nothing c.get.result (get_by_text c.loop-k.names (string_bytes t.name)) found c.if-is_some.ensures in
-    let more : map written_data (take (k + 1) ts) ≡ us ++ written_data t ∷ [] = map_more written_data ts k t c.loop-k-test.true ∙ ap (λ u. us ++ written_data u ∷ []) (sym c.index-templates-k.is) in
+    let more : map written_data (take (k + 1) ts) ≡ us ++ written_data t ∷ [] = map_more written_data ts k t c.loop-k-test.true
+    ∙ ap (λ u. us ++ written_data u ∷ []) (sym c.index-templates-k.is) in
     let long : k ≡ length us = sym (length-map (take k ts) written_data ∙ length-take-le k ts c.loop-k.auto.k-end) in
     let name : string_bytes c.in-Ok.name ≡ string_bytes t.name = c.in-Ok.ensures.ok ∙ c.as_str-in-loop-k.ensures.value in
     let updated = λ (q : List ℕ).
     hash_map_updates_text (string_bytes c.in-Ok.name) c.loop-k.names c.insert.new.self (Some k) c.in-Ok-insert.ensures.updates q
     ∙ ap (λ s. if bytes_eq s q then Some k else get_by_text c.loop-k.names q) name in
     record {
-      index = λ q. names_more (get_by_text c.loop-k.names) (get_by_text c.insert.new.self) us (written_data t) k long c.loop-k.invariant.index none updated q ∙ ap (place_of_name q) (sym more);
-      names = subst (AllPairs (λ a b. a.name ≢ b.name)) (sym more) (names_apart us (written_data t) (sym (c.loop-k.invariant.index (string_bytes t.name)) ∙ none) c.loop-k.invariant.names);
+      index = λ q. names_more (get_by_text c.loop-k.names) (get_by_text c.insert.new.self) us
+          (written_data t) k long c.loop-k.invariant.index none updated q ∙ ap (place_of_name q) (sym more);
+      names = subst (AllPairs (λ a b. a.name ≢ b.name)) (sym more)
+          (names_apart us (written_data t) (sym (c.loop-k.invariant.index (string_bytes t.name)) ∙ none) c.loop-k.invariant.names);
     }

@@ -11,7 +11,9 @@ pub add_target-returns-in_ok-push-in-Reference : goal.add_target-returns-in_ok-p
 add_target-returns-in_ok-push-in-Reference t c =
     let look = get_by_text c.args.names.now in
     let found : Some c.in-Some.number.now ≡ look (string_bytes c.in-Reference.name) = rw c.as_str.ensures.value at c.in-Some.ensures.value in
-    c.in_ok-push-in-Reference.ensures.items ∙ ap (λ js. c.args.targets.now.items ++ js) (one_target look c.in-Reference.name c.in-Some.number found ∙ sym (ap (λ i. filter_map look (references (instruction_data i))) c.in-Reference.is))
+    c.in_ok-push-in-Reference.ensures.items ∙ ap (λ js. c.args.targets.now.items ++ js)
+    (one_target look c.in-Reference.name c.in-Some.number found
+    ∙ sym (ap (λ i. filter_map look (references (instruction_data i))) c.in-Reference.is))
 
 pub add_target-returns-in_default : goal.add_target-returns-in_default
 add_target-returns-in_default t c =
@@ -28,5 +30,6 @@ add_targets-loop-field-preserved t c =
     let before = c.loop-field.targets.items in
     let here = filter_map look (references (instruction_data c.field-item.result)) in
     let rest = filter_map look (references_in (drop (i + 1) fs)) in
-    let left = targets_left look fs i c.field-item.result c.loop-field-test.true ∙ ap (λ f. filter_map look (references (instruction_data f)) ++ rest) (sym c.field-item.is) in
+    let left = targets_left look fs i c.field-item.result c.loop-field-test.true
+    ∙ ap (λ f. filter_map look (references (instruction_data f)) ++ rest) (sym c.field-item.is) in
     ap (λ xs. xs ++ rest) c.in_ok-add_target.ensures ∙ append_assoc before here rest ∙ ap (λ xs. before ++ xs) (sym left) ∙ c.loop-field.invariant

@@ -6,4 +6,5 @@ use Rattle.fast_notation.proofs.cycles.+targets.Given as goal
 
 abbrev pub invariant-add_targets-loop-field : goal.invariant-add_targets-loop-field
 invariant-add_targets-loop-field l =
-    l.targets.items ++ filter_map (get_by_text l.names) (references_in (drop l.field-index l.fields)) ≡ l.initial.targets.items ++ filter_map (get_by_text l.names) (references_in l.fields)
+    l.targets.items ++ filter_map (get_by_text l.names) (references_in (drop l.field-index l.fields)) ≡ l.initial.targets.items
+    ++ filter_map (get_by_text l.names) (references_in l.fields)

@@ -9,12 +9,14 @@ use Rattle.fast_notation.proofs.cycles.first_cyclic.Goals as goal
 
 pub components_of-requires : goal.components_of-requires
 components_of-requires c =
-    let within = all_within (map written_data c.args.templates.now) (get_by_text c.args.names.now) c.in_ok-graph.graph.items c.requires.index c.in_ok-graph.ensures in
+    let within = all_within (map written_data c.args.templates.now)
+    (get_by_text c.args.names.now) c.in_ok-graph.graph.items c.requires.index c.in_ok-graph.ensures in
     subst AreWithin (sym c.deref.ensures.value) within
 
 pub is_cyclic-requires-clause-within : goal.is_cyclic-requires-clause-within
 is_cyclic-requires-clause-within c =
-    let within = all_within (map written_data c.args.templates.now) (get_by_text c.args.names.now) c.in_ok-graph.graph.items c.requires.index c.in_ok-graph.ensures in
+    let within = all_within (map written_data c.args.templates.now)
+    (get_by_text c.args.names.now) c.in_ok-graph.graph.items c.requires.index c.in_ok-graph.ensures in
     subst AreWithin (sym c.deref-2.ensures.value) within
 
 pub returns-then-branch-clause-cyclic : goal.returns-then-branch-clause-cyclic

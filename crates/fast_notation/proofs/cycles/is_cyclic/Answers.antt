@@ -12,9 +12,11 @@ loop-turn-init c =
     let is : c.push.new.self.items ≡ [] ++ start ∷ [] = c.in_ok-push.ensures.items ∙ ap (λ xs. xs ++ start ∷ []) c.new-ahead.ensures.items in
     record {
       met = c.in_ok-met.ensures.len;
-      reached = subst (All (IsReached graph start)) (sym is) (All-push (IsReached graph start) [] start (All-nil (IsReached graph start)) (nowhere graph start c.requires.inside));
+      reached = subst (All (IsReached graph start)) (sym is)
+          (All-push (IsReached graph start) [] start (All-nil (IsReached graph start)) (nowhere graph start c.requires.inside));
     }
 
 pub follow-requires-clause-here : goal.follow-requires-clause-here
 follow-requires-clause-here c =
-    (All-pop (IsReached c.args.graph.now c.args.start) c.loop-turn.ahead.items c.pop.new.self.items (Some c.in-Some.template) c.in-Some.ensures.items c.loop-turn.invariant.reached).1
+    (All-pop (IsReached c.args.graph.now c.args.start) c.loop-turn.ahead.items c.pop.new.self.items
+    (Some c.in-Some.template) c.in-Some.ensures.items c.loop-turn.invariant.reached).1

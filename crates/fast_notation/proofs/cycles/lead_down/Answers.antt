@@ -20,10 +20,12 @@ loop-target-preserved c =
       | then-is_strict w ↦ strictly next c.args.rank c.if-next-rank.false (sym w.value-is ∙ c.if-next-rank-2.false)
       | else-is_strict w ↦ absurd (false≢true (sym w.if-is_strict.false ∙ strict))
     ] in
-    All-more (LeadsDown ranks c.args.is_strict c.args.rank) c.args.targets.now i 0 c.loop-target-test.true c.loop-target.invariant (next, at, c.if-next-rank.false, lower)
+    All-more (LeadsDown ranks c.args.is_strict c.args.rank) c.args.targets.now i 0 c.loop-target-test.true c.loop-target.invariant
+    (next, at, c.if-next-rank.false, lower)
   where
     strictly : (m n : ℕ) → m ≤ n → nat_eq m n ≡ false → m < n
     strictly m n least other = grind (arith, nat_tests)
 
 pub returns : goal.returns
-returns c holds = all_taken (LeadsDown c.args.ranks.now c.args.is_strict c.args.rank) c.args.targets.now c.loop-target.target-index c.loop-target-test.false c.loop-target.invariant
+returns c holds = all_taken (LeadsDown c.args.ranks.now c.args.is_strict c.args.rank) c.args.targets.now c.loop-target.target-index
+    c.loop-target-test.false c.loop-target.invariant

@@ -15,4 +15,5 @@ returns-clause-tables c =
     let m = members_count-view c.args.document.entries in
     let one = m ∙ sym c.len.ensures.len ∙ c.if-len-ne1.false in
     let good = sym (ap (λ vs. are_templates (items_view vs)) c.as_slice.ensures.value) ∙ sym c.if-not-are_templates.ensures.test in
-    sym (tables_found (table_view c.args.document) (view c.in-Some.value) (items_view c.in-Some-items_of.items.items) one (sym c.in-Some.ensures) (sym c.in-Some-items_of.ensures) good)
+    sym (tables_found (table_view c.args.document) (view c.in-Some.value) (items_view c.in-Some-items_of.items.items) one
+    (sym c.in-Some.ensures) (sym c.in-Some-items_of.ensures) good)

@@ -40,5 +40,7 @@ returns-in-Err-clause-fault c =
 
 pub returns-in-Err-clause-first : goal.returns-in-Err-clause-first
 returns-in-Err-clause-first c =
-    unread_first c.in-Err.fault c.fault_at.result c.loop-k.k (λ k. (j : ℕ) (d : Data) → j < k → get_item j (items_view c.args.items.now) ≡ Some d → IsSome (template_in d)) c.fault_at.ensures.shape c.fault_at.ensures.memory
+    unread_first c.in-Err.fault c.fault_at.result c.loop-k.k
+    (λ k. (j : ℕ) (d : Data) → j < k → get_item j (items_view c.args.items.now) ≡ Some d → IsSome (template_in d))
+    c.fault_at.ensures.shape c.fault_at.ensures.memory
     c.loop-k.invariant.read

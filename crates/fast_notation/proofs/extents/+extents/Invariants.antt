@@ -6,4 +6,5 @@ use Rattle.fast_notation.proofs.extents.+extents.Given as goal
 
 abbrev pub invariant-extent_of_fields-loop-field : goal.invariant-extent_of_fields-loop-field
 invariant-extent_of_fields-loop-field l =
-    extent_by (named_extent (get_by_text l.names) l.extents) (fields_data (drop l.field-index l.fields)) l.total ≡ extent_by (named_extent (get_by_text l.names) l.extents) (fields_data l.fields) nothing
+    extent_by (named_extent (get_by_text l.names) l.extents) (fields_data (drop l.field-index l.fields)) l.total ≡ extent_by
+    (named_extent (get_by_text l.names) l.extents) (fields_data l.fields) nothing

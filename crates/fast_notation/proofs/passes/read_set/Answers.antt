@@ -40,7 +40,8 @@ returns-in_err-names-clause-first c =
     let e = c.in_err-names.field-0.0 in
     let same = c.deref.ensures.value in
     let fault = subst (λ us. IsFaultAt (map written_data us) e.code e.template) same c.in_err-names.ensures.fault in
-    let first = subst (λ us. IfSome e.template (λ k. (e.code ≡ C1) × AllPairs (λ a b. a.name ≢ b.name) (take k (map written_data us)))) same c.in_err-names.ensures.first in
+    let first = subst (λ us. IfSome e.template (λ k. (e.code ≡ C1) × AllPairs (λ a b. a.name ≢ b.name) (take k (map written_data us))))
+    same c.in_err-names.ensures.first in
     let r = err_from_is_err_and c.from_residual-in_err-names.result c.from_residual-in_err-names.ensures.1 in
     rw (r.1, r.2) (written_first (parse_document c.args.text.now) w.0 ts e.code e.template w.1 w.2 fault (names_first ts e.code e.template first))
 
@@ -52,7 +53,8 @@ returns-in_err-ids-clause-first c =
     let same = c.deref-2.ensures.value in
     let fault = subst (λ us. IsFaultAt (map written_data us) e.code e.template) same c.in_err-ids.ensures.fault in
     let names = subst (λ us. AllPairs (λ a b. a.name ≢ b.name) (map written_data us)) c.deref.ensures.value c.in_ok-names.ensures.names in
-    let first = subst (λ us. IfSome e.template (λ k. (e.code ≡ C2) × AllPairs (λ a b. (id : ℕ) → a.id ≡ Some id → b.id ≢ Some id) (take k (map written_data us)))) same c.in_err-ids.ensures.first in
+    let first = subst (λ us. IfSome e.template (λ k. (e.code ≡ C2)
+    × AllPairs (λ a b. (id : ℕ) → a.id ≡ Some id → b.id ≢ Some id) (take k (map written_data us)))) same c.in_err-ids.ensures.first in
     let r = err_from_is_err_and c.from_residual-in_err-ids.result c.from_residual-in_err-ids.ensures.1 in
     rw (r.1, r.2) (written_first (parse_document c.args.text.now) w.0 ts e.code e.template w.1 w.2 fault (ids_first ts e.code e.template names first))
 
@@ -64,8 +66,10 @@ returns-in_err-check_uses-clause-first c =
     let same = c.deref-3.ensures.value in
     let fault = subst (λ us. IsFaultAt (map written_data us) e.code e.template) same c.in_err-check_uses.ensures.fault in
     let names = subst (λ us. AllPairs (λ a b. a.name ≢ b.name) (map written_data us)) c.deref.ensures.value c.in_ok-names.ensures.names in
-    let ids = subst (λ us. AllPairs (λ a b. (id : ℕ) → a.id ≡ Some id → b.id ≢ Some id) (map written_data us)) c.deref-2.ensures.value c.in_ok-ids.ensures.ids in
-    let first = subst (λ us. IfSome e.template (λ k. (pass_of e.code ≡ 3) × All (λ t. All IsSound (all_uses t.fields)) (take k (map written_data us)))) same c.in_err-check_uses.ensures.first in
+    let ids = subst (λ us. AllPairs (λ a b. (id : ℕ) → a.id ≡ Some id → b.id ≢ Some id) (map written_data us)) c.deref-2.ensures.value
+    c.in_ok-ids.ensures.ids in
+    let first = subst (λ us. IfSome e.template (λ k. (pass_of e.code ≡ 3)
+    × All (λ t. All IsSound (all_uses t.fields)) (take k (map written_data us)))) same c.in_err-check_uses.ensures.first in
     let r = err_from_is_err_and c.from_residual-in_err-check_uses.result c.from_residual-in_err-check_uses.ensures.1 in
     rw (r.1, r.2) (written_first (parse_document c.args.text.now) w.0 ts e.code e.template w.1 w.2 fault (uses_first ts e.code e.template names ids first))
 
@@ -77,11 +81,18 @@ returns-in_err-check_references-clause-first c =
     let same = c.deref-4.ensures.value in
     let fault = subst (λ us. IsFaultAt (map written_data us) e.code e.template) same c.in_err-check_references.ensures.fault in
     let names = subst (λ us. AllPairs (λ a b. a.name ≢ b.name) (map written_data us)) c.deref.ensures.value c.in_ok-names.ensures.names in
-    let ids = subst (λ us. AllPairs (λ a b. (id : ℕ) → a.id ≡ Some id → b.id ≢ Some id) (map written_data us)) c.deref-2.ensures.value c.in_ok-ids.ensures.ids in
+    let ids = subst (λ us. AllPairs (λ a b. (id : ℕ) → a.id ≡ Some id → b.id ≢ Some id) (map written_data us)) c.deref-2.ensures.value
+    c.in_ok-ids.ensures.ids in
     let sound = subst (λ us. All (λ t. All IsSound (all_uses t.fields)) (map written_data us)) c.deref-3.ensures.value c.in_ok-check_uses.ensures.sound in
-    let first = subst (λ us. IfSome e.template (λ k. (e.code ≡ D8) × All (λ t. All (λ name. IsSome (place_of_name name (map written_data us))) (all_references t.fields)) (take k (map written_data us)))) same c.in_err-check_references.ensures.first in
+    let first = subst (λ us. IfSome e.template (λ k. (e.code ≡ D8)
+    × All (λ t. All (λ name. IsSome (place_of_name name (map written_data us))) (all_references t.fields))
+    (take k (map written_data us)))) same c.in_err-check_references.ensures.first in
     let r = err_from_is_err_and c.from_residual-in_err-check_references.result c.from_residual-in_err-check_references.ensures.1 in
-    rw (r.1, r.2) (written_first (parse_document c.args.text.now) w.0 ts e.code e.template w.1 w.2 fault (references_first ts e.code e.template (record { names = names; ids = ids; sound = sound }) first))
+    rw (r.1, r.2) (written_first (parse_document c.args.text.now) w.0 ts e.code e.template w.1 w.2 fault (references_first ts e.code e.template (record {
+      names = names;
+      ids = ids;
+      sound = sound;
+    }) first))
 
 pub returns-in_err-templates-clause-set : goal.returns-in_err-templates-clause-set
 returns-in_err-templates-clause-set c = rw ((err_from_is_err_and c.from_residual.result c.from_residual.ensures.1).1) tt
@@ -152,13 +163,16 @@ returns-in_err-check_uses-clause-fault c =
     rw (r.1, r.2) (inr (record { document = w.0; written = ts; reads = w.1; shape = w.2; stands = fault }))
 
 pub returns-in_err-check_references-clause-set : goal.returns-in_err-check_references-clause-set
-returns-in_err-check_references-clause-set c = rw ((err_from_is_err_and c.from_residual-in_err-check_references.result c.from_residual-in_err-check_references.ensures.1).1) tt
+returns-in_err-check_references-clause-set c = rw ((err_from_is_err_and c.from_residual-in_err-check_references.result
+    c.from_residual-in_err-check_references.ensures.1).1) tt
 
 pub returns-in_err-check_references-clause-names : goal.returns-in_err-check_references-clause-names
-returns-in_err-check_references-clause-names c = rw ((err_from_is_err_and c.from_residual-in_err-check_references.result c.from_residual-in_err-check_references.ensures.1).1) tt
+returns-in_err-check_references-clause-names c = rw ((err_from_is_err_and c.from_residual-in_err-check_references.result
+    c.from_residual-in_err-check_references.ensures.1).1) tt
 
 pub returns-in_err-check_references-clause-ids : goal.returns-in_err-check_references-clause-ids
-returns-in_err-check_references-clause-ids c = rw ((err_from_is_err_and c.from_residual-in_err-check_references.result c.from_residual-in_err-check_references.ensures.1).1) tt
+returns-in_err-check_references-clause-ids c = rw ((err_from_is_err_and c.from_residual-in_err-check_references.result
+    c.from_residual-in_err-check_references.ensures.1).1) tt
 
 pub returns-in_err-check_references-clause-fault : goal.returns-in_err-check_references-clause-fault
 returns-in_err-check_references-clause-fault c =

@@ -16,4 +16,5 @@ abbrev pub decreases-instruction_in : goal.decreases-instruction_in
 decreases-instruction_in l = 3 * depth (view l.value.now)
 
 abbrev pub invariant-fields_in-loop-item : goal.invariant-fields_in-loop-item
-invariant-fields_in-loop-item l = front (map instruction_data l.fields.items) (all_fields (items_view (drop l.item-index l.items))) ≡ all_fields (items_view l.items)
+invariant-fields_in-loop-item l = front (map instruction_data l.fields.items)
+    (all_fields (items_view (drop l.item-index l.items))) ≡ all_fields (items_view l.items)

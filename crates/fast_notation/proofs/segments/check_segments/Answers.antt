@@ -17,7 +17,8 @@ returns-then-not-is_narrow-clause-wide c =
     let ts = c.args.templates.now in
     let t = c.index-templates-k.result in
     let found = slice_get_read ts (length ts) c.loop-k.k t refl c.loop-k-test.true c.index-templates-k.is in
-    let wide : IsWide (f t) = elim (cases_lt segment_limit (message_bits (f t))) [ inl h ↦ inl h | inr h ↦ inr (λ inside. false≢true (c.if-not-is_narrow.ensures.1 (h, inside))) ] in
+    let wide : IsWide (f t) = elim (cases_lt segment_limit (message_bits (f t)))
+    [ inl h ↦ inl h | inr h ↦ inr (λ inside. false≢true (c.if-not-is_narrow.ensures.1 (h, inside))) ] in
     (f t, mapped_get f ts c.loop-k.k t found, wide)
 
 pub returns-then-not-is_narrow-clause-first : goal.returns-then-not-is_narrow-clause-first

@@ -17,10 +17,12 @@ loop-number-preserved c =
     let b = c.loop-number.bits in
     let rest = body_of 0 is (drop (p + 1) ms) in
     let here = instruction_here ns n v.result _ c.requires.later (c.requires.below p c.loop-number-test.true) v.is refl in
-    let used : c.bits_used-bits.result ≡ bits_used (slice_index_or is n no_instruction) = c.bits_used-bits.ensures.used (label_of n v.result) 0 is ∙ ap bits_used (sym here) in
+    let used : c.bits_used-bits.result ≡ bits_used (slice_index_or is n no_instruction) =
+    c.bits_used-bits.ensures.used (label_of n v.result) 0 is ∙ ap bits_used (sym here) in
     let few = c.loop-number.invariant.few in
     let two = c.bits_used-bits.ensures.few in
     record {
       few = omega (arith, few, two);
-      all = add_assoc b c.bits_used-bits.result (bits_of rest) ∙ ap (λ x. b + (x + bits_of rest)) used ∙ ap (λ x. b + bits_of x) (sym (next_instruction is ms p c.loop-number-test.true)) ∙ c.loop-number.invariant.all;
+      all = add_assoc b c.bits_used-bits.result (bits_of rest) ∙ ap (λ x. b + (x + bits_of rest)) used
+          ∙ ap (λ x. b + bits_of x) (sym (next_instruction is ms p c.loop-number-test.true)) ∙ c.loop-number.invariant.all;
     }

@@ -22,11 +22,16 @@ loop-node-preserved c =
     let now : List Op = c.add_body.new.ops.items in
     let found : slice_get ns i ≡ Some x = slice_get_read ns (length ns) i x refl c.loop-node-test.true c.node-item.is in
     let begins : BeginsNode now c.in_ok-start.start x = subst (Begins now c.in_ok-start.start) c.body_of.ensures c.in_ok-start.ensures.begins in
-    let more = one_more_start BeginsNode now i c.loop-node.starts.items ns c.in_ok-start.start x found (kept_starts BeginsNode before now c.loop-node.starts.items _ (kept_node ns before now c.in_ok-start.ensures.extends) starts) begins in
+    let more = one_more_start BeginsNode now i c.loop-node.starts.items ns c.in_ok-start.start x found
+    (kept_starts BeginsNode before now c.loop-node.starts.items _ (kept_node ns before now c.in_ok-start.ensures.extends) starts)
+    begins in
     (extends_both ns c.args.ops.now.items before now extends c.in_ok-start.ensures.extends, rw (c.in_ok-push.ensures.items, add-one) more)
 
 pub loop-node-init : goal.loop-node-init
-loop-node-init c = (extends_none c.args.nodes.now c.args.ops.now.items, no_starts BeginsNode c.args.ops.now.items c.in_ok-starts.starts.items c.in_ok-starts.ensures.items)
+loop-node-init c = (
+  extends_none c.args.nodes.now c.args.ops.now.items,
+  no_starts BeginsNode c.args.ops.now.items c.in_ok-starts.starts.items c.in_ok-starts.ensures.items,
+)
 
 pub add_body-requires-clause-few : goal.add_body-requires-clause-few
 add_body-requires-clause-few c = c.requires.few
@@ -41,7 +46,8 @@ add_body-requires-clause-below c =
 
 pub returns-clause-starts : goal.returns-clause-starts
 returns-clause-starts c =
-    subst (AreStarts BeginsNode c.loop-node.ops.items c.loop-node.starts.items) (take_all c.loop-node.node-index c.args.nodes.now (omega (arith, c.loop-node-test.false))) c.loop-node.invariant.1
+    subst (AreStarts BeginsNode c.loop-node.ops.items c.loop-node.starts.items)
+    (take_all c.loop-node.node-index c.args.nodes.now (omega (arith, c.loop-node-test.false))) c.loop-node.invariant.1
 
 pub returns-clause-extends : goal.returns-clause-extends
 returns-clause-extends c = c.loop-node.invariant.0

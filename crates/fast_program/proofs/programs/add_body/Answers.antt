@@ -42,7 +42,8 @@ returns-clause-begins c =
     let all : take c.loop-number.number-index body ≡ body = take_all c.loop-number.number-index body (omega (arith, c.loop-number-test.false)) in
     let items = c.in_ok-push-2.ensures.items ∙ ap (λ os. os ++ end ∷ []) is in
     let begins : Begins ((old ++ run) ++ end ∷ []) (length old) body = closed old run body end (subst (AreOps run) all ops) (ap is_end c.end.ensures.code) in
-    subst (λ os. Begins os c.len-start.result body) (sym items) (subst (λ n. Begins ((old ++ run) ++ end ∷ []) n body) (sym c.args.ops.now.ok.0 ∙ sym c.len-start.ensures) begins)
+    subst (λ os. Begins os c.len-start.result body) (sym items)
+    (subst (λ n. Begins ((old ++ run) ++ end ∷ []) n body) (sym c.args.ops.now.ok.0 ∙ sym c.len-start.ensures) begins)
 
 pub returns-clause-extends : goal.returns-clause-extends
 returns-clause-extends c =

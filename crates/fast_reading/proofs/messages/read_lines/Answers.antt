@@ -22,7 +22,8 @@ loop-alloc-preserved c =
     let ms = c.loop-alloc.messages.items in
     subst (λ (z : List Message). AreMessagesRead t c.args.text.now (map message_data z) c.in_ok-message.next) (sym c.in_ok-push.ensures.ok)
     (subst (λ (z : List MessageData). AreMessagesRead t c.args.text.now z c.in_ok-message.next) (sym (map-append message_data ms (m ∷ [])))
-    (messages_more t c.args.text.now (map message_data ms) (message_data m) c.loop-alloc.at c.in_ok-message.next c.loop-alloc.invariant c.in_ok-message.ensures.ok))
+    (messages_more t c.args.text.now (map message_data ms)
+    (message_data m) c.loop-alloc.at c.in_ok-message.next c.loop-alloc.invariant c.in_ok-message.ensures.ok))
 
 pub returns-in_err-at-clause-err : goal.returns-in_err-at-clause-err
 returns-in_err-at-clause-err c =
@@ -41,5 +42,6 @@ returns-in_err-message-clause-err c =
     let text = c.args.text.now in
     let p = err_from_is_err_and c.from_residual-in_err-message.result c.from_residual-in_err-message.ensures.1 in
     rw p.1 (subst (OnBadLine (SaysNothing set text)) (sym p.2) (on_bad (HasNoMessage set c.loop-alloc.at) (SaysNothing set text)
-    (λ none. rest_refused set text (map message_data c.loop-alloc.messages.items) c.loop-alloc.at (distinct_bodies set (nodes_of s) s.nodes_in_preorder) c.loop-alloc.invariant (sym c.is_some.ensures ∙ c.loop-alloc-test.true) none)
+    (λ none. rest_refused set text (map message_data c.loop-alloc.messages.items) c.loop-alloc.at
+    (distinct_bodies set (nodes_of s) s.nodes_in_preorder) c.loop-alloc.invariant (sym c.is_some.ensures ∙ c.loop-alloc-test.true) none)
     c.in_err-message.field-0.0 (c.in_err-message.ensures.refused)))

@@ -12,6 +12,8 @@ returns-else-eq-clause-none c e told =
     let r = c.args.record in
     let texts = c.args.texts.now in
     let text = take r.length (drop r.value texts) in
-    let event : event_data c.in_ok-event.event ≡ e = c.in_ok-event.ensures.some ∙ ap (λ (v : List ℕ). event_back r v) c.in_ok-text_in.ensures.some ∙ back_is r text e (told_of texts r e told) in
-    let same : c.record_of.result ≡ c.ending_at.result = c.record_of.ensures ∙ ap (λ (d : EventData). record_of r.value d) event ∙ sym told.record_is ∙ sym c.ending_at.ensures in
+    let event : event_data c.in_ok-event.event ≡ e = c.in_ok-event.ensures.some
+    ∙ ap (λ (v : List ℕ). event_back r v) c.in_ok-text_in.ensures.some ∙ back_is r text e (told_of texts r e told) in
+    let same : c.record_of.result ≡ c.ending_at.result = c.record_of.ensures ∙ ap (λ (d : EventData). record_of r.value d) event
+    ∙ sym told.record_is ∙ sym c.ending_at.ensures in
     search (rules, same)

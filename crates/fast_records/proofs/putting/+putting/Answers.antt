@@ -20,11 +20,14 @@ use Rattle.fast_stream.specs.meaning.Handed.{event_data}
 use Rattle.fast_spelling.specs.device.Nodes.{instruction_in}
 use Rattle.fast_spelling.proofs.encodings.Instructions.{at_shape}
 use Rattle.fast_records.specs.device.Putting.{IsPutTo, ArePutTo}
-use Rattle.fast_records.proofs.Put.{slots_start, put_shorter, next_shorter, rows_shorter, rows_start, slot_at, body_ended, rows_more, rows_done, field_put, parts_put, group_put, sequence_put}
+use Rattle.fast_records.proofs.Put.{slots_start, put_shorter, next_shorter, rows_shorter, rows_start, slot_at, body_ended, rows_more}
+use Rattle.fast_records.proofs.Put.{rows_done, field_put, parts_put, group_put, sequence_put}
 use Rattle.fast_records.specs.device.Due.{HasNoBody, IsStuck, HasNoRows}
 use Rattle.fast_records.specs.meaning.Putting.{OnMisplaced, IsWithin}
 use Rattle.fast_records.specs.declared.putting.Mark.TheVariants as Is
-use Rattle.fast_records.proofs.Due.{on_misplaced, always, left_start, rows_left, never_at_end, pass_none, pass_some, stuck_at, never_field, never_parts, never_group, never_sequence, never_slots, never_rows, there_one, there_parts, there_group, there_sequence, left_next, left_stuck, left_end, rows_next, rows_unstarted, rows_stuck, rows_unended}
+use Rattle.fast_records.proofs.Due.{on_misplaced, always, left_start, rows_left, never_at_end, pass_none, pass_some, stuck_at, never_field}
+use Rattle.fast_records.proofs.Due.{never_parts, never_group, never_sequence, never_slots, never_rows, there_one, there_parts, there_group}
+use Rattle.fast_records.proofs.Due.{there_sequence, left_next, left_stuck, left_end, rows_next, rows_unstarted, rows_stuck, rows_unended}
 use mathlib.Core.List.{not-mem-nil}
 use Rattle.fast_records.proofs.putting.+putting.Goals as goal
 
@@ -37,9 +40,12 @@ put_body-loop-node-preserved t c =
     let from = map event_data (drop c.args.at given) in
     let to = map event_data (drop c.in_ok-item.next given) in
     let here = map event_data (drop c.loop-node.place given) in (
-      subst (λ (z : List (Option Item)). IsPutTo (body_among nodes body) z (body_among nodes (drop (i + 1) body)) from to) (sym {A = List (Option Item)} c.in_ok-push.ensures)
-          (slot_at nodes body i (slice_index body i) c.loop-node-test.true refl c.loop-node.slots.items from here c.loop-node.invariant.0 c.in_ok-item.item to c.in_ok-item.ensures.put),
-      left_next nodes body i (slice_index body i) c.loop-node-test.true refl c.requires c.args.end from here c.loop-node.invariant.1 to c.in_ok-item.ensures.passes,
+      subst (λ (z : List (Option Item)). IsPutTo (body_among nodes body) z (body_among nodes (drop (i + 1) body)) from to)
+          (sym {A = List (Option Item)} c.in_ok-push.ensures)
+          (slot_at nodes body i (slice_index body i) c.loop-node-test.true refl c.loop-node.slots.items from here c.loop-node.invariant.0
+          c.in_ok-item.item to c.in_ok-item.ensures.put),
+      left_next nodes body i (slice_index body i) c.loop-node-test.true refl c.requires c.args.end from here c.loop-node.invariant.1 to
+          c.in_ok-item.ensures.passes,
       λ h. c.in_ok-item.ensures.next (c.loop-node.invariant.2 h),
     )
 
@@ -72,7 +78,9 @@ put_body-returns-in_err-next-clause-none t c =
 pub put_body-returns-clause-put : goal.put_body-returns-clause-put
 put_body-returns-clause-put t c =
     let given = c.args.given.now in
-    body_ended (nodes_of c.args.templates.now) c.args.body.now c.loop-node.node-index c.loop-node.slots.items c.args.end (map event_data (drop c.args.at given)) (map event_data (drop c.loop-node.place given)) (map event_data (drop c.in_ok-next.next given))
+    body_ended (nodes_of c.args.templates.now) c.args.body.now c.loop-node.node-index c.loop-node.slots.items c.args.end
+    (map event_data (drop c.args.at given)) (map event_data (drop c.loop-node.place given))
+    (map event_data (drop c.in_ok-next.next given))
     c.loop-node-test.false c.loop-node.invariant.0 c.in_ok-next.ensures.found
 
 pub put_rows-loop-i-preserved : goal.put_rows-loop-i-preserved
@@ -83,9 +91,12 @@ put_rows-loop-i-preserved t c =
     let to = map event_data (drop c.in_ok-row.next given) in
     let here = map event_data (drop c.loop-i.place given) in
     let mid = map event_data (drop c.in_ok-next.next given) in (
-      subst (λ (z : List (Vec (Option Item) Global)). ArePutTo body (c.loop-i._i + 1) z from to) (sym {A = List (Vec (Option Item) Global)} c.in_ok-push.ensures)
-          (rows_more body c.loop-i._i c.loop-i.rows.items c.in_ok-row.row from here mid to c.loop-i.invariant.0 c.in_ok-next.ensures.found c.in_ok-row.ensures.put),
-      rows_next body c.args.count c.loop-i._i from here c.loop-i.invariant.1 (slots_data c.in_ok-row.row.items) mid to c.in_ok-next.ensures.found c.in_ok-row.ensures.put,
+      subst (λ (z : List (Vec (Option Item) Global)). ArePutTo body (c.loop-i._i + 1) z from to)
+          (sym {A = List (Vec (Option Item) Global)} c.in_ok-push.ensures)
+          (rows_more body c.loop-i._i c.loop-i.rows.items c.in_ok-row.row from here mid to c.loop-i.invariant.0 c.in_ok-next.ensures.found
+          c.in_ok-row.ensures.put),
+      rows_next body c.args.count c.loop-i._i from here c.loop-i.invariant.1
+          (slots_data c.in_ok-row.row.items) mid to c.in_ok-next.ensures.found c.in_ok-row.ensures.put,
       λ h. c.in_ok-row.ensures.next c.in_ok-next.ensures.next,
     )
 
@@ -130,7 +141,8 @@ put_rows-returns-clause-put t c =
     let at = map event_data (drop c.loop-i.place given) in
     let rows = c.loop-i.rows.items in
     let all : c.loop-i._i ≡ c.args.count = omega (arith, c.loop-i-test.false) in
-    rows_done body c.args.count rows from at (map event_data (drop c.in_ok-next-2.next given)) (subst (λ k. ArePutTo body k rows from at) all c.loop-i.invariant.0) c.in_ok-next-2.ensures.found
+    rows_done body c.args.count rows from at (map event_data (drop c.in_ok-next-2.next given))
+    (subst (λ k. ArePutTo body k rows from at) all c.loop-i.invariant.0) c.in_ok-next-2.ensures.found
 
 pub put_slot-returns-in_ok-slots-in-Group-clause-passes : goal.put_slot-returns-in_ok-slots-in-Group-clause-passes
 put_slot-returns-in_ok-slots-in-Group-clause-passes t c =
@@ -149,7 +161,8 @@ put_slot-returns-in_ok-slots-in-Group-clause-passes t c =
     let x = item_data (V.Group slots) in
     let to = map event_data (drop c.in_ok-slots-in-Group.next given) in
     pass_some nodes n x from to c.requires (there_group i (label_of n v) c.in-Group.optional inner (slots_data slots.items) x is (item_data-Group slots))
-    (group_put n i (label_of n v) c.in-Group.optional inner (slots_data slots.items) x from mid to is refl (item_data-Group slots) start (rw c.deref.ensures.value at c.in_ok-slots-in-Group.ensures.put))
+    (group_put n i (label_of n v) c.in-Group.optional inner (slots_data slots.items) x from mid to is refl (item_data-Group slots) start
+    (rw c.deref.ensures.value at c.in_ok-slots-in-Group.ensures.put))
 
 pub put_slot-returns-in_ok-rows-in-Sequence-clause-passes : goal.put_slot-returns-in_ok-rows-in-Sequence-clause-passes
 put_slot-returns-in_ok-rows-in-Sequence-clause-passes t c =
@@ -168,8 +181,10 @@ put_slot-returns-in_ok-rows-in-Sequence-clause-passes t c =
     let rows = c.in_ok-rows-in-Sequence.rows in
     let x = item_data (V.Sequence rows) in
     let to = map event_data (drop c.in_ok-rows-in-Sequence.next given) in
-    pass_some nodes n x from to c.requires (there_sequence i (label_of n v) (field_data c.in-Sequence.length) inner (elements_data rows.items) x is (item_data-Sequence rows))
-    (sequence_put n i (label_of n v) (field_data c.in-Sequence.length) inner (elements_data rows.items) many x from mid to is refl (item_data-Sequence rows) start (rw c.deref-in-Sequence.ensures.value at c.in_ok-rows-in-Sequence.ensures.put))
+    pass_some nodes n x from to c.requires (there_sequence i (label_of n v) (field_data c.in-Sequence.length) inner
+    (elements_data rows.items) x is (item_data-Sequence rows))
+    (sequence_put n i (label_of n v) (field_data c.in-Sequence.length) inner (elements_data rows.items) many x from mid to is refl
+    (item_data-Sequence rows) start (rw c.deref-in-Sequence.ensures.value at c.in_ok-rows-in-Sequence.ensures.put))
 
 pub put_slot-returns-in_ok-value-in-Field-clause-passes : goal.put_slot-returns-in_ok-value-in-Field-clause-passes
 put_slot-returns-in_ok-value-in-Field-clause-passes t c =
@@ -186,8 +201,12 @@ put_slot-returns-in_ok-value-in-Field-clause-passes t c =
     let item = item_data-One c.in_ok-value-in-Field.value ∙ ap one c.in_ok-value-in-Field.ensures in
     let first = c.in-Some.ensures.first ∙ ap (λ (z : EventData). z ∷ mid) c.in-Some-value_of.ensures.some in
     elim c.in-Field.is [
-      | inl w ↦ let is = at_shape nodes n v (Field w.0) c.node.ensures.found c.node.ensures.body w.1 in pass_some nodes n x from mid c.requires (there_one i (label_of n v) (field_data w.0) value x is item) (field_put n i (label_of n v) (field_data w.0) value x from mid is refl item first)
-      | inr w ↦ let is = at_shape nodes n v (Decimal w.0 w.1) c.node.ensures.found c.node.ensures.body w.2 in pass_some nodes n x from mid c.requires (there_parts i (label_of n v) (field_data w.0) (field_data w.1) value x is item) (parts_put n i (label_of n v) (field_data w.0) (field_data w.1) value x from mid is refl item first)
+      | inl w ↦ let is = at_shape nodes n v (Field w.0) c.node.ensures.found c.node.ensures.body w.1 in
+          pass_some nodes n x from mid c.requires (there_one i (label_of n v) (field_data w.0) value x is item)
+          (field_put n i (label_of n v) (field_data w.0) value x from mid is refl item first)
+      | inr w ↦ let is = at_shape nodes n v (Decimal w.0 w.1) c.node.ensures.found c.node.ensures.body w.2 in
+          pass_some nodes n x from mid c.requires (there_parts i (label_of n v) (field_data w.0) (field_data w.1) value x is item)
+          (parts_put n i (label_of n v) (field_data w.0) (field_data w.1) value x from mid is refl item first)
     ]
 
 pub put_slot-returns-then-not-is_group-clause-passes : goal.put_slot-returns-then-not-is_group-clause-passes
@@ -202,7 +221,8 @@ put_slot-returns-then-not-is_group-clause-passes t c =
     let e = event_data c.in-Some.first in
     let inner = body_among nodes c.in-Group.body.items in
     let is = at_shape nodes n v (Group c.in-Group.optional c.in-Group.body) c.node.ensures.found c.node.ensures.body c.in-Group.is in
-    pass_none nodes n from (never_group n e from mid c.in-Some.ensures.first i (label_of n v) c.in-Group.optional inner is refl (c.if-not-is_group.ensures.no refl))
+    pass_none nodes n from (never_group n e from mid c.in-Some.ensures.first i (label_of n v) c.in-Group.optional inner is refl
+    (c.if-not-is_group.ensures.no refl))
 
 pub put_slot-returns-in_err-slots-in-Group-clause-none : goal.put_slot-returns-in_err-slots-in-Group-clause-none
 put_slot-returns-in_err-slots-in-Group-clause-none t c =
@@ -234,7 +254,8 @@ put_slot-returns-in_default-count_of-clause-passes t c =
     let e = event_data c.in-Some.first in
     let inner = body_among nodes c.in-Sequence.body.items in
     let is = at_shape nodes n v (Sequence c.in-Sequence.length c.in-Sequence.body) c.node.ensures.found c.node.ensures.body c.in-Sequence.is in
-    pass_none nodes n from (never_sequence n e from mid c.in-Some.ensures.first i (label_of n v) (field_data c.in-Sequence.length) inner is refl c.in_default-count_of.ensures.none)
+    pass_none nodes n from (never_sequence n e from mid c.in-Some.ensures.first i (label_of n v)
+    (field_data c.in-Sequence.length) inner is refl c.in_default-count_of.ensures.none)
 
 pub put_slot-returns-in_err-rows-in-Sequence-clause-none : goal.put_slot-returns-in_err-rows-in-Sequence-clause-none
 put_slot-returns-in_err-rows-in-Sequence-clause-none t c =
@@ -252,7 +273,8 @@ put_slot-returns-in_err-rows-in-Sequence-clause-none t c =
     let start : from ≡ SequenceStart n many ∷ mid = c.in-Some.ensures.first ∙ ap (λ (z : EventData). z ∷ mid) c.in-Some-count_of.ensures.some in
     let p = err_from_is_err_and c.from_residual-in_err-rows-in-Sequence.result c.from_residual-in_err-rows-in-Sequence.ensures.1 in
     rw p.1 (subst (OnMisplaced (IsStuck nodes n from)) (sym p.2) (on_misplaced (HasNoRows inner many mid) (IsStuck nodes n from)
-    (λ none. stuck_at nodes n (SequenceStart n many) from mid c.requires start refl (never_rows i (label_of n v) (field_data c.in-Sequence.length) inner n many from mid is start none))
+    (λ none. stuck_at nodes n (SequenceStart n many) from mid c.requires start refl
+    (never_rows i (label_of n v) (field_data c.in-Sequence.length) inner n many from mid is start none))
     c.in_err-rows-in-Sequence.field-0.0 (rw c.deref-in-Sequence.ensures.value at c.in_err-rows-in-Sequence.ensures.none)))
 
 pub put_slot-returns-in_default-value_of-clause-passes : goal.put_slot-returns-in_default-value_of-clause-passes
@@ -266,8 +288,10 @@ put_slot-returns-in_default-value_of-clause-passes t c =
     let mid = map event_data (drop (c.args.at + 1) given) in
     let e = event_data c.in-Some.first in
     elim c.in-Field.is [
-      | inl w ↦ pass_none nodes n from (never_field n e from mid c.in-Some.ensures.first i (label_of n v) (field_data w.0) (at_shape nodes n v (Field w.0) c.node.ensures.found c.node.ensures.body w.1) refl c.in_default-value_of.ensures.none)
-      | inr w ↦ pass_none nodes n from (never_parts n e from mid c.in-Some.ensures.first i (label_of n v) (field_data w.0) (field_data w.1) (at_shape nodes n v (Decimal w.0 w.1) c.node.ensures.found c.node.ensures.body w.2) refl c.in_default-value_of.ensures.none)
+      | inl w ↦ pass_none nodes n from (never_field n e from mid c.in-Some.ensures.first i (label_of n v) (field_data w.0)
+          (at_shape nodes n v (Field w.0) c.node.ensures.found c.node.ensures.body w.1) refl c.in_default-value_of.ensures.none)
+      | inr w ↦ pass_none nodes n from (never_parts n e from mid c.in-Some.ensures.first i (label_of n v) (field_data w.0) (field_data w.1)
+          (at_shape nodes n v (Decimal w.0 w.1) c.node.ensures.found c.node.ensures.body w.2) refl c.in_default-value_of.ensures.none)
     ]
 
 pub put_slot-returns-in_ok-slots-in-Group-clause-put : goal.put_slot-returns-in_ok-slots-in-Group-clause-put
@@ -278,9 +302,12 @@ put_slot-returns-in_ok-slots-in-Group-clause-put t c =
     let given = c.args.given.now in
     let mid = map event_data (drop (c.args.at + 1) given) in
     let slots = c.in_ok-slots-in-Group.slots in
-    group_put n (instruction_in nodes n) (label_of n v) c.in-Group.optional (body_among nodes c.in-Group.body.items) (slots_data slots.items) (item_data (V.Group slots)) (map event_data (drop c.args.at given)) mid (map event_data (drop c.in_ok-slots-in-Group.next given))
+    group_put n (instruction_in nodes n) (label_of n v) c.in-Group.optional (body_among nodes c.in-Group.body.items)
+    (slots_data slots.items) (item_data (V.Group slots)) (map event_data (drop c.args.at given)) mid
+    (map event_data (drop c.in_ok-slots-in-Group.next given))
     (at_shape nodes n v (Group c.in-Group.optional c.in-Group.body) c.node.ensures.found c.node.ensures.body c.in-Group.is) refl (item_data-Group slots)
-    (c.in-Some.ensures.first ∙ ap (λ (z : EventData). z ∷ mid) (c.if-not-is_group.ensures.yes refl)) (rw c.deref.ensures.value at c.in_ok-slots-in-Group.ensures.put)
+    (c.in-Some.ensures.first ∙ ap (λ (z : EventData). z ∷ mid) (c.if-not-is_group.ensures.yes refl))
+    (rw c.deref.ensures.value at c.in_ok-slots-in-Group.ensures.put)
 
 pub put_slot-returns-in_ok-rows-in-Sequence-clause-put : goal.put_slot-returns-in_ok-rows-in-Sequence-clause-put
 put_slot-returns-in_ok-rows-in-Sequence-clause-put t c =
@@ -290,9 +317,13 @@ put_slot-returns-in_ok-rows-in-Sequence-clause-put t c =
     let given = c.args.given.now in
     let mid = map event_data (drop (c.args.at + 1) given) in
     let rows = c.in_ok-rows-in-Sequence.rows in
-    sequence_put n (instruction_in nodes n) (label_of n v) (field_data c.in-Sequence.length) (body_among nodes c.in-Sequence.body.items) (elements_data rows.items) c.in-Some-count_of.count (item_data (V.Sequence rows)) (map event_data (drop c.args.at given)) mid
-    (map event_data (drop c.in_ok-rows-in-Sequence.next given)) (at_shape nodes n v (Sequence c.in-Sequence.length c.in-Sequence.body) c.node.ensures.found c.node.ensures.body c.in-Sequence.is) refl (item_data-Sequence rows)
-    (c.in-Some.ensures.first ∙ ap (λ (z : EventData). z ∷ mid) c.in-Some-count_of.ensures.some) (rw c.deref-in-Sequence.ensures.value at c.in_ok-rows-in-Sequence.ensures.put)
+    sequence_put n (instruction_in nodes n) (label_of n v) (field_data c.in-Sequence.length) (body_among nodes c.in-Sequence.body.items)
+    (elements_data rows.items) c.in-Some-count_of.count (item_data (V.Sequence rows)) (map event_data (drop c.args.at given)) mid
+    (map event_data (drop c.in_ok-rows-in-Sequence.next given))
+    (at_shape nodes n v (Sequence c.in-Sequence.length c.in-Sequence.body) c.node.ensures.found c.node.ensures.body c.in-Sequence.is)
+    refl (item_data-Sequence rows)
+    (c.in-Some.ensures.first ∙ ap (λ (z : EventData). z ∷ mid) c.in-Some-count_of.ensures.some)
+    (rw c.deref-in-Sequence.ensures.value at c.in_ok-rows-in-Sequence.ensures.put)
 
 pub put_slot-returns-in_ok-value-in-Field-clause-put : goal.put_slot-returns-in_ok-value-in-Field-clause-put
 put_slot-returns-in_ok-value-in-Field-clause-put t c =
@@ -306,8 +337,12 @@ put_slot-returns-in_ok-value-in-Field-clause-put t c =
     let item = item_data-One c.in_ok-value-in-Field.value ∙ ap one c.in_ok-value-in-Field.ensures in
     let first = c.in-Some.ensures.first ∙ ap (λ (z : EventData). z ∷ mid) c.in-Some-value_of.ensures.some in
     elim c.in-Field.is [
-      | inl w ↦ field_put n (instruction_in nodes n) (label_of n v) (field_data w.0) value (item_data (V.One c.in_ok-value-in-Field.value)) from mid (at_shape nodes n v (Field w.0) c.node.ensures.found c.node.ensures.body w.1) refl item first
-      | inr w ↦ parts_put n (instruction_in nodes n) (label_of n v) (field_data w.0) (field_data w.1) value (item_data (V.One c.in_ok-value-in-Field.value)) from mid (at_shape nodes n v (Decimal w.0 w.1) c.node.ensures.found c.node.ensures.body w.2) refl item first
+      | inl w ↦ field_put n (instruction_in nodes n) (label_of n v) (field_data w.0) value
+          (item_data (V.One c.in_ok-value-in-Field.value)) from mid
+          (at_shape nodes n v (Field w.0) c.node.ensures.found c.node.ensures.body w.1) refl item first
+      | inr w ↦ parts_put n (instruction_in nodes n) (label_of n v) (field_data w.0) (field_data w.1) value
+          (item_data (V.One c.in_ok-value-in-Field.value)) from mid
+          (at_shape nodes n v (Decimal w.0 w.1) c.node.ensures.found c.node.ensures.body w.2) refl item first
     ]
 
 -- where a part was refused, the whole was, at the same place
@@ -494,7 +529,8 @@ pub put_rows-returns-in_err-next-2-clause-put : goal.put_rows-returns-in_err-nex
 put_rows-returns-in_err-next-2-clause-put t c = rw ((err_from_is_err_and c.from_residual-in_err-next-2.result c.from_residual-in_err-next-2.ensures.1).1) tt
 
 pub put_rows-returns-in_err-next-2-clause-next : goal.put_rows-returns-in_err-next-2-clause-next
-put_rows-returns-in_err-next-2-clause-next t c = λ h. rw ((err_from_is_err_and c.from_residual-in_err-next-2.result c.from_residual-in_err-next-2.ensures.1).1) tt
+put_rows-returns-in_err-next-2-clause-next t c = λ h. rw ((err_from_is_err_and c.from_residual-in_err-next-2.result
+    c.from_residual-in_err-next-2.ensures.1).1) tt
 
 pub put_rows-returns-clause-none : goal.put_rows-returns-clause-none
 put_rows-returns-clause-none t c = tt
@@ -575,13 +611,16 @@ pub put_slot-from_residual-requires-in_err-rows-in-Sequence : goal.put_slot-from
 put_slot-from_residual-requires-in_err-rows-in-Sequence t c κs = (λ a m. absurd (not-mem-nil m), (λ a m. absurd (not-mem-nil m), λ a m. absurd (not-mem-nil m)))
 
 pub put_slot-returns-in_err-rows-in-Sequence-clause-put : goal.put_slot-returns-in_err-rows-in-Sequence-clause-put
-put_slot-returns-in_err-rows-in-Sequence-clause-put t c = rw ((err_from_is_err_and c.from_residual-in_err-rows-in-Sequence.result c.from_residual-in_err-rows-in-Sequence.ensures.1).1) tt
+put_slot-returns-in_err-rows-in-Sequence-clause-put t c =
+    rw ((err_from_is_err_and c.from_residual-in_err-rows-in-Sequence.result c.from_residual-in_err-rows-in-Sequence.ensures.1).1) tt
 
 pub put_slot-returns-in_err-rows-in-Sequence-clause-passes : goal.put_slot-returns-in_err-rows-in-Sequence-clause-passes
-put_slot-returns-in_err-rows-in-Sequence-clause-passes t c = rw ((err_from_is_err_and c.from_residual-in_err-rows-in-Sequence.result c.from_residual-in_err-rows-in-Sequence.ensures.1).1) tt
+put_slot-returns-in_err-rows-in-Sequence-clause-passes t c =
+    rw ((err_from_is_err_and c.from_residual-in_err-rows-in-Sequence.result c.from_residual-in_err-rows-in-Sequence.ensures.1).1) tt
 
 pub put_slot-returns-in_err-rows-in-Sequence-clause-next : goal.put_slot-returns-in_err-rows-in-Sequence-clause-next
-put_slot-returns-in_err-rows-in-Sequence-clause-next t c = λ h. rw ((err_from_is_err_and c.from_residual-in_err-rows-in-Sequence.result c.from_residual-in_err-rows-in-Sequence.ensures.1).1) tt
+put_slot-returns-in_err-rows-in-Sequence-clause-next t c =
+    λ h. rw ((err_from_is_err_and c.from_residual-in_err-rows-in-Sequence.result c.from_residual-in_err-rows-in-Sequence.ensures.1).1) tt
 
 pub put_slot-value_of-requires : goal.put_slot-value_of-requires
 put_slot-value_of-requires t c = tt
@@ -608,13 +647,16 @@ pub put_slot-from_residual-requires-in_err-value-in-Field : goal.put_slot-from_r
 put_slot-from_residual-requires-in_err-value-in-Field t c κs = (λ a m. absurd (not-mem-nil m), (λ a m. absurd (not-mem-nil m), λ a m. absurd (not-mem-nil m)))
 
 pub put_slot-returns-in_err-value-in-Field-clause-put : goal.put_slot-returns-in_err-value-in-Field-clause-put
-put_slot-returns-in_err-value-in-Field-clause-put t c = rw ((err_from_is_err_and c.from_residual-in_err-value-in-Field.result c.from_residual-in_err-value-in-Field.ensures.1).1) tt
+put_slot-returns-in_err-value-in-Field-clause-put t c =
+    rw ((err_from_is_err_and c.from_residual-in_err-value-in-Field.result c.from_residual-in_err-value-in-Field.ensures.1).1) tt
 
 pub put_slot-returns-in_err-value-in-Field-clause-passes : goal.put_slot-returns-in_err-value-in-Field-clause-passes
-put_slot-returns-in_err-value-in-Field-clause-passes t c = rw ((err_from_is_err_and c.from_residual-in_err-value-in-Field.result c.from_residual-in_err-value-in-Field.ensures.1).1) tt
+put_slot-returns-in_err-value-in-Field-clause-passes t c =
+    rw ((err_from_is_err_and c.from_residual-in_err-value-in-Field.result c.from_residual-in_err-value-in-Field.ensures.1).1) tt
 
 pub put_slot-returns-in_err-value-in-Field-clause-next : goal.put_slot-returns-in_err-value-in-Field-clause-next
-put_slot-returns-in_err-value-in-Field-clause-next t c = λ h. rw ((err_from_is_err_and c.from_residual-in_err-value-in-Field.result c.from_residual-in_err-value-in-Field.ensures.1).1) tt
+put_slot-returns-in_err-value-in-Field-clause-next t c =
+    λ h. rw ((err_from_is_err_and c.from_residual-in_err-value-in-Field.result c.from_residual-in_err-value-in-Field.ensures.1).1) tt
 
 pub put_slot-returns-in_ok-slots-in-Group-clause-none : goal.put_slot-returns-in_ok-slots-in-Group-clause-none
 put_slot-returns-in_ok-slots-in-Group-clause-none t c = tt
@@ -637,8 +679,12 @@ put_slot-returns-in_ok-value-in-Field-clause-within t c = λ h. tt
 pub put_body-loop-node-init : goal.put_body-loop-node-init
 put_body-loop-node-init t c =
     let body = body_among (nodes_of c.args.templates.now) c.args.body.now in
-    let from = map event_data (drop c.args.at c.args.given.now) in
-    (subst (λ (z : List (Option Item)). IsPutTo body z body from from) (sym {A = List (Option Item)} c.new-slots.ensures.items) (slots_start body from), left_start body c.args.end from, λ h. h)
+    let from = map event_data (drop c.args.at c.args.given.now) in (
+      subst (λ (z : List (Option Item)). IsPutTo body z body from from) (sym {A = List (Option Item)} c.new-slots.ensures.items)
+          (slots_start body from),
+      left_start body c.args.end from,
+      λ h. h,
+    )
 
 pub put_body-offset_bounds-body-node-index : goal.put_body-offset_bounds-body-node-index
 put_body-offset_bounds-body-node-index t c = search rules
@@ -651,7 +697,8 @@ put_body-put_slot-requires t c =
     let body = body_among (nodes_of c.args.templates.now) c.args.body.now in
     let given = c.args.given.now in
     let d : 3 * length (drop c.args.at given) + 2 ≡ t = c.decreases in
-    let less = put_shorter body (body_among (nodes_of c.args.templates.now) (drop c.loop-node.node-index c.args.body.now)) c.loop-node.slots.items (drop c.args.at given) (drop c.loop-node.place given) c.loop-node.invariant.0 in
+    let less = put_shorter body (body_among (nodes_of c.args.templates.now) (drop c.loop-node.node-index c.args.body.now))
+    c.loop-node.slots.items (drop c.args.at given) (drop c.loop-node.place given) c.loop-node.invariant.0 in
     let smaller : 3 * length (drop c.loop-node.place given) + 1 < t = omega (arith, d, less) in
     (smaller, c.requires c.loop-node.node-index c.loop-node-test.true)
 
@@ -675,8 +722,12 @@ put_body-loop-node-smaller t c =
 pub put_rows-loop-i-init : goal.put_rows-loop-i-init
 put_rows-loop-i-init t c =
     let body = body_among (nodes_of c.args.templates.now) c.args.body.now in
-    let from = map event_data (drop c.args.at c.args.given.now) in
-    (subst (λ (z : List (Vec (Option Item) Global)). ArePutTo body 0 z from from) (sym {A = List (Vec (Option Item) Global)} c.new-rows.ensures.items) (rows_start body from), rows_left body c.args.count from, λ h. h)
+    let from = map event_data (drop c.args.at c.args.given.now) in (
+      subst (λ (z : List (Vec (Option Item) Global)). ArePutTo body 0 z from from)
+          (sym {A = List (Vec (Option Item) Global)} c.new-rows.ensures.items) (rows_start body from),
+      rows_left body c.args.count from,
+      λ h. h,
+    )
 
 pub put_rows-put_body-requires : goal.put_rows-put_body-requires
 put_rows-put_body-requires t c =

@@ -9,8 +9,10 @@ use Rattle.fast_records.proofs.putting.+putting.Given as goal
 
 abbrev pub invariant-put_body-loop-node : goal.invariant-put_body-loop-node
 invariant-put_body-loop-node l =
-    IsPutTo (body_among (nodes_of l.templates) l.body) l.slots.items (body_among (nodes_of l.templates) (drop l.node-index l.body)) (map event_data (drop l.fn.at l.given)) (map event_data (drop l.place l.given))
-    × IsLeft (body_among (nodes_of l.templates) l.body) (body_among (nodes_of l.templates) (drop l.node-index l.body)) l.end (map event_data (drop l.fn.at l.given)) (map event_data (drop l.place l.given))
+    IsPutTo (body_among (nodes_of l.templates) l.body) l.slots.items (body_among (nodes_of l.templates) (drop l.node-index l.body))
+    (map event_data (drop l.fn.at l.given)) (map event_data (drop l.place l.given))
+    × IsLeft (body_among (nodes_of l.templates) l.body) (body_among (nodes_of l.templates) (drop l.node-index l.body)) l.end
+    (map event_data (drop l.fn.at l.given)) (map event_data (drop l.place l.given))
     × (l.fn.at ≤ length l.given → l.place ≤ length l.given)
 
 abbrev pub invariant-put_rows-loop-i : goal.invariant-put_rows-loop-i

@@ -11,7 +11,9 @@ pub returns-then-next-given-clause-misplaced : goal.returns-then-next-given-clau
 returns-then-next-given-clause-misplaced c =
     let given = c.args.given.now in
     let next = c.in_ok-message.next in
-    more_behind (tree_of c.args.templates.now) (message_data c.in_ok-message.message) (map event_data given) (map event_data (drop next given)) c.in_ok-message.ensures.known c.in_ok-message.ensures.put (some_left given next c.if-next-given.true)
+    more_behind (tree_of c.args.templates.now) (message_data c.in_ok-message.message) (map event_data given)
+    (map event_data (drop next given)) c.in_ok-message.ensures.known c.in_ok-message.ensures.put
+    (some_left given next c.if-next-given.true)
 
 pub put_message-requires : goal.put_message-requires
 put_message-requires c = tt

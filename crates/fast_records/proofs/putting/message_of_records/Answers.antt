@@ -14,8 +14,10 @@ returns-clause-misplaced c =
     let records = c.args.records.now in
     let texts = c.args.texts.now in
     let given = map event_data c.in_ok-given.given.items in
-    if_misplaced (HasNoMessage t given) (AreNoMessage t records texts) (λ none m inside told. none m inside (one_list texts records given (events t m) c.in_ok-given.ensures.told told))
+    if_misplaced (HasNoMessage t given) (AreNoMessage t records texts)
+    (λ none m inside told. none m inside (one_list texts records given (events t m) c.in_ok-given.ensures.told told))
     c.message_of.result (rw c.deref.ensures.value at c.message_of.ensures.misplaced)
 
 pub returns-clause-placed : goal.returns-clause-placed
-returns-clause-placed c = if_placed c.args.texts.now c.args.records.now c.in_ok-given.given.items c.message_of.result c.in_ok-given.ensures.told (rw c.deref.ensures.value at c.message_of.ensures.within)
+returns-clause-placed c = if_placed c.args.texts.now c.args.records.now c.in_ok-given.given.items c.message_of.result
+    c.in_ok-given.ensures.told (rw c.deref.ensures.value at c.message_of.ensures.within)

@@ -22,9 +22,14 @@ returns-clause-put c =
     let given = c.args.given.now in
     let f = template_data (instructions_from 0 (nodes_of set)) in
     let here = c.in-Some-MessageStart.field-0-is in
-    let start : map event_data given ≡ MessageStart n ∷ map event_data (drop 1 given) = c.in-Some-MessageStart.ensures.first ∙ ap (λ (z : Event). event_data z ∷ map event_data (drop 1 given)) here in
-    message_put (tree_of set) n (f c.template.result.now) (slots_data c.in_ok-items.items.items) (message_data (record { template = n; items = c.in_ok-items.items })) (map event_data given) (map event_data (drop 1 given))
-    (map event_data (drop c.in_ok-items.next given)) refl (slice_get-map f (templates_of set) n ∙ ap (option_map f) c.template.ensures.found) start (rw c.deref.ensures.value at c.in_ok-items.ensures.put)
+    let start : map event_data given ≡ MessageStart n ∷ map event_data (drop 1 given) = c.in-Some-MessageStart.ensures.first
+    ∙ ap (λ (z : Event). event_data z ∷ map event_data (drop 1 given)) here in
+    message_put (tree_of set) n (f c.template.result.now) (slots_data c.in_ok-items.items.items) (message_data (record {
+      template = n;
+      items = c.in_ok-items.items;
+    })) (map event_data given) (map event_data (drop 1 given))
+    (map event_data (drop c.in_ok-items.next given)) refl (slice_get-map f (templates_of set) n
+    ∙ ap (option_map f) c.template.ensures.found) start (rw c.deref.ensures.value at c.in_ok-items.ensures.put)
 
 pub returns-in_err-items-clause-none : goal.returns-in_err-items-clause-none
 returns-in_err-items-clause-none c =

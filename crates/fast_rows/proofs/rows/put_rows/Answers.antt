@@ -18,8 +18,13 @@ loop-rest-preserved g c =
     record {
       few = omega (arith, i.few, all, same);
       so_far = λ t.
-          let h = i.so_far t in
-          (h.0 ++ More row ∷ [], more_bytes h.0 row others _ _ c.first_row.ensures.all h.1, more_lines h.0 row h.2, more_place h.0 row _ _ h.3, more_row t _ _ h.0 row h.3 h.4 (writes_both c.put_cells.ensures c.put.ensures));
+          let h = i.so_far t in (
+            h.0 ++ More row ∷ [],
+            more_bytes h.0 row others _ _ c.first_row.ensures.all h.1,
+            more_lines h.0 row h.2,
+            more_place h.0 row _ _ h.3,
+            more_row t _ _ h.0 row h.3 h.4 (writes_both c.put_cells.ensures c.put.ensures),
+          );
     }
 
 pub returns : goal.returns

@@ -24,7 +24,8 @@ returns-in_err-write_line-clause-written g c =
     let rest = c.first_row.result.1.now in
     let text = line_of t (event_data c.args.event) in
     let p = err_from_is_err_and c.from_residual-in_err-write_line.result c.from_residual-in_err-write_line.ensures.1 in
-    rw (p.1, ← c.first_row.ensures.all) (event_cut t c.args.at row rest text _ _ _ _ _ (is_both _ _ _ _ _ _ _ _ _ c.in_ok-write_columns.ensures c.in_err-write_line.ensures.written))
+    rw (p.1, ← c.first_row.ensures.all) (event_cut t c.args.at row rest text _ _ _ _ _
+    (is_both _ _ _ _ _ _ _ _ _ c.in_ok-write_columns.ensures c.in_err-write_line.ensures.written))
 
 pub returns-clause-written : goal.returns-clause-written
 returns-clause-written g c =
@@ -32,4 +33,5 @@ returns-clause-written g c =
     let row = c.first_row.result.0.now in
     let rest = c.first_row.result.1.now in
     let text = line_of t (event_data c.args.event) in
-    rw (← c.first_row.ensures.all) (event_written t c.args.at _ row rest text _ _ _ _ _ _ _ _ _ c.in_ok-write_columns.ensures c.in_ok-write_line.ensures.written refl (c.write_rows.ensures t))
+    rw (← c.first_row.ensures.all) (event_written t c.args.at _ row rest text _ _ _ _ _ _ _ _ _ c.in_ok-write_columns.ensures
+    c.in_ok-write_line.ensures.written refl (c.write_rows.ensures t))

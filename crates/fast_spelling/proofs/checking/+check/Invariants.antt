@@ -12,8 +12,11 @@ use Rattle.fast_spelling.proofs.checking.+check.Given as goal
 
 abbrev pub invariant-try_body-loop-i : goal.invariant-try_body-loop-i
 invariant-try_body-loop-i l = record {
-  written : IsWritten l.plan.limits (body_among (nodes_of l.plan.templates.now) l.body) (slots_data l.slots) l.fn.work.ledger.now l.fn.work.draft (body_among (nodes_of l.plan.templates.now) (drop l.i l.body)) (slots_data (drop l.i l.slots)) l.work.ledger.now l.work.draft;
-  suits : SuitsBody (body_among (nodes_of l.plan.templates.now) (drop l.i l.body)) (slots_data (drop l.i l.slots)) → SuitsBody (body_among (nodes_of l.plan.templates.now) l.body) (slots_data l.slots);
+  written : IsWritten l.plan.limits (body_among (nodes_of l.plan.templates.now) l.body)
+      (slots_data l.slots) l.fn.work.ledger.now l.fn.work.draft (body_among (nodes_of l.plan.templates.now) (drop l.i l.body))
+      (slots_data (drop l.i l.slots)) l.work.ledger.now l.work.draft;
+  suits : SuitsBody (body_among (nodes_of l.plan.templates.now) (drop l.i l.body)) (slots_data (drop l.i l.slots))
+      → SuitsBody (body_among (nodes_of l.plan.templates.now) l.body) (slots_data l.slots);
   fits : AreWithinLimits l.plan.limits (slots_data (drop l.i l.slots)) → AreWithinLimits l.plan.limits (slots_data l.slots);
   sum : l.work.room + total (slots_data l.slots) ≡ l.fn.work.room + total (slots_data (drop l.i l.slots));
   ready : IsReady l.plan.templates.now l.plan.limits l.work.ledger;
@@ -22,10 +25,14 @@ invariant-try_body-loop-i l = record {
 
 abbrev pub invariant-try_item-loop-row : goal.invariant-try_item-loop-row
 invariant-try_item-loop-row l = record {
-  written : AreWritten l.plan.limits (body_among (nodes_of l.plan.templates.now) l.body.items) (elements_data l.row-items) l.initial.work.ledger.now l.initial.work.draft (elements_data (drop l.row-index l.row-items)) l.work.ledger.now l.work.draft;
-  right : AreRight (SuitsBody (body_among (nodes_of l.plan.templates.now) l.body.items)) (elements_data (drop l.row-index l.row-items)) → AreRight (SuitsBody (body_among (nodes_of l.plan.templates.now) l.body.items)) (elements_data l.row-items);
+  written : AreWritten l.plan.limits (body_among (nodes_of l.plan.templates.now) l.body.items)
+      (elements_data l.row-items) l.initial.work.ledger.now l.initial.work.draft
+      (elements_data (drop l.row-index l.row-items)) l.work.ledger.now l.work.draft;
+  right : AreRight (SuitsBody (body_among (nodes_of l.plan.templates.now) l.body.items)) (elements_data (drop l.row-index l.row-items))
+      → AreRight (SuitsBody (body_among (nodes_of l.plan.templates.now) l.body.items)) (elements_data l.row-items);
   fits : RowsWithinLimits l.plan.limits (elements_data (drop l.row-index l.row-items)) → RowsWithinLimits l.plan.limits (elements_data l.row-items);
-  sum : l.work.room + (count (elements_data l.row-items) + rows_total (elements_data l.row-items)) ≡ l.fn.work.room + rows_total (elements_data (drop l.row-index l.row-items));
+  sum : l.work.room + (count (elements_data l.row-items) + rows_total (elements_data l.row-items)) ≡ l.fn.work.room + rows_total
+      (elements_data (drop l.row-index l.row-items));
   ready : IsReady l.plan.templates.now l.plan.limits l.work.ledger;
   keeps : Keeps l.fn.work.ledger l.work.ledger;
 }

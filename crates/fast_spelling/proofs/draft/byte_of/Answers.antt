@@ -12,11 +12,14 @@ loop-i-preserved c = elim c.if-bit.branch [
   | then-bit+else-i-ge7 w ↦
       let few = w.if-i-ge7.false in
       record {
-        same = λ k. ap (λ (x : ℕ). slice_index_or (bits (x ∷ [])) k false) w.cell-is ∙ bit_more c.loop-i.cell c.loop-i.i c.args.presence.now (omega (arith, few)) c.loop-i-test.true w.if-bit.true c.loop-i.invariant.same k;
+        same = λ k. ap (λ (x : ℕ). slice_index_or (bits (x ∷ [])) k false) w.cell-is
+            ∙ bit_more c.loop-i.cell c.loop-i.i c.args.presence.now
+            (omega (arith, few)) c.loop-i-test.true w.if-bit.true c.loop-i.invariant.same k;
         small = subst (λ (x : ℕ). x < 128) (sym w.cell-is) (small_more c.loop-i.cell c.loop-i.i (omega (arith, few)) c.loop-i.invariant.small);
       }
   | else-bit w ↦ record {
-    same = λ k. ap (λ (x : ℕ). slice_index_or (bits (x ∷ [])) k false) w.cell-is ∙ clear_more c.loop-i.cell c.loop-i.i c.args.presence.now w.if-bit.false c.loop-i.invariant.same k;
+    same = λ k. ap (λ (x : ℕ). slice_index_or (bits (x ∷ [])) k false) w.cell-is
+        ∙ clear_more c.loop-i.cell c.loop-i.i c.args.presence.now w.if-bit.false c.loop-i.invariant.same k;
     small = subst (λ (x : ℕ). x < 128) (sym w.cell-is) c.loop-i.invariant.small;
   }
 ]

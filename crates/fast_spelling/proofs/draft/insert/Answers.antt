@@ -12,7 +12,8 @@ module _ (p i : ℕ) (xs ys zs : List ℕ) (low : p ≤ length xs) (less : i < l
   front = take p xs ++ take i ys
 
   front_long : length front ≡ p + i
-  front_long = length-append (take p xs) (take i ys) ∙ ap (λ n. n + length (take i ys)) (length-take-le p xs low) ∙ ap (λ n. p + n) (length-take-le i ys (omega (arith, less)))
+  front_long = length-append (take p xs) (take i ys) ∙ ap (λ n. n + length (take i ys)) (length-take-le p xs low)
+      ∙ ap (λ n. p + n) (length-take-le i ys (omega (arith, less)))
 
   reaches : p + i ≤ length zs
   reaches =
@@ -61,7 +62,8 @@ loop-i-preserved c =
     let place = c.requires in
     let old : vec_len b ≡ length b.items = b.ok.0 in
     let low : c.args.place ≤ length b.items = omega (arith, place, old) in
-    grown c.args.place c.loop-i.i b.items c.args.piece.now c.loop-i.bytes.items low c.loop-i-test.true c.loop-i.invariant c.insert.new.self.items c.in_ok-insert.ensures.items
+    grown c.args.place c.loop-i.i b.items c.args.piece.now c.loop-i.bytes.items low c.loop-i-test.true c.loop-i.invariant
+    c.insert.new.self.items c.in_ok-insert.ensures.items
 
 pub returns : goal.returns
 returns c =

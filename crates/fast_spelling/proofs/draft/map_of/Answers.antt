@@ -21,4 +21,5 @@ pub returns-clause-map : goal.returns-clause-map
 returns-clause-map c = c.finish.ensures.map
 
 pub returns-clause-bits : goal.returns-clause-bits
-returns-clause-bits c = λ i. c.finish.ensures.bits i ∙ c.loop-i.invariant.same i ∙ ap (λ (b : List Bool). slice_index_or b i false) (take_all c.loop-i.i c.args.presence.now c.loop-i-test.false)
+returns-clause-bits c = λ i. c.finish.ensures.bits i ∙ c.loop-i.invariant.same i
+    ∙ ap (λ (b : List Bool). slice_index_or b i false) (take_all c.loop-i.i c.args.presence.now c.loop-i-test.false)

@@ -7,7 +7,8 @@ use mathlib.Core.List.{not-mem-nil}
 use Rattle.fast_spelling.proofs.encodings.Progress.{on_handed_on}
 use Rattle.fast_spelling.proofs.draft.widen.Goals as goal
 
-replaced : (p : ℕ) (xs ys piece new : List ℕ) → p < length xs → ys ≡ take p xs ++ drop (p + 1) xs → new ≡ (take p ys ++ piece) ++ drop p ys → new ≡ take p xs ++ (piece ++ drop (p + 1) xs)
+replaced : (p : ℕ) (xs ys piece new : List ℕ) → p < length xs → ys ≡ take p xs ++ drop (p + 1) xs → new ≡ (take p ys ++ piece) ++ drop p ys
+    → new ≡ take p xs ++ (piece ++ drop (p + 1) xs)
 replaced p xs ys piece new low gone put =
     let front = take p xs in
     let back = drop (p + 1) xs in

@@ -15,5 +15,6 @@ returns-then-not-keeps-clause-now c =
     let d = c.args.ledger.now.now in
     let p = previous_at f.entry d in
     let v = option_map scalar_data c.args.value in
-    let same : next_by f.operator f.kind p v ≡ p = ap (λ (o : Operator). next_by o f.kind p v) c.requires.operator ∙ c.if-not-keeps.ensures.same refl f.kind p v in
+    let same : next_by f.operator f.kind p v ≡ p = ap (λ (o : Operator). next_by o f.kind p v) c.requires.operator
+    ∙ c.if-not-keeps.ensures.same refl f.kind p v in
     sym (ap (λ (q : PreviousData). write_at f.entry q d) same ∙ write_back f.entry d)

@@ -22,5 +22,6 @@ returns-clause-ok c = λ l same.
       c.in_ok-push_bit.ensures.bits,
       c.push_bit.ensures.bytes ∙ sym (append-nil c.args.draft.now.bytes.items),
       field_done l f c.args.ledger.now.now (previous_at f.entry c.args.ledger.now.now) v false nothing one [] c.keep.new.ledger.now
-          refl c.requires.served.usable.tail suited c.requires.ruled tt refl (ap (λ (u : Bool). if u then one else []) (sym c.requires.ruled.0.1)) c.in_ok-keep.ensures.now,
+          refl c.requires.served.usable.tail suited c.requires.ruled tt refl
+          (ap (λ (u : Bool). if u then one else []) (sym c.requires.ruled.0.1)) c.in_ok-keep.ensures.now,
     )

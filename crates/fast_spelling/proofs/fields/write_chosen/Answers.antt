@@ -24,7 +24,8 @@ send-requires-clause-ruled c =
     let v = option_map scalar_data c.args.value in
     let bit = c.in-Some.choice.bit in
     let x = sent_data c.in-Some.choice.item in
-    let of_field = subst (λ (g : FieldInstruction). Rule (field_data g) (previous_data c.previous_of-previous.result) v bit x) (sym c.of-at.ensures) c.in-Some.ensures.some in
+    let of_field = subst (λ (g : FieldInstruction). Rule (field_data g) (previous_data c.previous_of-previous.result) v bit x)
+    (sym c.of-at.ensures) c.in-Some.ensures.some in
     subst (λ (p : PreviousData). Rule (field_data c.of-at.result.field.now) p v bit x) c.previous_of-previous.ensures.value of_field
 
 pub send-requires-clause-sendable : goal.send-requires-clause-sendable
@@ -32,13 +33,18 @@ send-requires-clause-sendable c =
     let f : FieldData = field_data c.args.field.now in
     let served = c.requires.served in
     subst (λ (g : FieldInstruction). IsSendable (field_data g) (sent_data c.in-Some.choice.item)) (sym c.of-at.ensures)
-    (rule_sendable f (previous_data c.previous_of-previous.result) (option_map scalar_data c.args.value) c.in-Some.choice.bit (sent_data c.in-Some.choice.item) c.args.ledger.now.max_text served.small served.usable.tail
-    (λ base e. record { narrow = c.note_base.ensures base e; short = base_short f (previous_data c.previous_of-previous.result) base c.args.ledger.now.max_text c.previous_of-previous.ensures.short served.initial e })
+    (rule_sendable f (previous_data c.previous_of-previous.result) (option_map scalar_data c.args.value) c.in-Some.choice.bit
+    (sent_data c.in-Some.choice.item) c.args.ledger.now.max_text served.small served.usable.tail
+    (λ base e. record {
+      narrow = c.note_base.ensures base e;
+      short = base_short f (previous_data c.previous_of-previous.result) base c.args.ledger.now.max_text c.previous_of-previous.ensures.short served.initial e;
+    })
     c.requires.suited c.in-Some.ensures.some)
 
 pub returns-clause-ok : goal.returns-clause-ok
 returns-clause-ok c = on_ok c.send.result c.send.ensures.ok (λ k l same.
-    subst (λ (g : FieldInstruction). Wrote (EncodesField l (field_data g) c.args.ledger.now.now (option_map scalar_data c.args.value)) c.args.draft.now c.send.new.draft c.send.new.ledger.now) c.of-at.ensures (k l same))
+    subst (λ (g : FieldInstruction). Wrote (EncodesField l (field_data g) c.args.ledger.now.now (option_map scalar_data c.args.value))
+    c.args.draft.now c.send.new.draft c.send.new.ledger.now) c.of-at.ensures (k l same))
 
 pub returns-clause-err : goal.returns-clause-err
 returns-clause-err c = told c.send.result c.send.ensures.err (λ e h.

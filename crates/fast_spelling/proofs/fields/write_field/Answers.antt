@@ -13,7 +13,8 @@ use Rattle.fast_spelling.proofs.fields.write_field.Goals as goal
 
 pub returns-in-Some-clause-ok : goal.returns-in-Some-clause-ok
 returns-in-Some-clause-ok c = on_ok c.write_present.result c.write_present.ensures.ok (λ k l same.
-    subst (λ (v : Option ScalarData). Wrote (EncodesField l (field_data c.args.field.now) c.args.ledger.now.now v) c.args.draft.now c.write_present.new.draft c.write_present.new.ledger.now) (sym (ap (option_map scalar_data) c.in-Some.is)) (k l same))
+    subst (λ (v : Option ScalarData). Wrote (EncodesField l (field_data c.args.field.now) c.args.ledger.now.now v) c.args.draft.now
+    c.write_present.new.draft c.write_present.new.ledger.now) (sym (ap (option_map scalar_data) c.in-Some.is)) (k l same))
 
 pub returns-in-Some-clause-err : goal.returns-in-Some-clause-err
 returns-in-Some-clause-err c = told c.write_present.result c.write_present.ensures.err (λ f h.
@@ -21,4 +22,5 @@ returns-in-Some-clause-err c = told c.write_present.result c.write_present.ensur
 
 pub returns-in-None-clause-ok : goal.returns-in-None-clause-ok
 returns-in-None-clause-ok c = on_ok c.write_none.result c.write_none.ensures.ok (λ k l same.
-    subst (λ (v : Option ScalarData). Wrote (EncodesField l (field_data c.args.field.now) c.args.ledger.now.now v) c.args.draft.now c.write_none.new.draft c.write_none.new.ledger.now) (sym (ap (option_map scalar_data) c.in-None.is)) (k l same))
+    subst (λ (v : Option ScalarData). Wrote (EncodesField l (field_data c.args.field.now) c.args.ledger.now.now v) c.args.draft.now
+    c.write_none.new.draft c.write_none.new.ledger.now) (sym (ap (option_map scalar_data) c.in-None.is)) (k l same))

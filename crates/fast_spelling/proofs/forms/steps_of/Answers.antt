@@ -6,7 +6,14 @@ use Rattle.fast_spelling.proofs.rules.FormsTold.{steps_more}
 use Rattle.fast_spelling.proofs.forms.steps_of.Goals as goal
 
 pub loop-node-preserved : goal.loop-node-preserved
-loop-node-preserved c = search (rules, c.push.ensures.items, c.in_ok-push.is, c.loop-node.invariant, c.of.ensures, steps_more (nodes_of c.args.templates.now) c.loop-node.node c.node.result.now c.node.ensures.found)
+loop-node-preserved c = search (
+  rules,
+  c.push.ensures.items,
+  c.in_ok-push.is,
+  c.loop-node.invariant,
+  c.of.ensures,
+  steps_more (nodes_of c.args.templates.now) c.loop-node.node c.node.result.now c.node.ensures.found,
+)
 
 pub with_capacity-requires : goal.with_capacity-requires
 with_capacity-requires c κs = (λ a m. absurd (not-mem-nil m), λ a m. absurd (not-mem-nil m))

@@ -9,4 +9,9 @@ pub returns : goal.returns
 returns c =
     let g = c.groups-len.ensures in
     let len = c.groups-len.result in
-    on_ok c.push_groups.result c.push_groups.ensures (λ h. (h.0, h.1, negative_least c.args.complement len h.0 (subst (λ (n : ℕ). IsGroups (n - 1 - c.args.complement) len h.0) c.reach.ensures h.2) g.some g.few g.enough g.no_more))
+    on_ok c.push_groups.result c.push_groups.ensures (λ h. (
+      h.0,
+      h.1,
+      negative_least c.args.complement len h.0 (subst
+          (λ (n : ℕ). IsGroups (n - 1 - c.args.complement) len h.0) c.reach.ensures h.2) g.some g.few g.enough g.no_more,
+    ))

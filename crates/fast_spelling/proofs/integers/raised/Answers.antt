@@ -5,7 +5,8 @@ use Rattle.fast_wire.specs.meaning.Integers.{Means}
 use Rattle.fast_spelling.proofs.integers.raised.Goals as goal
 
 pub returns-then-nullable-clause-meaning : goal.returns-then-nullable-clause-meaning
-returns-then-nullable-clause-meaning c = subst (λ (b : Bool). Means b (pos (c.args.number + 1)) (Some (pos c.args.number))) (sym c.if-nullable.true) (ap pos (omega arith))
+returns-then-nullable-clause-meaning c = subst (λ (b : Bool). Means b (pos (c.args.number + 1)) (Some (pos c.args.number)))
+    (sym c.if-nullable.true) (ap pos (omega arith))
 
 pub returns-clause-meaning : goal.returns-clause-meaning
 returns-clause-meaning c = subst (λ (b : Bool). Means b (pos c.args.number) (Some (pos c.args.number))) (sym c.if-nullable.false) refl

@@ -11,7 +11,13 @@ use Rattle.fast_spelling.proofs.integers.write_delta_as.Goals as goal
 pub returns-in-Ok : goal.returns-in-Ok
 returns-in-Ok c =
     let is : c.in-Ok.narrow ≡ c.args.number = c.in-Ok.ensures.1 ∙ to_z-of_z w128 c.args.number (search rules) in
-    on_ok c.write_narrow_as.result c.write_narrow_as.ensures (λ h. (h.0, h.1, subst (λ (x : ℤ). IsShortest true c.args.nullable (Some x) h.0) (to_z-of_z w64 c.in-Ok.narrow (search rules) ∙ is) h.2))
+    on_ok c.write_narrow_as.result c.write_narrow_as.ensures
+    (λ h. (
+      h.0,
+      h.1,
+      subst (λ (x : ℤ). IsShortest true c.args.nullable (Some x) h.0)
+          (to_z-of_z w64 c.in-Ok.narrow (search rules) ∙ is) h.2,
+    ))
 
 pub write_signed_as-requires : goal.write_signed_as-requires
 write_signed_as-requires c = subst (IsWithin (signed_range 68)) (sym (to_z-of_z w128 c.args.number c.ranges.number)) c.requires

@@ -8,9 +8,20 @@ pub returns-then-sent-lt-LONG_SUM : goal.returns-then-sent-lt-LONG_SUM
 returns-then-sent-lt-LONG_SUM c =
     let g = c.groups.ensures in
     let few : c.groups.result ≤ 8 = let most = g.few in omega (arith, most) in
-    on_ok c.push_groups.result c.push_groups.ensures (λ h. (h.0, h.1, unsigned_means c.args.nullable c.args.number c.raised-sent.result c.groups.result h.0 h.2 few g.no_more c.raised-sent.ensures.meaning))
+    on_ok c.push_groups.result c.push_groups.ensures (λ h. (
+      h.0,
+      h.1,
+      unsigned_means c.args.nullable c.args.number c.raised-sent.result c.groups.result h.0 h.2 few g.no_more
+          c.raised-sent.ensures.meaning,
+    ))
 
 pub returns : goal.returns
 returns c =
     let g = c.long_groups.ensures in
-    on_ok c.push_long_groups.result c.push_long_groups.ensures (λ h. (h.0, h.1, unsigned_means c.args.nullable c.args.number c.raised-sent.result c.long_groups.result h.0 h.2 g.few (λ more. g.no_more) c.raised-sent.ensures.meaning))
+    on_ok c.push_long_groups.result c.push_long_groups.ensures
+    (λ h. (
+      h.0,
+      h.1,
+      unsigned_means c.args.nullable c.args.number c.raised-sent.result c.long_groups.result h.0 h.2 g.few
+          (λ more. g.no_more) c.raised-sent.ensures.meaning,
+    ))

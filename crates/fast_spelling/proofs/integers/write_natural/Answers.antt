@@ -9,4 +9,10 @@ pub returns-then-number-lt63 : goal.returns-then-number-lt63
 returns-then-number-lt63 c =
     let low = c.if-number-lt63.true in
     let sent = c.raised.ensures.small in
-    on_ok c.push_one.result c.push_one.ensures (λ h. (h.0, h.1, signed_means c.args.nullable (pos c.args.number) (pos c.raised.result) h.0 (natural_least c.raised.result 1 h.0 h.2 (omega arith) (omega arith) (omega (arith, low, sent)) (λ less. absurd (omega (arith, less)))) c.raised.ensures.meaning))
+    on_ok c.push_one.result c.push_one.ensures (λ h. (
+      h.0,
+      h.1,
+      signed_means c.args.nullable (pos c.args.number) (pos c.raised.result) h.0
+          (natural_least c.raised.result 1 h.0 h.2 (omega arith) (omega arith) (omega (arith, low, sent))
+          (λ less. absurd (omega (arith, less)))) c.raised.ensures.meaning,
+    ))

@@ -7,7 +7,19 @@ use Rattle.fast_spelling.proofs.bytes.Spelling.{on_ok, handed}
 use Rattle.fast_spelling.proofs.integers.write_wide_negative.Goals as goal
 
 pub returns-then-complement-ge-LONG_COMPLEMENT : goal.returns-then-complement-ge-LONG_COMPLEMENT
-returns-then-complement-ge-LONG_COMPLEMENT c = on_ok c.write_long_signed.result c.write_long_signed.ensures (λ h. (h.0, h.1, subst (λ (x : ℤ). IsShortest true c.args.nullable (Some x) h.0) c.negative_of.ensures.value (handed c.args.nullable c.negative_of.result h.0 (search rules) h.2)))
+returns-then-complement-ge-LONG_COMPLEMENT c = on_ok c.write_long_signed.result c.write_long_signed.ensures
+    (λ h. (
+      h.0,
+      h.1,
+      subst (λ (x : ℤ). IsShortest true c.args.nullable (Some x) h.0) c.negative_of.ensures.value
+          (handed c.args.nullable c.negative_of.result h.0 (search rules) h.2),
+    ))
 
 pub returns : goal.returns
-returns c = on_ok c.push_negative.result c.push_negative.ensures (λ h. (h.0, h.1, signed_means c.args.nullable (negsuc c.args.complement) (negsuc c.args.complement) h.0 h.2 (negative_means c.args.nullable c.args.complement)))
+returns c = on_ok c.push_negative.result c.push_negative.ensures
+    (λ h. (
+      h.0,
+      h.1,
+      signed_means c.args.nullable (negsuc c.args.complement) (negsuc c.args.complement) h.0 h.2
+          (negative_means c.args.nullable c.args.complement),
+    ))

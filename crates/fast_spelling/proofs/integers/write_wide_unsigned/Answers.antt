@@ -8,4 +8,9 @@ pub returns : goal.returns
 returns c =
     let g = c.groups.ensures in
     let few : c.groups.result ≤ 8 = let most = g.few in omega (arith, most) in
-    on_ok c.push_groups.result c.push_groups.ensures (λ h. (h.0, h.1, unsigned_means c.args.nullable c.args.number c.raised-sent.result c.groups.result h.0 h.2 few g.no_more c.raised-sent.ensures.meaning))
+    on_ok c.push_groups.result c.push_groups.ensures (λ h. (
+      h.0,
+      h.1,
+      unsigned_means c.args.nullable c.args.number c.raised-sent.result c.groups.result h.0 h.2 few g.no_more
+          c.raised-sent.ensures.meaning,
+    ))

@@ -13,7 +13,8 @@ last_replaced old t i n x is long =
     let place : i - length old ≡ n = omega (arith, is) in
     let inside : n < length t = omega (arith, long) in
     let past : length t ≤ suc n = omega (arith, long) in
-    set-append_right old t (length old) i x refl behind ∙ ap (λ (k : ℕ). old ++ slice_set t k x) place ∙ ap (λ (w : List ℕ). old ++ w) (set_split t n x inside ∙ ap (λ (w : List ℕ). take n t ++ x ∷ w) (drop_all (suc n) t past))
+    set-append_right old t (length old) i x refl behind ∙ ap (λ (k : ℕ). old ++ slice_set t k x) place
+    ∙ ap (λ (w : List ℕ). old ++ w) (set_split t n x inside ∙ ap (λ (w : List ℕ). take n t ++ x ∷ w) (drop_all (suc n) t past))
 
 pub returns-clause-ok : goal.returns-clause-ok
 returns-clause-ok c =

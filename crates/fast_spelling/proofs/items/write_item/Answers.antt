@@ -17,8 +17,13 @@ use Rattle.fast_spelling.proofs.items.write_item.Goals as goal
 
 pub returns-in_ok-write_delta_as-in-IntegerDelta-clause-ok : goal.returns-in_ok-write_delta_as-in-IntegerDelta-clause-ok
 returns-in_ok-write_delta_as-in-IntegerDelta-clause-ok c =
-    let h = c.in_ok-write_delta_as-in-IntegerDelta.ensures in
-    (h.0, h.1, subst (λ (x : Sent). SpellsItem (field_data c.args.at.field.now) (sent_data x) h.0) (sym c.in-IntegerDelta.is) (subst (λ (b : Bool). IsShortest true b (Some c.in-IntegerDelta.delta) h.0) (sym c.args.at.same_nullable) (handed c.args.at.nullable c.in-IntegerDelta.delta h.0 (search rules) h.2)))
+    let h = c.in_ok-write_delta_as-in-IntegerDelta.ensures in (
+      h.0,
+      h.1,
+      subst (λ (x : Sent). SpellsItem (field_data c.args.at.field.now) (sent_data x) h.0) (sym c.in-IntegerDelta.is)
+          (subst (λ (b : Bool). IsShortest true b (Some c.in-IntegerDelta.delta) h.0) (sym c.args.at.same_nullable)
+          (handed c.args.at.nullable c.in-IntegerDelta.delta h.0 (search rules) h.2)),
+    )
 
 pub returns-in_ok-write_signed_as-in-DecimalDelta-2-clause-ok : goal.returns-in_ok-write_signed_as-in-DecimalDelta-2-clause-ok
 returns-in_ok-write_signed_as-in-DecimalDelta-2-clause-ok c =
@@ -26,7 +31,14 @@ returns-in_ok-write_signed_as-in-DecimalDelta-2-clause-ok c =
     let k = c.in_ok-write_signed_as-in-DecimalDelta-2.ensures in (
       h.0 ++ k.0,
       k.1 ∙ ap (λ (w : List ℕ). w ++ k.0) h.1 ∙ append_assoc c.args.bytes.now.items h.0 k.0,
-      subst (λ (x : Sent). SpellsItem (field_data c.args.at.field.now) (sent_data x) (h.0 ++ k.0)) (sym c.in-DecimalDelta.is) (h.0, k.0, subst (λ (b : Bool). IsShortest true b (Some c.in-DecimalDelta.exponent) h.0) (sym c.args.at.same_nullable) (handed c.args.at.nullable c.in-DecimalDelta.exponent h.0 (search rules) h.2), handed false c.in-DecimalDelta.mantissa k.0 (search rules) k.2, refl),
+      subst (λ (x : Sent). SpellsItem (field_data c.args.at.field.now) (sent_data x) (h.0 ++ k.0)) (sym c.in-DecimalDelta.is) (
+        h.0,
+        k.0,
+        subst (λ (b : Bool). IsShortest true b (Some c.in-DecimalDelta.exponent) h.0) (sym c.args.at.same_nullable)
+            (handed c.args.at.nullable c.in-DecimalDelta.exponent h.0 (search rules) h.2),
+        handed false c.in-DecimalDelta.mantissa k.0 (search rules) k.2,
+        refl,
+      ),
     )
 
 pub returns-in_ok-write_signed_as-in-TextDelta-clause-ok : goal.returns-in_ok-write_signed_as-in-TextDelta-clause-ok
@@ -35,23 +47,36 @@ returns-in_ok-write_signed_as-in-TextDelta-clause-ok c =
     on_ok c.write_text.result c.write_text.ensures.ok (λ k. (
       h.0 ++ k.0,
       k.1 ∙ ap (λ (w : List ℕ). w ++ k.0) h.1 ∙ append_assoc c.args.bytes.now.items h.0 k.0,
-      subst (λ (x : Sent). SpellsItem (field_data c.args.at.field.now) (sent_data x) (h.0 ++ k.0)) (sym c.in-TextDelta.is) (h.0, k.0, subst (λ (b : Bool). IsShortest true b (Some c.in-TextDelta.taken) h.0) (sym c.args.at.same_nullable) (handed c.args.at.nullable c.in-TextDelta.taken h.0 (search rules) h.2), subst (λ (q : Kind). SpellsPart q false c.in-TextDelta.part.now k.0) (sym c.args.at.same_kind) k.2, refl),
+      subst (λ (x : Sent). SpellsItem (field_data c.args.at.field.now) (sent_data x) (h.0 ++ k.0)) (sym c.in-TextDelta.is) (
+        h.0,
+        k.0,
+        subst (λ (b : Bool). IsShortest true b (Some c.in-TextDelta.taken) h.0) (sym c.args.at.same_nullable)
+            (handed c.args.at.nullable c.in-TextDelta.taken h.0 (search rules) h.2),
+        subst (λ (q : Kind). SpellsPart q false c.in-TextDelta.part.now k.0) (sym c.args.at.same_kind) k.2,
+        refl,
+      ),
     ))
 
 pub write_delta_as-requires : goal.write_delta_as-requires
-write_delta_as-requires c = subst (IsWithin (signed_range 68)) (sym (to_z-of_z w128 c.in-IntegerDelta.delta (search rules))) (subst (λ (x : Sent). IsSendable (field_data c.args.at.field.now) (sent_data x)) c.in-IntegerDelta.is c.requires)
+write_delta_as-requires c = subst (IsWithin (signed_range 68)) (sym (to_z-of_z w128 c.in-IntegerDelta.delta (search rules)))
+    (subst (λ (x : Sent). IsSendable (field_data c.args.at.field.now) (sent_data x)) c.in-IntegerDelta.is c.requires)
 
 pub write_signed_as-requires : goal.write_signed_as-requires
-write_signed_as-requires c = subst (IsWithin (signed_range 68)) (sym (to_z-of_z w128 c.in-DecimalDelta.exponent (search rules))) (subst (λ (x : Sent). IsSendable (field_data c.args.at.field.now) (sent_data x)) c.in-DecimalDelta.is c.requires).0
+write_signed_as-requires c = subst (IsWithin (signed_range 68)) (sym (to_z-of_z w128 c.in-DecimalDelta.exponent (search rules)))
+    (subst (λ (x : Sent). IsSendable (field_data c.args.at.field.now) (sent_data x)) c.in-DecimalDelta.is c.requires).0
 
 pub write_signed_as-requires-in-DecimalDelta : goal.write_signed_as-requires-in-DecimalDelta
-write_signed_as-requires-in-DecimalDelta c = subst (IsWithin (signed_range 68)) (sym (to_z-of_z w128 c.in-DecimalDelta.mantissa (search rules))) (subst (λ (x : Sent). IsSendable (field_data c.args.at.field.now) (sent_data x)) c.in-DecimalDelta.is c.requires).1
+write_signed_as-requires-in-DecimalDelta c = subst (IsWithin (signed_range 68))
+    (sym (to_z-of_z w128 c.in-DecimalDelta.mantissa (search rules)))
+    (subst (λ (x : Sent). IsSendable (field_data c.args.at.field.now) (sent_data x)) c.in-DecimalDelta.is c.requires).1
 
 pub write_value-requires : goal.write_value-requires
-write_value-requires c = subst (λ (k : Kind). IsSendableValue k (scalar_data c.in-Value.value)) c.args.at.same_kind (subst (λ (x : Sent). IsSendable (field_data c.args.at.field.now) (sent_data x)) c.in-Value.is c.requires)
+write_value-requires c = subst (λ (k : Kind). IsSendableValue k (scalar_data c.in-Value.value)) c.args.at.same_kind
+    (subst (λ (x : Sent). IsSendable (field_data c.args.at.field.now) (sent_data x)) c.in-Value.is c.requires)
 
 pub write_text-requires : goal.write_text-requires
-write_text-requires c = subst (λ (k : Kind). IsSendablePart k c.in-TextDelta.part.now) c.args.at.same_kind (subst (λ (x : Sent). IsSendable (field_data c.args.at.field.now) (sent_data x)) c.in-TextDelta.is c.requires).1
+write_text-requires c = subst (λ (k : Kind). IsSendablePart k c.in-TextDelta.part.now) c.args.at.same_kind
+    (subst (λ (x : Sent). IsSendable (field_data c.args.at.field.now) (sent_data x)) c.in-TextDelta.is c.requires).1
 
 pub extend_from_slice-requires : goal.extend_from_slice-requires
 extend_from_slice-requires c κs = (λ a m. absurd (not-mem-nil m), λ a m. absurd (not-mem-nil m))
@@ -66,22 +91,26 @@ pub branch-write_delta_as-requires : goal.branch-write_delta_as-requires
 branch-write_delta_as-requires c κs = (λ a m. absurd (not-mem-nil m), λ a m. absurd (not-mem-nil m))
 
 pub from_residual-requires-in_err-write_delta_as-in-IntegerDelta : goal.from_residual-requires-in_err-write_delta_as-in-IntegerDelta
-from_residual-requires-in_err-write_delta_as-in-IntegerDelta c κs = (λ a m. absurd (not-mem-nil m), (λ a m. absurd (not-mem-nil m), λ a m. absurd (not-mem-nil m)))
+from_residual-requires-in_err-write_delta_as-in-IntegerDelta c κs =
+    (λ a m. absurd (not-mem-nil m), (λ a m. absurd (not-mem-nil m), λ a m. absurd (not-mem-nil m)))
 
 pub branch-write_signed_as-requires : goal.branch-write_signed_as-requires
 branch-write_signed_as-requires c κs = (λ a m. absurd (not-mem-nil m), λ a m. absurd (not-mem-nil m))
 
 pub from_residual-requires-in_err-write_signed_as-in-DecimalDelta : goal.from_residual-requires-in_err-write_signed_as-in-DecimalDelta
-from_residual-requires-in_err-write_signed_as-in-DecimalDelta c κs = (λ a m. absurd (not-mem-nil m), (λ a m. absurd (not-mem-nil m), λ a m. absurd (not-mem-nil m)))
+from_residual-requires-in_err-write_signed_as-in-DecimalDelta c κs =
+    (λ a m. absurd (not-mem-nil m), (λ a m. absurd (not-mem-nil m), λ a m. absurd (not-mem-nil m)))
 
 pub branch-write_signed_as-requires-in-DecimalDelta : goal.branch-write_signed_as-requires-in-DecimalDelta
 branch-write_signed_as-requires-in-DecimalDelta c κs = (λ a m. absurd (not-mem-nil m), λ a m. absurd (not-mem-nil m))
 
 pub from_residual-requires-in_err-write_signed_as-in-DecimalDelta-2 : goal.from_residual-requires-in_err-write_signed_as-in-DecimalDelta-2
-from_residual-requires-in_err-write_signed_as-in-DecimalDelta-2 c κs = (λ a m. absurd (not-mem-nil m), (λ a m. absurd (not-mem-nil m), λ a m. absurd (not-mem-nil m)))
+from_residual-requires-in_err-write_signed_as-in-DecimalDelta-2 c κs =
+    (λ a m. absurd (not-mem-nil m), (λ a m. absurd (not-mem-nil m), λ a m. absurd (not-mem-nil m)))
 
 pub branch-write_signed_as-requires-in-TextDelta : goal.branch-write_signed_as-requires-in-TextDelta
 branch-write_signed_as-requires-in-TextDelta c κs = (λ a m. absurd (not-mem-nil m), λ a m. absurd (not-mem-nil m))
 
 pub from_residual-requires-in_err-write_signed_as-in-TextDelta : goal.from_residual-requires-in_err-write_signed_as-in-TextDelta
-from_residual-requires-in_err-write_signed_as-in-TextDelta c κs = (λ a m. absurd (not-mem-nil m), (λ a m. absurd (not-mem-nil m), λ a m. absurd (not-mem-nil m)))
+from_residual-requires-in_err-write_signed_as-in-TextDelta c κs =
+    (λ a m. absurd (not-mem-nil m), (λ a m. absurd (not-mem-nil m), λ a m. absurd (not-mem-nil m)))

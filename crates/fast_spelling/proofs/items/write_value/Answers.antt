@@ -12,8 +12,12 @@ use Rattle.fast_spelling.proofs.items.write_value.Goals as goal
 
 pub returns-in_ok-write_narrow_as-in-I-clause-ok : goal.returns-in_ok-write_narrow_as-in-I-clause-ok
 returns-in_ok-write_narrow_as-in-I-clause-ok c =
-    let h = c.in_ok-write_narrow_as-in-I.ensures in
-    (h.0, h.1, subst (λ (v : Scalar). SpellsValue c.args.kind c.args.nullable (scalar_data v) h.0) (sym c.in-I.is) (subst (λ (n : ℤ). IsShortest true c.args.nullable (Some n) h.0) (to_z-of_z w64 c.in-I.number (search rules)) h.2))
+    let h = c.in_ok-write_narrow_as-in-I.ensures in (
+      h.0,
+      h.1,
+      subst (λ (v : Scalar). SpellsValue c.args.kind c.args.nullable (scalar_data v) h.0) (sym c.in-I.is)
+          (subst (λ (n : ℤ). IsShortest true c.args.nullable (Some n) h.0) (to_z-of_z w64 c.in-I.number (search rules)) h.2),
+    )
 
 pub returns-in_ok-write_narrow_as-in-Dec-2-clause-ok : goal.returns-in_ok-write_narrow_as-in-Dec-2-clause-ok
 returns-in_ok-write_narrow_as-in-Dec-2-clause-ok c =
@@ -21,8 +25,14 @@ returns-in_ok-write_narrow_as-in-Dec-2-clause-ok c =
     let k = c.in_ok-write_narrow_as-in-Dec-2.ensures in (
       h.0 ++ k.0,
       k.1 ∙ ap (λ (w : List ℕ). w ++ k.0) h.1 ∙ append_assoc c.args.bytes.now.items h.0 k.0,
-      subst (λ (v : Scalar). SpellsValue c.args.kind c.args.nullable (scalar_data v) (h.0 ++ k.0)) (sym c.in-Dec.is)
-          (h.0, k.0, subst (λ (n : ℤ). IsShortest true c.args.nullable (Some n) h.0) (to_z-of_z w64 c.from.result (search rules) ∙ c.from.ensures ∙ to_z-of_z w32 c.in-Dec.exponent (search rules)) h.2, subst (λ (n : ℤ). IsShortest true false (Some n) k.0) (to_z-of_z w64 c.in-Dec.mantissa (search rules)) k.2, refl),
+      subst (λ (v : Scalar). SpellsValue c.args.kind c.args.nullable (scalar_data v) (h.0 ++ k.0)) (sym c.in-Dec.is) (
+        h.0,
+        k.0,
+        subst (λ (n : ℤ). IsShortest true c.args.nullable (Some n) h.0)
+            (to_z-of_z w64 c.from.result (search rules) ∙ c.from.ensures ∙ to_z-of_z w32 c.in-Dec.exponent (search rules)) h.2,
+        subst (λ (n : ℤ). IsShortest true false (Some n) k.0) (to_z-of_z w64 c.in-Dec.mantissa (search rules)) k.2,
+        refl,
+      ),
     )
 
 pub returns-in_ok-write_unsigned_as-in-U-clause-ok : goal.returns-in_ok-write_unsigned_as-in-U-clause-ok

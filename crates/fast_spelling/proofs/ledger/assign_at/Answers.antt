@@ -9,8 +9,11 @@ use Rattle.fast_spelling.proofs.bytes.Spelling.{on_ok}
 use Rattle.fast_spelling.proofs.ledger.assign_at.Goals as goal
 
 pub returns-clause-now : goal.returns-clause-now
-returns-clause-now c = on_ok c.assign.result c.assign.ensures.now (λ is. map-set entry_now c.args.entries.now.items c.args.entry c.assign.new.self ∙ ap (slice_set (all_now c.args.entries.now.items) c.args.entry) is)
+returns-clause-now c = on_ok c.assign.result c.assign.ensures.now
+    (λ is. map-set entry_now c.args.entries.now.items c.args.entry c.assign.new.self
+    ∙ ap (slice_set (all_now c.args.entries.now.items) c.args.entry) is)
 
 pub returns-clause-before : goal.returns-clause-before
-returns-clause-before c = same_at (entry_before c.args.epoch) c.args.entries.now.items c.args.entry c.index_mut-slot.result.now c.assign.new.self c.index_mut-slot.ensures.value
+returns-clause-before c = same_at (entry_before c.args.epoch) c.args.entries.now.items c.args.entry c.index_mut-slot.result.now
+    c.assign.new.self c.index_mut-slot.ensures.value
     (c.assign.ensures.before c.args.epoch (sym c.touch.ensures.epoch) ∙ c.touch.ensures.before)

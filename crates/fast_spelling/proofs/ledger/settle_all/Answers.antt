@@ -11,7 +11,9 @@ loop-i-preserved c =
     let i = c.loop-i.invariant in
     record {
       now = same_at entry_now c.loop-i.entries.items c.loop-i.i c.index_mut.result.now c.settle.new.self c.index_mut.ensures.value c.settle.ensures.now ∙ i.now;
-      short = λ m h. All-set (IsShort m) c.loop-i.entries.items c.loop-i.i c.settle.new.self (c.settle.ensures.short m (subst (IsShort m) (sym c.index_mut.ensures.value) (i.short m h c.loop-i.i c.index_mut.result.now (omega arith)))) (i.short m h);
+      short = λ m h. All-set (IsShort m) c.loop-i.entries.items c.loop-i.i c.settle.new.self
+          (c.settle.ensures.short m (subst (IsShort m) (sym c.index_mut.ensures.value)
+          (i.short m h c.loop-i.i c.index_mut.result.now (omega arith)))) (i.short m h);
       settled = settled_more c.loop-i.entries.items c.loop-i.i c.settle.new.self (omega arith) c.settle.ensures.epoch i.settled;
       long = length-set c.loop-i.entries.items c.loop-i.i c.settle.new.self ∙ i.long;
     }

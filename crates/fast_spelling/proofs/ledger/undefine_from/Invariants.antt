@@ -7,7 +7,8 @@ use Rattle.fast_spelling.proofs.ledger.undefine_from.Given as goal
 
 abbrev pub invariant-loop-i : goal.invariant-loop-i
 invariant-loop-i l = record {
-  now : all_now l.entries.items ≡ take l.first (all_now l.initial.entries.items) ++ replicate (l.i - l.first) undefined ++ drop l.i (all_now l.initial.entries.items);
+  now : all_now l.entries.items ≡ take l.first (all_now l.initial.entries.items) ++ replicate (l.i - l.first) undefined
+      ++ drop l.i (all_now l.initial.entries.items);
   before : all_before l.epoch l.entries.items ≡ all_before l.epoch l.initial.entries.items;
   kept : (m : ℕ) → AreKept l.epoch m l.initial.entries.items → AreKept l.epoch m l.entries.items;
   long : length l.entries.items ≡ length l.initial.entries.items;

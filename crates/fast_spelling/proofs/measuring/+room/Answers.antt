@@ -12,21 +12,24 @@ use Rattle.fast_spelling.proofs.measuring.+room.Goals as goal
 pub room_after_item-room_after_slots-requires : goal.room_after_item-room_after_slots-requires
 room_after_item-room_after_slots-requires t c =
     let d : 3 * item_depth (item_data c.args.item.now) ≡ t = c.decreases in
-    let deep : item_depth (item_data c.args.item.now) ≡ item_depth (group_item (slots_data c.in-Group.slots.items)) = ap item_depth (ap item_data c.in-Group.is ∙ item_data-Group c.in-Group.slots) in
+    let deep : item_depth (item_data c.args.item.now) ≡ item_depth (group_item (slots_data c.in-Group.slots.items)) =
+    ap item_depth (ap item_data c.in-Group.is ∙ item_data-Group c.in-Group.slots) in
     let smaller : 3 * slots_depth (slots_data c.deref.result.now) + 1 < t = rw c.deref.ensures.value (omega (arith, d, deep)) in
     (smaller, tt)
 
 pub room_after_item-room_after_sequence-requires : goal.room_after_item-room_after_sequence-requires
 room_after_item-room_after_sequence-requires t c =
     let d : 3 * item_depth (item_data c.args.item.now) ≡ t = c.decreases in
-    let deep : item_depth (item_data c.args.item.now) ≡ item_depth (sequence_item (elements_data c.in-Sequence.rows.items)) = ap item_depth (ap item_data c.in-Sequence.is ∙ item_data-Sequence c.in-Sequence.rows) in
+    let deep : item_depth (item_data c.args.item.now) ≡ item_depth (sequence_item (elements_data c.in-Sequence.rows.items)) =
+    ap item_depth (ap item_data c.in-Sequence.is ∙ item_data-Sequence c.in-Sequence.rows) in
     let smaller : 3 * rows_depth (elements_data c.deref-in-Sequence.result.now) + 2 < t = rw c.deref-in-Sequence.ensures.value (omega (arith, d, deep)) in
     (smaller, tt)
 
 pub room_after_sequence-room_after_slots-requires : goal.room_after_sequence-room_after_slots-requires
 room_after_sequence-room_after_slots-requires t c =
     let d : 3 * rows_depth (elements_data c.args.rows.now) + 2 ≡ t = c.decreases in
-    let deep : slots_depth (slots_data c.row-item.result.items) ≤ rows_depth (elements_data c.args.rows.now) = row_depth c.args.rows.now c.loop-row.row-index c.row-item.result c.loop-row-test.true c.row-item.is in
+    let deep : slots_depth (slots_data c.row-item.result.items) ≤ rows_depth (elements_data c.args.rows.now) =
+    row_depth c.args.rows.now c.loop-row.row-index c.row-item.result c.loop-row-test.true c.row-item.is in
     let smaller : 3 * slots_depth (slots_data c.deref.result.now) + 1 < t = rw c.deref.ensures.value (omega (arith, d, deep)) in
     (smaller, tt)
 
@@ -34,24 +37,30 @@ pub room_after_slots-room_after_item-requires : goal.room_after_slots-room_after
 room_after_slots-room_after_item-requires t c =
     let d : 3 * slots_depth (slots_data c.args.slots.now) + 1 ≡ t = c.decreases in
     let slot = sym c.in-Some.is ∙ c.slot-item.is ∙ ap (λ (z : Option Item). get_or c.args.slots.now c.loop-slot.slot-index z) c.in-Some.is in
-    let deep : item_depth (item_data c.in-Some.item) ≤ slots_depth (slots_data c.args.slots.now) = slot_depth c.args.slots.now c.loop-slot.slot-index c.in-Some.item c.loop-slot-test.true slot in
+    let deep : item_depth (item_data c.in-Some.item) ≤ slots_depth (slots_data c.args.slots.now) =
+    slot_depth c.args.slots.now c.loop-slot.slot-index c.in-Some.item c.loop-slot-test.true slot in
     let smaller : 3 * item_depth (item_data c.in-Some.item) < t = omega (arith, d, deep) in
     (smaller, tt)
 
 pub room_after_item-returns-in-Group-clause-some : goal.room_after_item-returns-in-Group-clause-some
-room_after_item-returns-in-Group-clause-some t c = rw (ap item_data c.in-Group.is ∙ item_data-Group c.in-Group.slots) (rw c.deref.ensures.value at c.room_after_slots.ensures.some)
+room_after_item-returns-in-Group-clause-some t c = rw (ap item_data c.in-Group.is ∙ item_data-Group c.in-Group.slots)
+    (rw c.deref.ensures.value at c.room_after_slots.ensures.some)
 
 pub room_after_item-returns-in-Group-clause-none : goal.room_after_item-returns-in-Group-clause-none
-room_after_item-returns-in-Group-clause-none t c = rw (ap item_data c.in-Group.is ∙ item_data-Group c.in-Group.slots) (rw c.deref.ensures.value at c.room_after_slots.ensures.none)
+room_after_item-returns-in-Group-clause-none t c = rw (ap item_data c.in-Group.is ∙ item_data-Group c.in-Group.slots)
+    (rw c.deref.ensures.value at c.room_after_slots.ensures.none)
 
 pub room_after_item-returns-in-Sequence-clause-some : goal.room_after_item-returns-in-Sequence-clause-some
-room_after_item-returns-in-Sequence-clause-some t c = rw (ap item_data c.in-Sequence.is ∙ item_data-Sequence c.in-Sequence.rows) (rw c.deref-in-Sequence.ensures.value at c.room_after_sequence.ensures.some)
+room_after_item-returns-in-Sequence-clause-some t c = rw (ap item_data c.in-Sequence.is ∙ item_data-Sequence c.in-Sequence.rows)
+    (rw c.deref-in-Sequence.ensures.value at c.room_after_sequence.ensures.some)
 
 pub room_after_item-returns-in-Sequence-clause-none : goal.room_after_item-returns-in-Sequence-clause-none
-room_after_item-returns-in-Sequence-clause-none t c = rw (ap item_data c.in-Sequence.is ∙ item_data-Sequence c.in-Sequence.rows) (rw c.deref-in-Sequence.ensures.value at c.room_after_sequence.ensures.none)
+room_after_item-returns-in-Sequence-clause-none t c = rw (ap item_data c.in-Sequence.is ∙ item_data-Sequence c.in-Sequence.rows)
+    (rw c.deref-in-Sequence.ensures.value at c.room_after_sequence.ensures.none)
 
 pub room_after_sequence-returns-then-has_too_many-clause-none : goal.room_after_sequence-returns-then-has_too_many-clause-none
-room_after_sequence-returns-then-has_too_many-clause-none t c h = omega (arith, count-elements_data c.args.rows.now, h.0.0, c.has_too_many.ensures.0 c.if-has_too_many.true)
+room_after_sequence-returns-then-has_too_many-clause-none t c h =
+    omega (arith, count-elements_data c.args.rows.now, h.0.0, c.has_too_many.ensures.0 c.if-has_too_many.true)
 
 pub room_after_sequence-returns-in_err-left-clause-none : goal.room_after_sequence-returns-in_err-left-clause-none
 room_after_sequence-returns-in_err-left-clause-none t c =

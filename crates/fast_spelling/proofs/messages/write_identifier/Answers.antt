@@ -20,7 +20,8 @@ returns-in_ok-push_bit-in-Some-U-clause-ok c =
     let same : c.in-Some-U.held ≡ id = omega (arith, tested, widened) in
     let fits = c.ranges.id.fits in
     let small : id < 2 ^ 32 = omega (arith, fits) in
-    let is : previous_at identifier.entry d ≡ assigned UInt32 (U id) = c.in-Some-U.ensures.value ∙ ap (λ (s : Scalar). assigned UInt32 (scalar_data s)) c.in-Some-U.field-0-is ∙ ap (λ (n : ℕ). assigned UInt32 (U n)) same in (
+    let is : previous_at identifier.entry d ≡ assigned UInt32 (U id) = c.in-Some-U.ensures.value
+    ∙ ap (λ (s : Scalar). assigned UInt32 (scalar_data s)) c.in-Some-U.field-0-is ∙ ap (λ (n : ℕ). assigned UInt32 (U n)) same in (
       false ∷ [],
       [],
       c.in_ok-push_bit-in-Some-U.ensures.bits,

@@ -21,7 +21,8 @@ use Rattle.fast_spelling.proofs.messages.write_message.Goals as goal
 pub write_body-requires-clause-suits : goal.write_body-requires-clause-suits
 write_body-requires-clause-suits c =
     subst (λ (ns : List ℕ). SuitsBody (body_among (nodes_of c.args.templates.now) ns) (slots_data c.deref-2.result.now)) (sym c.deref.ensures.value)
-    (rw c.deref-2.ensures.value (slots_suit c.args.templates.now (message_data c.args.message.now) c.template-template.result.now c.template-template.ensures.found c.requires.suits))
+    (rw c.deref-2.ensures.value (slots_suit c.args.templates.now
+    (message_data c.args.message.now) c.template-template.result.now c.template-template.ensures.found c.requires.suits))
 
 pub returns-in_err-write_body-clause-err : goal.returns-in_err-write_body-clause-err
 returns-in_err-write_body-clause-err c =
@@ -29,32 +30,44 @@ returns-in_err-write_body-clause-err c =
     let t = c.args.templates.now in
     let Q = RefusesMessage (tree_of t) c.args.limits c.args.ledger.now.now (message_data c.args.message.now) in
     let f = c.in_err-write_body.field-0.0 in
-    let h = told_at (RefusesBody c.args.limits (body_among (nodes_of t) c.deref.result.now) c.reset_if.new.ledger.now (slots_data c.deref-2.result.now)) Q f c.in_err-write_body.ensures.err
-    (λ r. body_refused t c.args.limits c.args.ledger.now.now c.write_identifier.new.ledger.now c.reset_if.new.ledger.now (message_data c.args.message.now) c.args.id c.template-template.result.now c.clear.new.self c.write_identifier.new.draft f
+    let h = told_at (RefusesBody c.args.limits (body_among (nodes_of t) c.deref.result.now) c.reset_if.new.ledger.now
+    (slots_data c.deref-2.result.now)) Q f c.in_err-write_body.ensures.err
+    (λ r. body_refused t c.args.limits c.args.ledger.now.now c.write_identifier.new.ledger.now c.reset_if.new.ledger.now
+    (message_data c.args.message.now) c.args.id c.template-template.result.now c.clear.new.self c.write_identifier.new.draft f
     c.template-template.ensures.found c.requires.known c.in_ok-write_identifier.ensures.ok c.reset_if.ensures.now
     (rw (sym c.deref-2.ensures.value) (rw (sym c.deref.ensures.value) r))) in
     rw p.1 (subst (IsTold Q) (sym p.2) h)
 
 -- what the body has written, by the message's own names
-body_wrote : (c : goal.After-close) → Wrote (EncodesBody c.args.limits (body_among (nodes_of c.args.templates.now) c.template-template.result.now.body.items) c.reset_if.new.ledger.now (slots_data c.args.message.now.items.items)) c.write_identifier.new.draft c.write_body.new.draft c.write_body.new.ledger.now
+body_wrote : (c : goal.After-close) → Wrote (EncodesBody c.args.limits
+    (body_among (nodes_of c.args.templates.now) c.template-template.result.now.body.items) c.reset_if.new.ledger.now
+    (slots_data c.args.message.now.items.items)) c.write_identifier.new.draft c.write_body.new.draft c.write_body.new.ledger.now
 body_wrote c =
-    subst (λ (vs : Slots). Wrote (EncodesBody c.args.limits (body_among (nodes_of c.args.templates.now) c.template-template.result.now.body.items) c.reset_if.new.ledger.now vs) c.write_identifier.new.draft c.write_body.new.draft c.write_body.new.ledger.now) (ap slots_data c.deref-2.ensures.value)
-    (subst (λ (ns : List ℕ). Wrote (EncodesBody c.args.limits (body_among (nodes_of c.args.templates.now) ns) c.reset_if.new.ledger.now (slots_data c.deref-2.result.now)) c.write_identifier.new.draft c.write_body.new.draft c.write_body.new.ledger.now) c.deref.ensures.value
+    subst (λ (vs : Slots). Wrote (EncodesBody c.args.limits
+    (body_among (nodes_of c.args.templates.now) c.template-template.result.now.body.items) c.reset_if.new.ledger.now vs)
+    c.write_identifier.new.draft c.write_body.new.draft c.write_body.new.ledger.now) (ap slots_data c.deref-2.ensures.value)
+    (subst (λ (ns : List ℕ). Wrote (EncodesBody c.args.limits (body_among (nodes_of c.args.templates.now) ns) c.reset_if.new.ledger.now
+    (slots_data c.deref-2.result.now)) c.write_identifier.new.draft c.write_body.new.draft c.write_body.new.ledger.now)
+    c.deref.ensures.value
     c.in_ok-write_body.ensures.ok)
 
 pub returns-clause-ok : goal.returns-clause-ok
 returns-clause-ok c = on_ok c.close.result c.close.ensures.ok
-    (message_written c.args.templates.now c.args.limits c.args.ledger.now.now c.write_identifier.new.ledger.now c.reset_if.new.ledger.now c.write_body.new.ledger.now (message_data c.args.message.now) c.args.id c.template-template.result.now
+    (message_written c.args.templates.now c.args.limits c.args.ledger.now.now c.write_identifier.new.ledger.now c.reset_if.new.ledger.now
+    c.write_body.new.ledger.now (message_data c.args.message.now) c.args.id c.template-template.result.now
     c.clear.new.self c.write_identifier.new.draft c.write_body.new.draft c.mark-mark.result.bytes c.mark-mark.result.bits c.close.new.self.bytes.items
     c.template-template.ensures.found c.requires.known c.clear.ensures.bits c.clear.ensures.bytes
-    (c.mark-mark.ensures.bytes ∙ c.clear.new.self.bytes.ok.0 ∙ ap length c.clear.ensures.bytes) (c.mark-mark.ensures.bits ∙ c.clear.new.self.bits.ok.0 ∙ ap length c.clear.ensures.bits)
+    (c.mark-mark.ensures.bytes ∙ c.clear.new.self.bytes.ok.0 ∙ ap length c.clear.ensures.bytes)
+    (c.mark-mark.ensures.bits ∙ c.clear.new.self.bits.ok.0 ∙ ap length c.clear.ensures.bits)
     c.in_ok-write_identifier.ensures.ok c.reset_if.ensures.now (body_wrote c))
 
 pub returns-clause-err : goal.returns-clause-err
 returns-clause-err c = told c.close.result c.close.ensures.err (λ e h.
-    message_unmapped c.args.templates.now c.args.limits c.args.ledger.now.now c.write_identifier.new.ledger.now c.reset_if.new.ledger.now c.write_body.new.ledger.now (message_data c.args.message.now) c.args.id c.template-template.result.now
+    message_unmapped c.args.templates.now c.args.limits c.args.ledger.now.now c.write_identifier.new.ledger.now c.reset_if.new.ledger.now
+    c.write_body.new.ledger.now (message_data c.args.message.now) c.args.id c.template-template.result.now
     c.clear.new.self c.write_identifier.new.draft c.write_body.new.draft c.mark-mark.result.bits e
-    c.template-template.ensures.found c.requires.known c.clear.ensures.bits (c.mark-mark.ensures.bits ∙ c.clear.new.self.bits.ok.0 ∙ ap length c.clear.ensures.bits)
+    c.template-template.ensures.found c.requires.known c.clear.ensures.bits
+    (c.mark-mark.ensures.bits ∙ c.clear.new.self.bits.ok.0 ∙ ap length c.clear.ensures.bits)
     c.in_ok-write_identifier.ensures.ok c.reset_if.ensures.now (body_wrote c) h.2 h.0)
 
 pub write_identifier-requires : goal.write_identifier-requires
@@ -64,13 +77,19 @@ pub returns-in_err-write_identifier-clause-keeps : goal.returns-in_err-write_ide
 returns-in_err-write_identifier-clause-keeps c = c.write_identifier.ensures.keeps
 
 pub write_body-requires-clause-ready : goal.write_body-requires-clause-ready
-write_body-requires-clause-ready c = ready_kept c.args.templates.now c.args.limits c.args.ledger.now c.reset_if.new.ledger c.requires.ready (keeps_on c.args.ledger.now c.write_identifier.new.ledger c.reset_if.new.ledger c.write_identifier.ensures.keeps c.reset_if.ensures.keeps)
+write_body-requires-clause-ready c = ready_kept c.args.templates.now c.args.limits c.args.ledger.now c.reset_if.new.ledger c.requires.ready
+    (keeps_on c.args.ledger.now c.write_identifier.new.ledger c.reset_if.new.ledger c.write_identifier.ensures.keeps
+    c.reset_if.ensures.keeps)
 
 pub returns-in_err-write_body-clause-keeps : goal.returns-in_err-write_body-clause-keeps
-returns-in_err-write_body-clause-keeps c = keeps_on c.args.ledger.now c.reset_if.new.ledger c.write_body.new.ledger (keeps_on c.args.ledger.now c.write_identifier.new.ledger c.reset_if.new.ledger c.write_identifier.ensures.keeps c.reset_if.ensures.keeps) c.write_body.ensures.keeps
+returns-in_err-write_body-clause-keeps c = keeps_on c.args.ledger.now c.reset_if.new.ledger c.write_body.new.ledger
+    (keeps_on c.args.ledger.now c.write_identifier.new.ledger c.reset_if.new.ledger c.write_identifier.ensures.keeps
+    c.reset_if.ensures.keeps) c.write_body.ensures.keeps
 
 pub returns-clause-keeps : goal.returns-clause-keeps
-returns-clause-keeps c = keeps_on c.args.ledger.now c.reset_if.new.ledger c.write_body.new.ledger (keeps_on c.args.ledger.now c.write_identifier.new.ledger c.reset_if.new.ledger c.write_identifier.ensures.keeps c.reset_if.ensures.keeps) c.write_body.ensures.keeps
+returns-clause-keeps c = keeps_on c.args.ledger.now c.reset_if.new.ledger c.write_body.new.ledger
+    (keeps_on c.args.ledger.now c.write_identifier.new.ledger c.reset_if.new.ledger c.write_identifier.ensures.keeps
+    c.reset_if.ensures.keeps) c.write_body.ensures.keeps
 
 pub branch-write_identifier-requires : goal.branch-write_identifier-requires
 branch-write_identifier-requires c κs = (λ a m. absurd (not-mem-nil m), λ a m. absurd (not-mem-nil m))

@@ -31,8 +31,10 @@ returns-in_err-write_exponent-in-Dec-clause-err c =
     let ex : to_z w64 (of_z w64 c.from.result) ≡ x = to_z-of_z w64 c.from.result (search rules) ∙ c.from.ensures ∙ to_z-of_z w32 x (search rules) in
     let p = err_from_is_err_and c.from_residual.result c.from_residual.ensures.1 in
     let Q = λ (f : EncodeFault). (l : Limits) → l.max_text ≡ c.args.ledger.now.max_text → RefusesDecimal l e m d (Some (one (value_data c.args.value.now))) f in
-    let h = told_at (RefusesField e d (Some (I (to_z w64 (of_z w64 c.from.result))))) Q c.in_err-write_exponent-in-Dec.field-0.0 c.in_err-write_exponent-in-Dec.ensures.err
-    (λ g l same. subst (λ (v : Value). RefusesDecimal l e m d (Some (one (value_data v))) c.in_err-write_exponent-in-Dec.field-0.0) (sym c.in-Dec.is) (inl (subst (λ (n : ℤ). RefusesField e d (Some (I n)) c.in_err-write_exponent-in-Dec.field-0.0) ex g))) in
+    let h = told_at (RefusesField e d (Some (I (to_z w64 (of_z w64 c.from.result))))) Q c.in_err-write_exponent-in-Dec.field-0.0
+    c.in_err-write_exponent-in-Dec.ensures.err
+    (λ g l same. subst (λ (v : Value). RefusesDecimal l e m d (Some (one (value_data v))) c.in_err-write_exponent-in-Dec.field-0.0)
+    (sym c.in-Dec.is) (inl (subst (λ (n : ℤ). RefusesField e d (Some (I n)) c.in_err-write_exponent-in-Dec.field-0.0) ex g))) in
     rw p.1 (subst (IsTold Q) (sym p.2) h)
 
 pub returns-in_ok-write_exponent-in-Dec-clause-ok : goal.returns-in_ok-write_exponent-in-Dec-clause-ok
@@ -44,10 +46,14 @@ returns-in_ok-write_exponent-in-Dec-clause-ok c = on_ok c.write_mantissa.result 
     let y = c.in-Dec.m in
     let ey : to_z w64 (of_z w64 y) ≡ y = to_z-of_z w64 y (search rules) in
     let ex : to_z w64 (of_z w64 c.from.result) ≡ x = to_z-of_z w64 c.from.result (search rules) ∙ c.from.ensures ∙ to_z-of_z w32 x (search rules) in
-    let first = subst (λ (n : ℤ). Wrote (EncodesField l e d (Some (I n))) c.args.draft.now c.write_exponent.new.draft c.write_exponent.new.ledger.now) ex (c.in_ok-write_exponent-in-Dec.ensures.ok l same) in
-    let second = subst (λ (n : ℤ). Wrote (EncodesField l m c.write_exponent.new.ledger.now (Some (I n))) c.write_exponent.new.draft c.write_mantissa.new.draft c.write_mantissa.new.ledger.now) ey (k l (same ∙ sym c.write_exponent.ensures.keeps.room)) in
-    subst (λ (v : Value). Wrote (EncodesDecimal l e m d (Some (one (value_data v)))) c.args.draft.now c.write_mantissa.new.draft c.write_mantissa.new.ledger.now) (sym c.in-Dec.is)
-    (wrote_twice e m l x y c.args.draft.now c.write_exponent.new.draft c.write_mantissa.new.draft d c.write_exponent.new.ledger.now c.write_mantissa.new.ledger.now first second))
+    let first = subst (λ (n : ℤ). Wrote (EncodesField l e d (Some (I n))) c.args.draft.now c.write_exponent.new.draft
+    c.write_exponent.new.ledger.now) ex (c.in_ok-write_exponent-in-Dec.ensures.ok l same) in
+    let second = subst (λ (n : ℤ). Wrote (EncodesField l m c.write_exponent.new.ledger.now (Some (I n))) c.write_exponent.new.draft
+    c.write_mantissa.new.draft c.write_mantissa.new.ledger.now) ey (k l (same ∙ sym c.write_exponent.ensures.keeps.room)) in
+    subst (λ (v : Value). Wrote (EncodesDecimal l e m d (Some (one (value_data v)))) c.args.draft.now c.write_mantissa.new.draft
+    c.write_mantissa.new.ledger.now) (sym c.in-Dec.is)
+    (wrote_twice e m l x y c.args.draft.now c.write_exponent.new.draft c.write_mantissa.new.draft d c.write_exponent.new.ledger.now
+    c.write_mantissa.new.ledger.now first second))
 
 pub returns-in_ok-write_exponent-in-Dec-clause-err : goal.returns-in_ok-write_exponent-in-Dec-clause-err
 returns-in_ok-write_exponent-in-Dec-clause-err c = told c.write_mantissa.result c.write_mantissa.ensures.err (λ f h l same.
@@ -58,7 +64,8 @@ returns-in_ok-write_exponent-in-Dec-clause-err c = told c.write_mantissa.result 
     let y = c.in-Dec.m in
     let ey : to_z w64 (of_z w64 y) ≡ y = to_z-of_z w64 y (search rules) in
     let ex : to_z w64 (of_z w64 c.from.result) ≡ x = to_z-of_z w64 c.from.result (search rules) ∙ c.from.ensures ∙ to_z-of_z w32 x (search rules) in
-    let first = subst (λ (n : ℤ). Wrote (EncodesField l e d (Some (I n))) c.args.draft.now c.write_exponent.new.draft c.write_exponent.new.ledger.now) ex (c.in_ok-write_exponent-in-Dec.ensures.ok l same) in
+    let first = subst (λ (n : ℤ). Wrote (EncodesField l e d (Some (I n))) c.args.draft.now c.write_exponent.new.draft
+    c.write_exponent.new.ledger.now) ex (c.in_ok-write_exponent-in-Dec.ensures.ok l same) in
     subst (λ (v : Value). RefusesDecimal l e m d (Some (one (value_data v))) f) (sym c.in-Dec.is)
     (inr (first.0, first.1, c.write_exponent.new.ledger.now, first.4, subst (λ (n : ℤ). RefusesField m c.write_exponent.new.ledger.now (Some (I n)) f) ey h)))
 

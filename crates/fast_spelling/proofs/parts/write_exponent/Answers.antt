@@ -22,20 +22,27 @@ suited_here m f n fits h = subst (λ (x : ℤ). IsSuited m f (Some (I x))) (sym 
 pub returns-in-Copy-clause-ok : goal.returns-in-Copy-clause-ok
 returns-in-Copy-clause-ok c = on_ok c.write_copied.result c.write_copied.ensures.ok (λ k l same.
     let is : to_z w64 (of_z w64 c.args.number) ≡ c.args.number = to_z-of_z w64 c.args.number c.ranges.number in
-    subst (λ (n : ℤ). Wrote (EncodesField l (field_data c.args.field.now) c.args.ledger.now.now (Some (I n))) c.args.draft.now c.write_copied.new.draft c.write_copied.new.ledger.now) is
-    (subst (λ (g : FieldInstruction). Wrote (EncodesField l (field_data g) c.args.ledger.now.now (Some (I (to_z w64 (of_z w64 c.args.number))))) c.args.draft.now c.write_copied.new.draft c.write_copied.new.ledger.now) c.of-in-Copy.ensures (k l same)))
+    subst (λ (n : ℤ). Wrote (EncodesField l (field_data c.args.field.now) c.args.ledger.now.now (Some (I n))) c.args.draft.now
+    c.write_copied.new.draft c.write_copied.new.ledger.now) is
+    (subst (λ (g : FieldInstruction). Wrote (EncodesField l (field_data g) c.args.ledger.now.now
+    (Some (I (to_z w64 (of_z w64 c.args.number))))) c.args.draft.now c.write_copied.new.draft c.write_copied.new.ledger.now)
+    c.of-in-Copy.ensures (k l same)))
 
 pub returns-in-Copy-clause-err : goal.returns-in-Copy-clause-err
 returns-in-Copy-clause-err c = told c.write_copied.result c.write_copied.ensures.err (λ f h.
     let is : to_z w64 (of_z w64 c.args.number) ≡ c.args.number = to_z-of_z w64 c.args.number c.ranges.number in
     subst (λ (n : ℤ). RefusesField (field_data c.args.field.now) c.args.ledger.now.now (Some (I n)) f) is
-    (subst (λ (g : FieldInstruction). RefusesField (field_data g) c.args.ledger.now.now (Some (I (to_z w64 (of_z w64 c.args.number)))) f) c.of-in-Copy.ensures h))
+    (subst (λ (g : FieldInstruction). RefusesField (field_data g) c.args.ledger.now.now (Some (I (to_z w64 (of_z w64 c.args.number)))) f)
+    c.of-in-Copy.ensures h))
 
 pub returns-in-Default-clause-ok : goal.returns-in-Default-clause-ok
 returns-in-Default-clause-ok c = on_ok c.write_default.result c.write_default.ensures.ok (λ k l same.
     let is : to_z w64 (of_z w64 c.args.number) ≡ c.args.number = to_z-of_z w64 c.args.number c.ranges.number in
-    subst (λ (n : ℤ). Wrote (EncodesField l (field_data c.args.field.now) c.args.ledger.now.now (Some (I n))) c.args.draft.now c.write_default.new.draft c.write_default.new.ledger.now) is
-    (subst (λ (g : FieldInstruction). Wrote (EncodesField l (field_data g) c.args.ledger.now.now (Some (I (to_z w64 (of_z w64 c.args.number))))) c.args.draft.now c.write_default.new.draft c.write_default.new.ledger.now) c.of.ensures (k l same)))
+    subst (λ (n : ℤ). Wrote (EncodesField l (field_data c.args.field.now) c.args.ledger.now.now (Some (I n))) c.args.draft.now
+    c.write_default.new.draft c.write_default.new.ledger.now) is
+    (subst (λ (g : FieldInstruction). Wrote (EncodesField l (field_data g) c.args.ledger.now.now
+    (Some (I (to_z w64 (of_z w64 c.args.number))))) c.args.draft.now c.write_default.new.draft c.write_default.new.ledger.now)
+    c.of.ensures (k l same)))
 
 pub returns-in-Default-clause-err : goal.returns-in-Default-clause-err
 returns-in-Default-clause-err c = told c.write_default.result c.write_default.ensures.err (λ f h.
@@ -50,7 +57,9 @@ pub write_copied-requires-clause-served : goal.write_copied-requires-clause-serv
 write_copied-requires-clause-served c = subst (λ (g : FieldInstruction). IsServed c.args.ledger.now (field_data g)) (sym c.of-in-Copy.ensures) c.requires.served
 
 pub write_copied-requires-clause-suited : goal.write_copied-requires-clause-suited
-write_copied-requires-clause-suited c = subst (λ (g : FieldInstruction). IsSuited c.args.ledger.now.max_text (field_data g) (Some (I (to_z w64 (of_z w64 c.args.number))))) (sym c.of-in-Copy.ensures) (suited_here c.args.ledger.now.max_text (field_data c.args.field.now) c.args.number c.ranges.number c.requires.suited)
+write_copied-requires-clause-suited c = subst (λ (g : FieldInstruction). IsSuited c.args.ledger.now.max_text (field_data g)
+    (Some (I (to_z w64 (of_z w64 c.args.number))))) (sym c.of-in-Copy.ensures)
+    (suited_here c.args.ledger.now.max_text (field_data c.args.field.now) c.args.number c.ranges.number c.requires.suited)
 
 pub returns-in-Copy-clause-keeps : goal.returns-in-Copy-clause-keeps
 returns-in-Copy-clause-keeps c = c.write_copied.ensures.keeps
@@ -62,7 +71,9 @@ pub write_default-requires-clause-served : goal.write_default-requires-clause-se
 write_default-requires-clause-served c = subst (λ (g : FieldInstruction). IsServed c.args.ledger.now (field_data g)) (sym c.of.ensures) c.requires.served
 
 pub write_default-requires-clause-suited : goal.write_default-requires-clause-suited
-write_default-requires-clause-suited c = subst (λ (g : FieldInstruction). IsSuited c.args.ledger.now.max_text (field_data g) (Some (I (to_z w64 (of_z w64 c.args.number))))) (sym c.of.ensures) (suited_here c.args.ledger.now.max_text (field_data c.args.field.now) c.args.number c.ranges.number c.requires.suited)
+write_default-requires-clause-suited c = subst (λ (g : FieldInstruction). IsSuited c.args.ledger.now.max_text (field_data g)
+    (Some (I (to_z w64 (of_z w64 c.args.number))))) (sym c.of.ensures)
+    (suited_here c.args.ledger.now.max_text (field_data c.args.field.now) c.args.number c.ranges.number c.requires.suited)
 
 pub returns-in-Default-clause-keeps : goal.returns-in-Default-clause-keeps
 returns-in-Default-clause-keeps c = c.write_default.ensures.keeps
@@ -70,7 +81,8 @@ returns-in-Default-clause-keeps c = c.write_default.ensures.keeps
 pub returns-in_default-clause-ok : goal.returns-in_default-clause-ok
 returns-in_default-clause-ok c = on_ok c.write_signed.result c.write_signed.ensures.ok (λ k l same.
     let is : to_z w64 (of_z w64 c.args.number) ≡ c.args.number = to_z-of_z w64 c.args.number c.ranges.number in
-    subst (λ (n : ℤ). Wrote (EncodesField l (field_data c.args.field.now) c.args.ledger.now.now (Some (I n))) c.args.draft.now c.write_signed.new.draft c.write_signed.new.ledger.now) is (k l same))
+    subst (λ (n : ℤ). Wrote (EncodesField l (field_data c.args.field.now) c.args.ledger.now.now (Some (I n))) c.args.draft.now
+    c.write_signed.new.draft c.write_signed.new.ledger.now) is (k l same))
 
 pub returns-in_default-clause-err : goal.returns-in_default-clause-err
 returns-in_default-clause-err c = told c.write_signed.result c.write_signed.ensures.err (λ f h.

@@ -22,8 +22,11 @@ suited_here m f n fits h = subst (λ (x : ℤ). IsSuited m f (Some (I x))) (sym 
 pub returns-in-Delta-clause-ok : goal.returns-in-Delta-clause-ok
 returns-in-Delta-clause-ok c = on_ok c.write_difference.result c.write_difference.ensures.ok (λ k l same.
     let is : to_z w64 (of_z w64 c.args.number) ≡ c.args.number = to_z-of_z w64 c.args.number c.ranges.number in
-    subst (λ (n : ℤ). Wrote (EncodesField l (field_data c.args.field.now) c.args.ledger.now.now (Some (I n))) c.args.draft.now c.write_difference.new.draft c.write_difference.new.ledger.now) is
-    (subst (λ (g : FieldInstruction). Wrote (EncodesField l (field_data g) c.args.ledger.now.now (Some (I (to_z w64 (of_z w64 c.args.number))))) c.args.draft.now c.write_difference.new.draft c.write_difference.new.ledger.now) c.of.ensures (k l same)))
+    subst (λ (n : ℤ). Wrote (EncodesField l (field_data c.args.field.now) c.args.ledger.now.now (Some (I n))) c.args.draft.now
+    c.write_difference.new.draft c.write_difference.new.ledger.now) is
+    (subst (λ (g : FieldInstruction). Wrote (EncodesField l (field_data g) c.args.ledger.now.now
+    (Some (I (to_z w64 (of_z w64 c.args.number))))) c.args.draft.now c.write_difference.new.draft c.write_difference.new.ledger.now)
+    c.of.ensures (k l same)))
 
 pub returns-in-Delta-clause-err : goal.returns-in-Delta-clause-err
 returns-in-Delta-clause-err c = told c.write_difference.result c.write_difference.ensures.err (λ f h.
@@ -38,7 +41,9 @@ pub write_difference-requires-clause-served : goal.write_difference-requires-cla
 write_difference-requires-clause-served c = subst (λ (g : FieldInstruction). IsServed c.args.ledger.now (field_data g)) (sym c.of.ensures) c.requires.served
 
 pub write_difference-requires-clause-suited : goal.write_difference-requires-clause-suited
-write_difference-requires-clause-suited c = subst (λ (g : FieldInstruction). IsSuited c.args.ledger.now.max_text (field_data g) (Some (I (to_z w64 (of_z w64 c.args.number))))) (sym c.of.ensures) (suited_here c.args.ledger.now.max_text (field_data c.args.field.now) c.args.number c.ranges.number c.requires.suited)
+write_difference-requires-clause-suited c = subst (λ (g : FieldInstruction). IsSuited c.args.ledger.now.max_text (field_data g)
+    (Some (I (to_z w64 (of_z w64 c.args.number))))) (sym c.of.ensures)
+    (suited_here c.args.ledger.now.max_text (field_data c.args.field.now) c.args.number c.ranges.number c.requires.suited)
 
 pub returns-in-Delta-clause-keeps : goal.returns-in-Delta-clause-keeps
 returns-in-Delta-clause-keeps c = c.write_difference.ensures.keeps
@@ -46,7 +51,8 @@ returns-in-Delta-clause-keeps c = c.write_difference.ensures.keeps
 pub returns-in_default-clause-ok : goal.returns-in_default-clause-ok
 returns-in_default-clause-ok c = on_ok c.write_signed.result c.write_signed.ensures.ok (λ k l same.
     let is : to_z w64 (of_z w64 c.args.number) ≡ c.args.number = to_z-of_z w64 c.args.number c.ranges.number in
-    subst (λ (n : ℤ). Wrote (EncodesField l (field_data c.args.field.now) c.args.ledger.now.now (Some (I n))) c.args.draft.now c.write_signed.new.draft c.write_signed.new.ledger.now) is (k l same))
+    subst (λ (n : ℤ). Wrote (EncodesField l (field_data c.args.field.now) c.args.ledger.now.now (Some (I n))) c.args.draft.now
+    c.write_signed.new.draft c.write_signed.new.ledger.now) is (k l same))
 
 pub returns-in_default-clause-err : goal.returns-in_default-clause-err
 returns-in_default-clause-err c = told c.write_signed.result c.write_signed.ensures.err (λ f h.

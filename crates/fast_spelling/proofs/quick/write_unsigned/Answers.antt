@@ -11,4 +11,5 @@ use Rattle.fast_spelling.proofs.quick.write_unsigned.Goals as goal
 
 pub returns-then-eq-clause-ok : goal.returns-then-eq-clause-ok
 returns-then-eq-clause-ok c = on_ok c.write_plain.result c.write_plain.ensures.ok (λ k l same.
-    subst (λ (g : FieldInstruction). Wrote (EncodesField l (field_data g) c.args.ledger.now.now (Some (U c.args.number))) c.args.draft.now c.write_plain.new.draft c.write_plain.new.ledger.now) c.of.ensures (k l same))
+    subst (λ (g : FieldInstruction). Wrote (EncodesField l (field_data g) c.args.ledger.now.now (Some (U c.args.number))) c.args.draft.now
+    c.write_plain.new.draft c.write_plain.new.ledger.now) c.of.ensures (k l same))

@@ -16,8 +16,11 @@ pub returns-clause-ok : goal.returns-clause-ok
 returns-clause-ok c = on_ok c.write_other.result c.write_other.ensures.ok (λ k l same.
     let e : to_z w32 (of_z w32 c.args.exponent) ≡ c.args.exponent = to_z-of_z w32 c.args.exponent (search rules) in
     let m : to_z w64 (of_z w64 c.args.mantissa) ≡ c.args.mantissa = to_z-of_z w64 c.args.mantissa (search rules) in
-    subst (λ (n : ℤ). Wrote (EncodesField l (field_data c.args.field.now) c.args.ledger.now.now (Some (Dec c.args.exponent n))) c.args.draft.now c.write_other.new.draft c.write_other.new.ledger.now) m
-    (subst (λ (n : ℤ). Wrote (EncodesField l (field_data c.args.field.now) c.args.ledger.now.now (Some (Dec n (to_z w64 (of_z w64 c.args.mantissa))))) c.args.draft.now c.write_other.new.draft c.write_other.new.ledger.now) e (k l same)))
+    subst (λ (n : ℤ). Wrote (EncodesField l (field_data c.args.field.now) c.args.ledger.now.now (Some (Dec c.args.exponent n)))
+    c.args.draft.now c.write_other.new.draft c.write_other.new.ledger.now) m
+    (subst (λ (n : ℤ). Wrote (EncodesField l (field_data c.args.field.now) c.args.ledger.now.now
+    (Some (Dec n (to_z w64 (of_z w64 c.args.mantissa))))) c.args.draft.now c.write_other.new.draft c.write_other.new.ledger.now) e
+    (k l same)))
 
 pub returns-clause-err : goal.returns-clause-err
 returns-clause-err c = told c.write_other.result c.write_other.ensures.err (λ f h.

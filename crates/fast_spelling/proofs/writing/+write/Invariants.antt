@@ -11,7 +11,8 @@ use Rattle.fast_spelling.proofs.writing.+write.Given as goal
 
 abbrev pub invariant-write_body-loop-i : goal.invariant-write_body-loop-i
 invariant-write_body-loop-i l = record {
-  written : IsWritten l.limits (body_among (nodes_of l.templates) l.body) (slots_data l.slots) l.fn.ledger.now l.fn.draft (body_among (nodes_of l.templates) (drop l.i l.body)) (slots_data (drop l.i l.slots)) l.ledger.now l.draft;
+  written : IsWritten l.limits (body_among (nodes_of l.templates) l.body) (slots_data l.slots) l.fn.ledger.now l.fn.draft
+      (body_among (nodes_of l.templates) (drop l.i l.body)) (slots_data (drop l.i l.slots)) l.ledger.now l.draft;
   suits : SuitsBody (body_among (nodes_of l.templates) (drop l.i l.body)) (slots_data (drop l.i l.slots));
   fits : AreWithinLimits l.limits (slots_data (drop l.i l.slots));
   ready : IsReady l.templates l.limits l.ledger;
@@ -20,7 +21,8 @@ invariant-write_body-loop-i l = record {
 
 abbrev pub invariant-write_item-loop-row : goal.invariant-write_item-loop-row
 invariant-write_item-loop-row l = record {
-  written : AreWritten l.limits (body_among (nodes_of l.templates) l.body.items) (elements_data l.row-items) l.initial.ledger.now l.initial.draft (elements_data (drop l.row-index l.row-items)) l.ledger.now l.draft;
+  written : AreWritten l.limits (body_among (nodes_of l.templates) l.body.items)
+      (elements_data l.row-items) l.initial.ledger.now l.initial.draft (elements_data (drop l.row-index l.row-items)) l.ledger.now l.draft;
   right : AreRight (SuitsBody (body_among (nodes_of l.templates) l.body.items)) (elements_data (drop l.row-index l.row-items));
   fits : RowsWithinLimits l.limits (elements_data (drop l.row-index l.row-items));
   ready : IsReady l.templates l.limits l.ledger;

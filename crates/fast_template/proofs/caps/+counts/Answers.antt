@@ -23,7 +23,8 @@ pub node_counts-body_counts-requires : goal.node_counts-body_counts-requires
 node_counts-body_counts-requires t c =
     let limit = length c.args.nodes.now in
     let v = c.index-nodes-number in
-    let later = subst (AreBetween c.args.number limit) (sym c.deref.ensures.value) (names_later c.args.nodes.now c.args.number v.result _ c.requires.later c.requires.below v.is c.in-Group.is) in
+    let later = subst (AreBetween c.args.number limit) (sym c.deref.ensures.value)
+    (names_later c.args.nodes.now c.args.number v.result _ c.requires.later c.requires.below v.is c.in-Group.is) in
     let smaller = smaller_at_body limit c.args.number c.deref.result.now c.requires.below later in
     (subst (λ m. left_at_body limit c.deref.result.now < m) c.decreases smaller, (c.requires.later, all_below c.args.number limit c.deref.result.now later))
 
@@ -32,7 +33,8 @@ node_counts-body_counts-requires-in-Sequence t c =
     let limit = length c.args.nodes.now in
     let v = c.index-nodes-number in
     let body = c.deref-in-Sequence in
-    let later = subst (AreBetween c.args.number limit) (sym body.ensures.value) (names_later c.args.nodes.now c.args.number v.result _ c.requires.later c.requires.below v.is c.in-Sequence.is) in
+    let later = subst (AreBetween c.args.number limit) (sym body.ensures.value)
+    (names_later c.args.nodes.now c.args.number v.result _ c.requires.later c.requires.below v.is c.in-Sequence.is) in
     let smaller = smaller_at_body limit c.args.number body.result.now c.requires.below later in
     (subst (λ m. left_at_body limit body.result.now < m) c.decreases smaller, (c.requires.later, all_below c.args.number limit body.result.now later))
 
@@ -78,22 +80,28 @@ body_counts-returns t c =
 
 pub node_counts-returns-in-Field : goal.node_counts-returns-in-Field
 node_counts-returns-in-Field t c =
-    let e = instruction_here c.args.nodes.now c.args.number c.index-nodes-number.result _ c.requires.later c.requires.below c.index-nodes-number.is c.in-Field.is in
+    let e = instruction_here c.args.nodes.now c.args.number c.index-nodes-number.result _ c.requires.later c.requires.below
+    c.index-nodes-number.is c.in-Field.is in
     subst (AreCountsOf c.field_counts.result c.args.limits) (sym e) c.field_counts.ensures
 
 pub node_counts-returns-in-Decimal : goal.node_counts-returns-in-Decimal
 node_counts-returns-in-Decimal t c =
-    let e = instruction_here c.args.nodes.now c.args.number c.index-nodes-number.result _ c.requires.later c.requires.below c.index-nodes-number.is c.in-Decimal.is in
+    let e = instruction_here c.args.nodes.now c.args.number c.index-nodes-number.result _ c.requires.later c.requires.below
+    c.index-nodes-number.is c.in-Decimal.is in
     subst (AreCountsOf c.field_counts-in-Decimal.result c.args.limits) (sym e) c.field_counts-in-Decimal.ensures
 
 pub node_counts-returns-in-Group : goal.node_counts-returns-in-Group
 node_counts-returns-in-Group t c =
-    let e = instruction_here c.args.nodes.now c.args.number c.index-nodes-number.result _ c.requires.later c.requires.below c.index-nodes-number.is c.in-Group.is in
-    let counts = subst (λ ms. AreCountsOfBody c.body_counts.result c.args.limits (body_of 0 (instructions_from 0 c.args.nodes.now) ms)) c.deref.ensures.value c.body_counts.ensures in
+    let e = instruction_here c.args.nodes.now c.args.number c.index-nodes-number.result _ c.requires.later c.requires.below
+    c.index-nodes-number.is c.in-Group.is in
+    let counts = subst (λ ms. AreCountsOfBody c.body_counts.result c.args.limits (body_of 0 (instructions_from 0 c.args.nodes.now) ms))
+    c.deref.ensures.value c.body_counts.ensures in
     subst (AreCountsOf c.group_counts.result c.args.limits) (sym e) (c.group_counts.ensures _ _ _ counts)
 
 pub node_counts-returns-in-Sequence : goal.node_counts-returns-in-Sequence
 node_counts-returns-in-Sequence t c =
-    let e = instruction_here c.args.nodes.now c.args.number c.index-nodes-number.result _ c.requires.later c.requires.below c.index-nodes-number.is c.in-Sequence.is in
-    let counts = subst (λ ms. AreCountsOfBody c.body_counts-in-Sequence.result c.args.limits (body_of 0 (instructions_from 0 c.args.nodes.now) ms)) c.deref-in-Sequence.ensures.value c.body_counts-in-Sequence.ensures in
+    let e = instruction_here c.args.nodes.now c.args.number c.index-nodes-number.result _ c.requires.later c.requires.below
+    c.index-nodes-number.is c.in-Sequence.is in
+    let counts = subst (λ ms. AreCountsOfBody c.body_counts-in-Sequence.result c.args.limits
+    (body_of 0 (instructions_from 0 c.args.nodes.now) ms)) c.deref-in-Sequence.ensures.value c.body_counts-in-Sequence.ensures in
     subst (AreCountsOf c.sequence_counts.result c.args.limits) (sym e) (c.sequence_counts.ensures _ _ _ counts)

@@ -12,4 +12,6 @@ abbrev pub decreases-node_depth : goal.decreases-node_depth
 decreases-node_depth l = left_at_node (length l.nodes.now) l.number
 
 abbrev pub invariant-body_depth-loop-number : goal.invariant-body_depth-loop-number
-invariant-body_depth-loop-number l = max l.deepest (in_32_bits (body_depth (body_of 0 (instructions_from 0 l.nodes) (drop l.number-index l.body)))) ≡ in_32_bits (body_depth (body_of 0 (instructions_from 0 l.nodes) l.body))
+invariant-body_depth-loop-number l = max l.deepest (in_32_bits
+    (body_depth (body_of 0 (instructions_from 0 l.nodes) (drop l.number-index l.body)))) ≡ in_32_bits
+    (body_depth (body_of 0 (instructions_from 0 l.nodes) l.body))

@@ -18,7 +18,12 @@ returns-in_err-widths c = rw ((err_from_is_err_and c.from_residual.result c.from
 pub loop-template-init : goal.loop-template-init
 loop-template-init c =
     let ns : List Node = c.args.nodes.now in
-    record { long = ap length c.in_ok-widths.ensures.items; each = none_yet (λ (t : Template). message_bits (template_data (instructions_from 0 ns) t)) c.args.templates.now c.in_ok-widths.widths.items }
+    record {
+      long = ap length c.in_ok-widths.ensures.items;
+      each =
+          none_yet (λ (t : Template). message_bits (template_data (instructions_from 0 ns) t)) c.args.templates.now
+          c.in_ok-widths.widths.items;
+    }
 
 pub body_bits-requires-clause-within : goal.body_bits-requires-clause-within
 body_bits-requires-clause-within c =
@@ -44,7 +49,8 @@ loop-template-preserved c =
     let bits : Template → ℕ = λ (t : Template). message_bits (template_data (instructions_from 0 ns) t) in
     record {
       long = ap length more ∙ length-append c.loop-template.widths.items (w ∷ []) ∙ ap (λ len. len + 1) before.long;
-      each = rw (more) (one_more bits ts c.loop-template.widths.items i w t before.long before.each at (ap (λ n. 1 + n) (c.body_bits.ensures.bits ∙ ap (λ body. bits_of (body_among ns body)) c.deref.ensures.value)));
+      each = rw (more) (one_more bits ts c.loop-template.widths.items i w t before.long before.each at
+          (ap (λ n. 1 + n) (c.body_bits.ensures.bits ∙ ap (λ body. bits_of (body_among ns body)) c.deref.ensures.value)));
     }
 
 pub returns : goal.returns
@@ -53,4 +59,8 @@ returns c =
     let ts : List Template = c.args.templates.now in
     let before = c.loop-template.invariant in
     let end : c.loop-template.template-index ≡ length ts = omega arith in
-    record { long = before.long ∙ end; each = all_there (λ (t : Template). message_bits (template_data (instructions_from 0 ns) t)) ts c.loop-template.widths.items c.loop-template.template-index end before.each }
+    record {
+      long = before.long ∙ end;
+      each = all_there (λ (t : Template). message_bits (template_data (instructions_from 0 ns) t)) ts
+          c.loop-template.widths.items c.loop-template.template-index end before.each;
+    }

@@ -9,5 +9,6 @@ use Rattle.fast_template.proofs.widths.message_widths_of.Given as goal
 abbrev pub invariant-loop-template : goal.invariant-loop-template
 invariant-loop-template l = record {
   long : length l.widths.items ≡ l.template-index;
-  each : (k : ℕ) (t : Template) → k < l.template-index → slice_get l.templates k ≡ Some t → slice_index l.widths.items k ≡ message_bits (template_data (instructions_from 0 l.nodes) t);
+  each : (k : ℕ) (t : Template) → k < l.template-index → slice_get l.templates k ≡ Some t
+      → slice_index l.widths.items k ≡ message_bits (template_data (instructions_from 0 l.nodes) t);
 }

@@ -30,7 +30,8 @@ loop-node-preserved c =
     let bits : Node → ℕ = λ (x : Node). bits_of (body_among ns (numbers_of x.shape)) in
     record {
       long = ap length more ∙ length-append c.loop-node.widths.items (c.body_bits.result ∷ []) ∙ ap (λ len. len + 1) before.long;
-      each = rw (more) (one_more bits ns c.loop-node.widths.items n c.body_bits.result v before.long before.each at (c.body_bits.ensures.bits ∙ ap (λ body. bits_of (body_among ns body)) c.body_of.ensures.numbers));
+      each = rw (more) (one_more bits ns c.loop-node.widths.items n c.body_bits.result v before.long before.each at
+          (c.body_bits.ensures.bits ∙ ap (λ body. bits_of (body_among ns body)) c.body_of.ensures.numbers));
     }
 
 pub body_bits-requires-clause-short : goal.body_bits-requires-clause-short
@@ -39,7 +40,10 @@ body_bits-requires-clause-short c = c.body_of.ensures.short
 pub loop-node-init : goal.loop-node-init
 loop-node-init c =
     let ns : List Node = c.args.nodes.now in
-    record { long = ap length c.in_ok-widths.ensures.items; each = none_yet (λ (x : Node). bits_of (body_among ns (numbers_of x.shape))) ns c.in_ok-widths.widths.items }
+    record {
+      long = ap length c.in_ok-widths.ensures.items;
+      each = none_yet (λ (x : Node). bits_of (body_among ns (numbers_of x.shape))) ns c.in_ok-widths.widths.items;
+    }
 
 pub returns-in_err-widths : goal.returns-in_err-widths
 returns-in_err-widths c = rw ((err_from_is_err_and c.from_residual.result c.from_residual.ensures.1).1) tt
@@ -52,4 +56,8 @@ returns c =
     let ns : List Node = c.args.nodes.now in
     let before = c.loop-node.invariant in
     let end : c.loop-node.node-index ≡ length ns = omega arith in
-    record { long = before.long ∙ end; each = all_there (λ (x : Node). bits_of (body_among ns (numbers_of x.shape))) ns c.loop-node.widths.items c.loop-node.node-index end before.each }
+    record {
+      long = before.long ∙ end;
+      each = all_there (λ (x : Node). bits_of (body_among ns (numbers_of x.shape))) ns
+          c.loop-node.widths.items c.loop-node.node-index end before.each;
+    }

@@ -10,5 +10,6 @@ use Rattle.fast_template.proofs.widths.segment_widths_of.Given as goal
 abbrev pub invariant-loop-node : goal.invariant-loop-node
 invariant-loop-node l = record {
   long : length l.widths.items ≡ l.node-index;
-  each : (k : ℕ) (v : Node) → k < l.node-index → slice_get l.nodes k ≡ Some v → slice_index l.widths.items k ≡ bits_of (body_among l.nodes (numbers_of v.shape));
+  each : (k : ℕ) (v : Node) → k < l.node-index → slice_get l.nodes k ≡ Some v
+      → slice_index l.widths.items k ≡ bits_of (body_among l.nodes (numbers_of v.shape));
 }

@@ -10,7 +10,9 @@ pub returns-in-MessageStart : goal.returns-in-MessageStart
 returns-in-MessageStart g c = rw c.in-MessageStart.is c.put_message.ensures
 
 pub returns-in-Field : goal.returns-in-Field
-returns-in-Field g c = rw c.in-Field.is (writes_same (sym (append_assoc (field_front (tree_of c.args.templates.now) c.in-Field.node) (value_text (scalar_data c.in-Field.value)) (0x0A ∷ []))) (writes_both c.put_field.ensures c.put_value_line.ensures))
+returns-in-Field g c = rw c.in-Field.is (writes_same (sym
+    (append_assoc (field_front (tree_of c.args.templates.now) c.in-Field.node) (value_text (scalar_data c.in-Field.value)) (0x0A ∷ [])))
+    (writes_both c.put_field.ensures c.put_value_line.ensures))
 
 pub returns-in-GroupStart : goal.returns-in-GroupStart
 returns-in-GroupStart g c = rw c.in-GroupStart.is c.put_group.ensures

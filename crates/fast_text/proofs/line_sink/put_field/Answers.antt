@@ -4,7 +4,10 @@ use Rattle.fast_text.proofs.Writing.{writes_both, writes_same}
 use Rattle.fast_text.proofs.line_sink.put_field.Goals as goal
 
 pub put_front-requires : goal.put_front-requires
-put_front-requires g c = (c.requires.each c.args.node _ (slice_get-get_or c.args.fronts.now c.args.node (record { cells = []; len = 0 }) c.if-place-fronts.true)).short
+put_front-requires g c = (c.requires.each c.args.node _ (slice_get-get_or c.args.fronts.now c.args.node (record {
+  cells = [];
+  len = 0;
+}) c.if-place-fronts.true)).short
 
 pub returns-then-fronts-place-gt0 : goal.returns-then-fronts-place-gt0
 returns-then-fronts-place-gt0 g c =

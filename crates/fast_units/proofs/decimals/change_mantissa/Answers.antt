@@ -17,13 +17,16 @@ returns-clause-decided c =
     let f = field_data c.args.field.now in
     let old = slots_dictionary c.args.slots.now in
     let step : mantissa_step f (previous_at f.entry old) c.args.exponent c.args.delta ≡ keeps f.kind (number_data c.decimal.result) = search rules in
-    decided_as f old (slots_dictionary c.keep.new.slots) (Ok c.keep.result) step (keep_decided f old (slots_dictionary c.keep.new.slots) (number_data c.decimal.result) c.keep.result c.keep.ensures.entry c.keep.ensures.value)
+    decided_as f old (slots_dictionary c.keep.new.slots) (Ok c.keep.result) step
+    (keep_decided f old (slots_dictionary c.keep.new.slots)
+    (number_data c.decimal.result) c.keep.result c.keep.ensures.entry c.keep.ensures.value)
 
 pub returns-in_err-delta_base-clause-decided : goal.returns-in_err-delta_base-clause-decided
 returns-in_err-delta_base-clause-decided c =
     let f = field_data c.args.field.now in
     let p = err_from_is_err_and c.from_residual.result c.from_residual.ensures.1 in
-    rw (p.1, p.2) (mantissa_fault f (previous_at f.entry (slots_dictionary c.args.slots.now)) c.args.exponent c.args.delta c.in_err-delta_base.field-0.0 (ap (delta_base f) (sym c.previous.ensures) ∙ sym c.in_err-delta_base.ensures))
+    rw (p.1, p.2) (mantissa_fault f (previous_at f.entry (slots_dictionary c.args.slots.now)) c.args.exponent c.args.delta
+    c.in_err-delta_base.field-0.0 (ap (delta_base f) (sym c.previous.ensures) ∙ sym c.in_err-delta_base.ensures))
 
 pub returns-in_err-sum-clause-decided : goal.returns-in_err-sum-clause-decided
 returns-in_err-sum-clause-decided c =
@@ -31,4 +34,5 @@ returns-in_err-sum-clause-decided c =
     let p = err_from_is_err_and c.from_residual-in_err-sum.result c.from_residual-in_err-sum.ensures.1 in
     let v = scalar_data c.in_ok-delta_base.field-0 in
     let out : ranged (signed_range 63) R1 (mantissa_of v +ℤ c.args.delta) ≡ Err c.in_err-sum.field-0.0 = search rules in
-    rw (p.1, p.2) (mantissa_out f (previous_at f.entry (slots_dictionary c.args.slots.now)) c.args.exponent c.args.delta c.in_err-sum.field-0.0 v (ap (delta_base f) (sym c.previous.ensures) ∙ sym c.in_ok-delta_base.ensures) out)
+    rw (p.1, p.2) (mantissa_out f (previous_at f.entry (slots_dictionary c.args.slots.now)) c.args.exponent c.args.delta
+    c.in_err-sum.field-0.0 v (ap (delta_base f) (sym c.previous.ensures) ∙ sym c.in_ok-delta_base.ensures) out)

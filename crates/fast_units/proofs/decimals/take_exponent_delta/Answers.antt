@@ -31,7 +31,9 @@ returns-in-Ok-clause-unit c scratch =
     let exponent_fits : FitsSigned w32 c.in-Ok.exponent = search rules in
     let (some, within, t) = c.in-Whole-Some-default.ensures.unit in
     let step : exponent_step f p c.in-Whole-Some-default.delta ≡ Ok c.in-Ok.exponent =
-    ap (exponent_step f p) (sym (again w128 c.in-Whole-Some-default.delta fits)) ∙ ap (λ q. exponent_step f q (to_z w128 (of_z w128 c.in-Whole-Some-default.delta))) (sym c.previous.ensures) ∙ sym c.exponent_delta.ensures ∙ c.in-Ok.is in (
+    ap (exponent_step f p) (sym (again w128 c.in-Whole-Some-default.delta fits))
+    ∙ ap (λ q. exponent_step f q (to_z w128 (of_z w128 c.in-Whole-Some-default.delta))) (sym c.previous.ensures)
+    ∙ sym c.exponent_delta.ensures ∙ c.in-Ok.is in (
       some,
       within,
       refl,
@@ -39,8 +41,12 @@ returns-in-Ok-clause-unit c scratch =
       turns_as refl (sym (ap (λ x. reader_of c.args.limits.strict (decimal_change f p x)) c.in-Whole-Some-default.field-0-is
           ∙ ap (reader_of c.args.limits.strict) (exponent-delta-turn (bounds c.args.limits) f p c.in-Whole-Some-default.delta)
           ∙ ap (λ d. reader_of c.args.limits.strict (of_result d >>= (λ e. stage_term (bounds c.args.limits) f p (behind_exponent_delta e)))) step
-          ∙ ap (λ e. reader_of c.args.limits.strict (stage_term (bounds c.args.limits) f p (behind_exponent_delta e))) (sym (again w32 c.in-Ok.exponent exponent_fits))))
-          (unit_goes c.args.limits.strict (integer delta_range f.optional D2 give) (decimal_change f p) (reader_of c.args.limits.strict (field_term (bounds c.args.limits) f p true)) (ap (reader_of c.args.limits.strict) (exponent_delta_field (bounds c.args.limits) f p c.requires.decimals c.requires.delta)) (c.args.pending.now.bytes ++ take c.in-Whole-Some-default.bytes c.args.rest.now) c.in-Whole-Some-default.field-0 t),
+          ∙ ap (λ e. reader_of c.args.limits.strict (stage_term (bounds c.args.limits) f p (behind_exponent_delta e)))
+          (sym (again w32 c.in-Ok.exponent exponent_fits))))
+          (unit_goes c.args.limits.strict (integer delta_range f.optional D2 give) (decimal_change f p)
+          (reader_of c.args.limits.strict (field_term (bounds c.args.limits) f p true))
+          (ap (reader_of c.args.limits.strict) (exponent_delta_field (bounds c.args.limits) f p c.requires.decimals c.requires.delta))
+          (c.args.pending.now.bytes ++ take c.in-Whole-Some-default.bytes c.args.rest.now) c.in-Whole-Some-default.field-0 t),
     )
 
 pub returns-in-Err-clause-unit : goal.returns-in-Err-clause-unit
@@ -51,13 +57,18 @@ returns-in-Err-clause-unit c scratch =
     let fits : FitsSigned w128 c.in-Whole-Some-default.delta = search rules in
     let (some, within, t) = c.in-Whole-Some-default.ensures.unit in
     let step : exponent_step f p c.in-Whole-Some-default.delta ≡ Err c.in-Err.code =
-    ap (exponent_step f p) (sym (again w128 c.in-Whole-Some-default.delta fits)) ∙ ap (λ q. exponent_step f q (to_z w128 (of_z w128 c.in-Whole-Some-default.delta))) (sym c.previous.ensures) ∙ sym c.exponent_delta.ensures ∙ c.in-Err.is in (
+    ap (exponent_step f p) (sym (again w128 c.in-Whole-Some-default.delta fits))
+    ∙ ap (λ q. exponent_step f q (to_z w128 (of_z w128 c.in-Whole-Some-default.delta))) (sym c.previous.ensures)
+    ∙ sym c.exponent_delta.ensures ∙ c.in-Err.is in (
       some,
       within,
       turns_as refl (sym (ap (λ x. reader_of c.args.limits.strict (decimal_change f p x)) c.in-Whole-Some-default.field-0-is
           ∙ ap (reader_of c.args.limits.strict) (exponent-delta-turn (bounds c.args.limits) f p c.in-Whole-Some-default.delta)
           ∙ ap (λ d. reader_of c.args.limits.strict (of_result d >>= (λ e. stage_term (bounds c.args.limits) f p (behind_exponent_delta e)))) step))
-          (unit_goes c.args.limits.strict (integer delta_range f.optional D2 give) (decimal_change f p) (reader_of c.args.limits.strict (field_term (bounds c.args.limits) f p true)) (ap (reader_of c.args.limits.strict) (exponent_delta_field (bounds c.args.limits) f p c.requires.decimals c.requires.delta)) (c.args.pending.now.bytes ++ take c.in-Whole-Some-default.bytes c.args.rest.now) c.in-Whole-Some-default.field-0 t),
+          (unit_goes c.args.limits.strict (integer delta_range f.optional D2 give) (decimal_change f p)
+          (reader_of c.args.limits.strict (field_term (bounds c.args.limits) f p true))
+          (ap (reader_of c.args.limits.strict) (exponent_delta_field (bounds c.args.limits) f p c.requires.decimals c.requires.delta))
+          (c.args.pending.now.bytes ++ take c.in-Whole-Some-default.bytes c.args.rest.now) c.in-Whole-Some-default.field-0 t),
     )
 
 pub returns-in-Whole-None-default-clause-unit : goal.returns-in-Whole-None-default-clause-unit
@@ -65,7 +76,9 @@ returns-in-Whole-None-default-clause-unit c scratch =
     let f = field_data c.args.field.now in
     let old = slots_dictionary c.args.slots.now in
     let p = previous_at f.entry old in
-    last_unit c.args.limits.strict (integer delta_range f.optional D2 give) (decimal_change f p) (reader_of c.args.limits.strict (field_term (bounds c.args.limits) f p true)) (ap (reader_of c.args.limits.strict) (exponent_delta_field (bounds c.args.limits) f p c.requires.decimals c.requires.delta))
+    last_unit c.args.limits.strict (integer delta_range f.optional D2 give) (decimal_change f p)
+    (reader_of c.args.limits.strict (field_term (bounds c.args.limits) f p true))
+    (ap (reader_of c.args.limits.strict) (exponent_delta_field (bounds c.args.limits) f p c.requires.decimals c.requires.delta))
     f c.args.pending.now.bytes c.args.rest.now old old scratch c.in-Whole-None-default.field-0 c.in-Whole-None-default.bytes
     (gives_none p) (Ok From.Absent)
     (ap (decimal_change f p) c.in-Whole-None-default.field-0-is)
@@ -76,18 +89,30 @@ returns-in-Wrong-clause-unit c scratch =
     let f = field_data c.args.field.now in
     let old = slots_dictionary c.args.slots.now in
     let p = previous_at f.entry old in
-    let (some, within, t) = c.in-Wrong.ensures.unit in
-    (some, within, unit_stops c.args.limits.strict (integer delta_range f.optional D2 give) (decimal_change f p) (reader_of c.args.limits.strict (field_term (bounds c.args.limits) f p true)) (ap (reader_of c.args.limits.strict) (exponent_delta_field (bounds c.args.limits) f p c.requires.decimals c.requires.delta)) (c.args.pending.now.bytes ++ take c.in-Wrong.bytes c.args.rest.now) c.in-Wrong.code t)
+    let (some, within, t) = c.in-Wrong.ensures.unit in (
+      some,
+      within,
+      unit_stops c.args.limits.strict (integer delta_range f.optional D2 give) (decimal_change f p)
+          (reader_of c.args.limits.strict (field_term (bounds c.args.limits) f p true))
+          (ap (reader_of c.args.limits.strict) (exponent_delta_field (bounds c.args.limits) f p c.requires.decimals c.requires.delta))
+          (c.args.pending.now.bytes ++ take c.in-Wrong.bytes c.args.rest.now) c.in-Wrong.code t,
+    )
 
 pub returns-in-Cut-clause-unit : goal.returns-in-Cut-clause-unit
 returns-in-Cut-clause-unit c scratch =
     let f = field_data c.args.field.now in
     let old = slots_dictionary c.args.slots.now in
-    let p = previous_at f.entry old in
-    (unit_stays c.args.limits.strict (integer delta_range f.optional D2 give) (decimal_change f p) (reader_of c.args.limits.strict (field_term (bounds c.args.limits) f p true)) (ap (reader_of c.args.limits.strict) (exponent_delta_field (bounds c.args.limits) f p c.requires.decimals c.requires.delta)) (c.args.pending.now.bytes ++ c.args.rest.now) c.in-Cut.ensures.unit, refl)
+    let p = previous_at f.entry old in (
+      unit_stays c.args.limits.strict (integer delta_range f.optional D2 give) (decimal_change f p)
+          (reader_of c.args.limits.strict (field_term (bounds c.args.limits) f p true))
+          (ap (reader_of c.args.limits.strict) (exponent_delta_field (bounds c.args.limits) f p c.requires.decimals c.requires.delta))
+          (c.args.pending.now.bytes ++ c.args.rest.now) c.in-Cut.ensures.unit,
+      refl,
+    )
 
 pub returns-in-Wrong-clause-whole : goal.returns-in-Wrong-clause-whole
-returns-in-Wrong-clause-whole c step n e = answered_more {T = FieldStep} (λ s. c.next_integer.new.pending.bytes ≡ []) (Err c.in-Wrong.code) c.in-Wrong.bytes tt step n e
+returns-in-Wrong-clause-whole c step n e = answered_more {T = FieldStep} (λ s. c.next_integer.new.pending.bytes ≡ [])
+    (Err c.in-Wrong.code) c.in-Wrong.bytes tt step n e
 
 pub returns-in-Wrong-clause-cut : goal.returns-in-Wrong-clause-cut
 returns-in-Wrong-clause-cut c e = absurd (answered_whole {T = FieldStep} (Err c.in-Wrong.code) c.in-Wrong.bytes e)

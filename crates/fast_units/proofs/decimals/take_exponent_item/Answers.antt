@@ -25,7 +25,8 @@ pub exponent-requires-clause-low : goal.exponent-requires-clause-low
 exponent-requires-clause-low c =
     let fits : FitsSigned w128 c.in-Whole-Some-default.integer = search rules in
     let inside : IsWithin exponent_range c.in-Whole-Some-default.integer =
-    number_within c.args.limits.strict exponent_range (range_data c.range_on_wire-range.result) c.args.field.now.optional R1 _ c.in-Whole-Some-default.field-0 c.in-Whole-Some-default.integer
+    number_within c.args.limits.strict exponent_range (range_data c.range_on_wire-range.result) c.args.field.now.optional R1 _
+    c.in-Whole-Some-default.field-0 c.in-Whole-Some-default.integer
     (c.range_on_wire-range.ensures ∙ ap range_in c.requires.decimals) c.in-Whole-Some-default.field-0-is c.in-Whole-Some-default.ensures.unit.2 in
     subst (λ x. neg_ℤ (pos 63) ≤ℤ x) (sym (again w128 c.in-Whole-Some-default.integer fits)) inside.0
 
@@ -33,7 +34,8 @@ pub exponent-requires-clause-high : goal.exponent-requires-clause-high
 exponent-requires-clause-high c =
     let fits : FitsSigned w128 c.in-Whole-Some-default.integer = search rules in
     let inside : IsWithin exponent_range c.in-Whole-Some-default.integer =
-    number_within c.args.limits.strict exponent_range (range_data c.range_on_wire-range.result) c.args.field.now.optional R1 _ c.in-Whole-Some-default.field-0 c.in-Whole-Some-default.integer
+    number_within c.args.limits.strict exponent_range (range_data c.range_on_wire-range.result) c.args.field.now.optional R1 _
+    c.in-Whole-Some-default.field-0 c.in-Whole-Some-default.integer
     (c.range_on_wire-range.ensures ∙ ap range_in c.requires.decimals) c.in-Whole-Some-default.field-0-is c.in-Whole-Some-default.ensures.unit.2 in
     subst (λ x. x ≤ℤ pos 63) (sym (again w128 c.in-Whole-Some-default.integer fits)) inside.1
 
@@ -50,10 +52,17 @@ returns-in-Whole-Some-default-clause-unit c scratch =
       refl,
       (c.requires.decimals, c.requires.no_delta, c.requires.no_constant),
       turns_as refl (sym (ap (λ x. reader_of c.args.limits.strict (mantissa_next (bounds c.args.limits) f p x)) c.in-Whole-Some-default.field-0-is
-          ∙ ap (λ e. reader_of c.args.limits.strict (mantissa_next (bounds c.args.limits) f p (Some e))) (sym (c.exponent.ensures ∙ again w128 c.in-Whole-Some-default.integer fits))
+          ∙ ap (λ e. reader_of c.args.limits.strict (mantissa_next (bounds c.args.limits) f p (Some e)))
+          (sym (c.exponent.ensures ∙ again w128 c.in-Whole-Some-default.integer fits))
           ∙ ap (reader_of c.args.limits.strict) (exponent-turn (bounds c.args.limits) f p c.exponent.result)
-          ∙ ap (λ e. reader_of c.args.limits.strict (stage_term (bounds c.args.limits) f p (behind_exponent e))) (sym (again w32 c.exponent.result exponent_fits))))
-          (unit_goes c.args.limits.strict (integer (range_data c.range_on_wire-range.result) f.optional R1 give) (mantissa_next (bounds c.args.limits) f p) (reader_of c.args.limits.strict (field_term (bounds c.args.limits) f p true)) (exponent_here c.args.limits.strict (bounds c.args.limits) f p (range_data c.range_on_wire-range.result) c.range_on_wire-range.ensures c.requires.decimals c.requires.no_delta c.requires.no_constant) (c.args.pending.now.bytes ++ take c.in-Whole-Some-default.bytes c.args.rest.now) c.in-Whole-Some-default.field-0 t),
+          ∙ ap (λ e. reader_of c.args.limits.strict (stage_term (bounds c.args.limits) f p (behind_exponent e)))
+          (sym (again w32 c.exponent.result exponent_fits))))
+          (unit_goes c.args.limits.strict (integer (range_data c.range_on_wire-range.result) f.optional R1 give)
+          (mantissa_next (bounds c.args.limits) f p) (reader_of c.args.limits.strict (field_term (bounds c.args.limits) f p true))
+          (exponent_here c.args.limits.strict (bounds c.args.limits) f p
+          (range_data c.range_on_wire-range.result) c.range_on_wire-range.ensures c.requires.decimals c.requires.no_delta
+          c.requires.no_constant) (c.args.pending.now.bytes ++ take c.in-Whole-Some-default.bytes c.args.rest.now)
+          c.in-Whole-Some-default.field-0 t),
     )
 
 pub returns-in-Whole-None-default-clause-unit : goal.returns-in-Whole-None-default-clause-unit
@@ -61,7 +70,11 @@ returns-in-Whole-None-default-clause-unit c scratch =
     let f = field_data c.args.field.now in
     let old = slots_dictionary c.args.slots.now in
     let p = previous_at f.entry old in
-    last_unit c.args.limits.strict (integer (range_data c.range_on_wire-range.result) f.optional R1 give) (mantissa_next (bounds c.args.limits) f p) (reader_of c.args.limits.strict (field_term (bounds c.args.limits) f p true)) (exponent_here c.args.limits.strict (bounds c.args.limits) f p (range_data c.range_on_wire-range.result) c.range_on_wire-range.ensures c.requires.decimals c.requires.no_delta c.requires.no_constant)
+    last_unit c.args.limits.strict (integer (range_data c.range_on_wire-range.result) f.optional R1 give)
+    (mantissa_next (bounds c.args.limits) f p) (reader_of c.args.limits.strict (field_term (bounds c.args.limits) f p true))
+    (exponent_here c.args.limits.strict (bounds c.args.limits) f p
+    (range_data c.range_on_wire-range.result) c.range_on_wire-range.ensures c.requires.decimals c.requires.no_delta
+    c.requires.no_constant)
     f c.args.pending.now.bytes c.args.rest.now old (slots_dictionary c.received.new.slots) scratch c.in-Whole-None-default.field-0 c.in-Whole-None-default.bytes
     (decide f p true null) (Ok c.received.result)
     (ap (mantissa_next (bounds c.args.limits) f p) c.in-Whole-None-default.field-0-is)
@@ -72,18 +85,32 @@ returns-in-Wrong-clause-unit c scratch =
     let f = field_data c.args.field.now in
     let old = slots_dictionary c.args.slots.now in
     let p = previous_at f.entry old in
-    let (some, within, t) = c.in-Wrong.ensures.unit in
-    (some, within, unit_stops c.args.limits.strict (integer (range_data c.range_on_wire-range.result) f.optional R1 give) (mantissa_next (bounds c.args.limits) f p) (reader_of c.args.limits.strict (field_term (bounds c.args.limits) f p true)) (exponent_here c.args.limits.strict (bounds c.args.limits) f p (range_data c.range_on_wire-range.result) c.range_on_wire-range.ensures c.requires.decimals c.requires.no_delta c.requires.no_constant) (c.args.pending.now.bytes ++ take c.in-Wrong.bytes c.args.rest.now) c.in-Wrong.code t)
+    let (some, within, t) = c.in-Wrong.ensures.unit in (
+      some,
+      within,
+      unit_stops c.args.limits.strict (integer (range_data c.range_on_wire-range.result) f.optional R1 give)
+          (mantissa_next (bounds c.args.limits) f p) (reader_of c.args.limits.strict (field_term (bounds c.args.limits) f p true))
+          (exponent_here c.args.limits.strict (bounds c.args.limits) f p
+          (range_data c.range_on_wire-range.result) c.range_on_wire-range.ensures c.requires.decimals c.requires.no_delta
+          c.requires.no_constant) (c.args.pending.now.bytes ++ take c.in-Wrong.bytes c.args.rest.now) c.in-Wrong.code t,
+    )
 
 pub returns-in-Cut-clause-unit : goal.returns-in-Cut-clause-unit
 returns-in-Cut-clause-unit c scratch =
     let f = field_data c.args.field.now in
     let old = slots_dictionary c.args.slots.now in
-    let p = previous_at f.entry old in
-    (unit_stays c.args.limits.strict (integer (range_data c.range_on_wire-range.result) f.optional R1 give) (mantissa_next (bounds c.args.limits) f p) (reader_of c.args.limits.strict (field_term (bounds c.args.limits) f p true)) (exponent_here c.args.limits.strict (bounds c.args.limits) f p (range_data c.range_on_wire-range.result) c.range_on_wire-range.ensures c.requires.decimals c.requires.no_delta c.requires.no_constant) (c.args.pending.now.bytes ++ c.args.rest.now) c.in-Cut.ensures.unit, refl)
+    let p = previous_at f.entry old in (
+      unit_stays c.args.limits.strict (integer (range_data c.range_on_wire-range.result) f.optional R1 give)
+          (mantissa_next (bounds c.args.limits) f p) (reader_of c.args.limits.strict (field_term (bounds c.args.limits) f p true))
+          (exponent_here c.args.limits.strict (bounds c.args.limits) f p
+          (range_data c.range_on_wire-range.result) c.range_on_wire-range.ensures c.requires.decimals c.requires.no_delta
+          c.requires.no_constant) (c.args.pending.now.bytes ++ c.args.rest.now) c.in-Cut.ensures.unit,
+      refl,
+    )
 
 pub returns-in-Wrong-clause-whole : goal.returns-in-Wrong-clause-whole
-returns-in-Wrong-clause-whole c step n e = answered_more {T = FieldStep} (λ s. c.next_integer.new.pending.bytes ≡ []) (Err c.in-Wrong.code) c.in-Wrong.bytes tt step n e
+returns-in-Wrong-clause-whole c step n e = answered_more {T = FieldStep} (λ s. c.next_integer.new.pending.bytes ≡ [])
+    (Err c.in-Wrong.code) c.in-Wrong.bytes tt step n e
 
 pub returns-in-Wrong-clause-cut : goal.returns-in-Wrong-clause-cut
 returns-in-Wrong-clause-cut c e = absurd (answered_whole {T = FieldStep} (Err c.in-Wrong.code) c.in-Wrong.bytes e)

@@ -24,14 +24,16 @@ pub decimal-number-requires-clause-low : goal.decimal-number-requires-clause-low
 decimal-number-requires-clause-low c =
     let fits : FitsSigned w128 c.in-Whole-Some-default.mantissa = search rules in
     let inside : IsWithin (signed_range 63) c.in-Whole-Some-default.mantissa =
-    number_within c.args.limits.strict (signed_range 63) (signed_range 63) false R1 _ c.in-Whole-Some-default.field-0 c.in-Whole-Some-default.mantissa refl c.in-Whole-Some-default.field-0-is c.in-Whole-Some-default.ensures.unit.2 in
+    number_within c.args.limits.strict (signed_range 63) (signed_range 63) false R1 _ c.in-Whole-Some-default.field-0
+    c.in-Whole-Some-default.mantissa refl c.in-Whole-Some-default.field-0-is c.in-Whole-Some-default.ensures.unit.2 in
     subst (λ x. (signed_range 63).low ≤ℤ x) (sym (again w128 c.in-Whole-Some-default.mantissa fits)) inside.0
 
 pub decimal-number-requires-clause-high : goal.decimal-number-requires-clause-high
 decimal-number-requires-clause-high c =
     let fits : FitsSigned w128 c.in-Whole-Some-default.mantissa = search rules in
     let inside : IsWithin (signed_range 63) c.in-Whole-Some-default.mantissa =
-    number_within c.args.limits.strict (signed_range 63) (signed_range 63) false R1 _ c.in-Whole-Some-default.field-0 c.in-Whole-Some-default.mantissa refl c.in-Whole-Some-default.field-0-is c.in-Whole-Some-default.ensures.unit.2 in
+    number_within c.args.limits.strict (signed_range 63) (signed_range 63) false R1 _ c.in-Whole-Some-default.field-0
+    c.in-Whole-Some-default.mantissa refl c.in-Whole-Some-default.field-0-is c.in-Whole-Some-default.ensures.unit.2 in
     subst (λ x. x ≤ℤ (signed_range 63).high) (sym (again w128 c.in-Whole-Some-default.mantissa fits)) inside.1
 
 pub returns-in-Whole-Some-default-clause-unit : goal.returns-in-Whole-Some-default-clause-unit
@@ -41,12 +43,15 @@ returns-in-Whole-Some-default-clause-unit c scratch =
     let p = previous_at f.entry old in
     let fits : FitsSigned w128 c.in-Whole-Some-default.mantissa = search rules in
     let exponent_fits : FitsSigned w32 c.args.exponent = search rules in
-    last_unit c.args.limits.strict (integer (signed_range 63) false R1 give) (behind_mantissa (bounds c.args.limits) f p c.args.exponent) (reader_of c.args.limits.strict (term_behind (bounds c.args.limits) f p (Mantissa c.args.exponent))) (ap (reader_of c.args.limits.strict) (mantissa_field (bounds c.args.limits) f p c.args.exponent))
+    last_unit c.args.limits.strict (integer (signed_range 63) false R1 give) (behind_mantissa (bounds c.args.limits) f p c.args.exponent)
+    (reader_of c.args.limits.strict (term_behind (bounds c.args.limits) f p (Mantissa c.args.exponent)))
+    (ap (reader_of c.args.limits.strict) (mantissa_field (bounds c.args.limits) f p c.args.exponent))
     f c.args.pending.now.bytes c.args.rest.now old (slots_dictionary c.received.new.slots) scratch c.in-Whole-Some-default.field-0 c.in-Whole-Some-default.bytes
     (decide f p true (sent_number (Some c.decimal-number.result))) (Ok c.received.result)
     (ap (behind_mantissa (bounds c.args.limits) f p c.args.exponent) c.in-Whole-Some-default.field-0-is
     ∙ ap (λ x. of_result (decide f p true (value (Dec c.args.exponent x)))) (sym (again w128 c.in-Whole-Some-default.mantissa fits))
-    ∙ ap (λ e. of_result (decide f p true (value (Dec e (to_z w128 (of_z w128 c.in-Whole-Some-default.mantissa)))))) (sym (again w32 c.args.exponent exponent_fits))
+    ∙ ap (λ e. of_result (decide f p true (value (Dec e (to_z w128 (of_z w128 c.in-Whole-Some-default.mantissa))))))
+    (sym (again w32 c.args.exponent exponent_fits))
     ∙ ap (λ v. of_result (decide f p true (value v))) (sym c.decimal-number.ensures))
     c.received.ensures.decided c.in-Whole-Some-default.ensures.unit
 
@@ -55,8 +60,11 @@ returns-in-Whole-None-default-clause-unit c scratch =
     let f = field_data c.args.field.now in
     let old = slots_dictionary c.args.slots.now in
     let p = previous_at f.entry old in
-    last_unit c.args.limits.strict (integer (signed_range 63) false R1 give) (behind_mantissa (bounds c.args.limits) f p c.args.exponent) (reader_of c.args.limits.strict (term_behind (bounds c.args.limits) f p (Mantissa c.args.exponent))) (ap (reader_of c.args.limits.strict) (mantissa_field (bounds c.args.limits) f p c.args.exponent))
-    f c.args.pending.now.bytes c.args.rest.now old (slots_dictionary c.received-in-Whole-None-default.new.slots) scratch c.in-Whole-None-default.field-0 c.in-Whole-None-default.bytes
+    last_unit c.args.limits.strict (integer (signed_range 63) false R1 give) (behind_mantissa (bounds c.args.limits) f p c.args.exponent)
+    (reader_of c.args.limits.strict (term_behind (bounds c.args.limits) f p (Mantissa c.args.exponent)))
+    (ap (reader_of c.args.limits.strict) (mantissa_field (bounds c.args.limits) f p c.args.exponent))
+    f c.args.pending.now.bytes c.args.rest.now old (slots_dictionary c.received-in-Whole-None-default.new.slots) scratch
+    c.in-Whole-None-default.field-0 c.in-Whole-None-default.bytes
     (decide f p true null) (Ok c.received-in-Whole-None-default.result)
     (ap (behind_mantissa (bounds c.args.limits) f p c.args.exponent) c.in-Whole-None-default.field-0-is)
     c.received-in-Whole-None-default.ensures.decided c.in-Whole-None-default.ensures.unit
@@ -65,17 +73,30 @@ pub returns-in-Wrong-clause-unit : goal.returns-in-Wrong-clause-unit
 returns-in-Wrong-clause-unit c scratch =
     let f = field_data c.args.field.now in
     let p = previous_at f.entry (slots_dictionary c.args.slots.now) in
-    let (some, within, t) = c.in-Wrong.ensures.unit in
-    (some, within, unit_stops c.args.limits.strict (integer (signed_range 63) false R1 give) (behind_mantissa (bounds c.args.limits) f p c.args.exponent) (reader_of c.args.limits.strict (term_behind (bounds c.args.limits) f p (Mantissa c.args.exponent))) (ap (reader_of c.args.limits.strict) (mantissa_field (bounds c.args.limits) f p c.args.exponent)) (c.args.pending.now.bytes ++ take c.in-Wrong.bytes c.args.rest.now) c.in-Wrong.code t)
+    let (some, within, t) = c.in-Wrong.ensures.unit in (
+      some,
+      within,
+      unit_stops c.args.limits.strict (integer (signed_range 63) false R1 give)
+          (behind_mantissa (bounds c.args.limits) f p c.args.exponent)
+          (reader_of c.args.limits.strict (term_behind (bounds c.args.limits) f p (Mantissa c.args.exponent)))
+          (ap (reader_of c.args.limits.strict) (mantissa_field (bounds c.args.limits) f p c.args.exponent))
+          (c.args.pending.now.bytes ++ take c.in-Wrong.bytes c.args.rest.now) c.in-Wrong.code t,
+    )
 
 pub returns-in-Cut-clause-unit : goal.returns-in-Cut-clause-unit
 returns-in-Cut-clause-unit c scratch =
     let f = field_data c.args.field.now in
-    let p = previous_at f.entry (slots_dictionary c.args.slots.now) in
-    (unit_stays c.args.limits.strict (integer (signed_range 63) false R1 give) (behind_mantissa (bounds c.args.limits) f p c.args.exponent) (reader_of c.args.limits.strict (term_behind (bounds c.args.limits) f p (Mantissa c.args.exponent))) (ap (reader_of c.args.limits.strict) (mantissa_field (bounds c.args.limits) f p c.args.exponent)) (c.args.pending.now.bytes ++ c.args.rest.now) c.in-Cut.ensures.unit, refl)
+    let p = previous_at f.entry (slots_dictionary c.args.slots.now) in (
+      unit_stays c.args.limits.strict (integer (signed_range 63) false R1 give) (behind_mantissa (bounds c.args.limits) f p c.args.exponent)
+          (reader_of c.args.limits.strict (term_behind (bounds c.args.limits) f p (Mantissa c.args.exponent)))
+          (ap (reader_of c.args.limits.strict) (mantissa_field (bounds c.args.limits) f p c.args.exponent))
+          (c.args.pending.now.bytes ++ c.args.rest.now) c.in-Cut.ensures.unit,
+      refl,
+    )
 
 pub returns-in-Wrong-clause-whole : goal.returns-in-Wrong-clause-whole
-returns-in-Wrong-clause-whole c source n e = answered_more {T = ValueSource} (λ s. c.next_integer.new.pending.bytes ≡ []) (Err c.in-Wrong.code) c.in-Wrong.bytes tt source n e
+returns-in-Wrong-clause-whole c source n e = answered_more {T = ValueSource} (λ s. c.next_integer.new.pending.bytes ≡ [])
+    (Err c.in-Wrong.code) c.in-Wrong.bytes tt source n e
 
 pub returns-in-Wrong-clause-cut : goal.returns-in-Wrong-clause-cut
 returns-in-Wrong-clause-cut c e = absurd (answered_whole {T = ValueSource} (Err c.in-Wrong.code) c.in-Wrong.bytes e)
@@ -96,10 +117,12 @@ pub returns-in-Whole-None-default-clause-cut : goal.returns-in-Whole-None-defaul
 returns-in-Whole-None-default-clause-cut c e = absurd (answered_whole (Ok _) c.in-Whole-None-default.bytes e)
 
 pub returns-in-Whole-None-default-clause-whole : goal.returns-in-Whole-None-default-clause-whole
-returns-in-Whole-None-default-clause-whole c source n e = c.in-Whole-None-default.ensures.whole c.in-Whole-None-default.field-0 c.in-Whole-None-default.bytes refl
+returns-in-Whole-None-default-clause-whole c source n e =
+    c.in-Whole-None-default.ensures.whole c.in-Whole-None-default.field-0 c.in-Whole-None-default.bytes refl
 
 pub returns-in-Whole-Some-default-clause-whole : goal.returns-in-Whole-Some-default-clause-whole
-returns-in-Whole-Some-default-clause-whole c source n e = c.in-Whole-Some-default.ensures.whole c.in-Whole-Some-default.field-0 c.in-Whole-Some-default.bytes refl
+returns-in-Whole-Some-default-clause-whole c source n e =
+    c.in-Whole-Some-default.ensures.whole c.in-Whole-Some-default.field-0 c.in-Whole-Some-default.bytes refl
 
 pub returns-in-Whole-Some-default-clause-cut : goal.returns-in-Whole-Some-default-clause-cut
 returns-in-Whole-Some-default-clause-cut c e = absurd (answered_whole (Ok _) c.in-Whole-Some-default.bytes e)

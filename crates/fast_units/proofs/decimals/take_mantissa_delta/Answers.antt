@@ -30,13 +30,20 @@ returns-in-Whole-Some-default-clause-unit c scratch =
     let p = previous_at f.entry old in
     let fits : FitsSigned w128 c.in-Whole-Some-default.delta = search rules in
     let exponent_fits : FitsSigned w32 c.args.exponent = search rules in
-    subst (λ q. IsLastUnit (reader_of c.args.limits.strict (term_behind (bounds c.args.limits) f p (MantissaDelta c.args.exponent))) f c.args.pending.now.bytes c.args.rest.now old (slots_dictionary c.change_mantissa.new.slots) scratch q) (sym c.settled.ensures)
-    (last_unit c.args.limits.strict (integer delta_range false D2 give) (mantissa_change f p c.args.exponent) (reader_of c.args.limits.strict (term_behind (bounds c.args.limits) f p (MantissaDelta c.args.exponent))) (ap (reader_of c.args.limits.strict) (mantissa_delta_field (bounds c.args.limits) f p c.args.exponent))
-    f c.args.pending.now.bytes c.args.rest.now old (slots_dictionary c.change_mantissa.new.slots) scratch c.in-Whole-Some-default.field-0 c.in-Whole-Some-default.bytes
+    subst (λ q. IsLastUnit (reader_of c.args.limits.strict (term_behind (bounds c.args.limits) f p (MantissaDelta c.args.exponent))) f
+    c.args.pending.now.bytes c.args.rest.now old (slots_dictionary c.change_mantissa.new.slots) scratch q) (sym c.settled.ensures)
+    (last_unit c.args.limits.strict (integer delta_range false D2 give) (mantissa_change f p c.args.exponent)
+    (reader_of c.args.limits.strict (term_behind (bounds c.args.limits) f p (MantissaDelta c.args.exponent)))
+    (ap (reader_of c.args.limits.strict) (mantissa_delta_field (bounds c.args.limits) f p c.args.exponent))
+    f c.args.pending.now.bytes c.args.rest.now old (slots_dictionary c.change_mantissa.new.slots) scratch c.in-Whole-Some-default.field-0
+    c.in-Whole-Some-default.bytes
     (mantissa_step f p c.args.exponent c.in-Whole-Some-default.delta) c.change_mantissa.result
     (ap (mantissa_change f p c.args.exponent) c.in-Whole-Some-default.field-0-is)
-    (subst (λ e. IsDecided (mantissa_step f p e c.in-Whole-Some-default.delta) f old (slots_dictionary c.change_mantissa.new.slots) c.change_mantissa.result) (again w32 c.args.exponent exponent_fits)
-    (subst (λ d. IsDecided (mantissa_step f p (to_z w32 (of_z w32 c.args.exponent)) d) f old (slots_dictionary c.change_mantissa.new.slots) c.change_mantissa.result) (again w128 c.in-Whole-Some-default.delta fits) c.change_mantissa.ensures.decided))
+    (subst (λ e. IsDecided (mantissa_step f p e c.in-Whole-Some-default.delta) f old
+    (slots_dictionary c.change_mantissa.new.slots) c.change_mantissa.result) (again w32 c.args.exponent exponent_fits)
+    (subst (λ d. IsDecided (mantissa_step f p (to_z w32 (of_z w32 c.args.exponent)) d) f old
+    (slots_dictionary c.change_mantissa.new.slots) c.change_mantissa.result)
+    (again w128 c.in-Whole-Some-default.delta fits) c.change_mantissa.ensures.decided))
     c.in-Whole-Some-default.ensures.unit)
 
 pub returns-in-Whole-None-default-clause-unit : goal.returns-in-Whole-None-default-clause-unit
@@ -44,7 +51,9 @@ returns-in-Whole-None-default-clause-unit c scratch =
     let f = field_data c.args.field.now in
     let old = slots_dictionary c.args.slots.now in
     let p = previous_at f.entry old in
-    last_unit c.args.limits.strict (integer delta_range false D2 give) (mantissa_change f p c.args.exponent) (reader_of c.args.limits.strict (term_behind (bounds c.args.limits) f p (MantissaDelta c.args.exponent))) (ap (reader_of c.args.limits.strict) (mantissa_delta_field (bounds c.args.limits) f p c.args.exponent))
+    last_unit c.args.limits.strict (integer delta_range false D2 give) (mantissa_change f p c.args.exponent)
+    (reader_of c.args.limits.strict (term_behind (bounds c.args.limits) f p (MantissaDelta c.args.exponent)))
+    (ap (reader_of c.args.limits.strict) (mantissa_delta_field (bounds c.args.limits) f p c.args.exponent))
     f c.args.pending.now.bytes c.args.rest.now old old scratch c.in-Whole-None-default.field-0 c.in-Whole-None-default.bytes
     (gives_none p) (Ok From.Absent)
     (ap (mantissa_change f p c.args.exponent) c.in-Whole-None-default.field-0-is)
@@ -54,17 +63,29 @@ pub returns-in-Wrong-clause-unit : goal.returns-in-Wrong-clause-unit
 returns-in-Wrong-clause-unit c scratch =
     let f = field_data c.args.field.now in
     let p = previous_at f.entry (slots_dictionary c.args.slots.now) in
-    let (some, within, t) = c.in-Wrong.ensures.unit in
-    (some, within, unit_stops c.args.limits.strict (integer delta_range false D2 give) (mantissa_change f p c.args.exponent) (reader_of c.args.limits.strict (term_behind (bounds c.args.limits) f p (MantissaDelta c.args.exponent))) (ap (reader_of c.args.limits.strict) (mantissa_delta_field (bounds c.args.limits) f p c.args.exponent)) (c.args.pending.now.bytes ++ take c.in-Wrong.bytes c.args.rest.now) c.in-Wrong.code t)
+    let (some, within, t) = c.in-Wrong.ensures.unit in (
+      some,
+      within,
+      unit_stops c.args.limits.strict (integer delta_range false D2 give) (mantissa_change f p c.args.exponent)
+          (reader_of c.args.limits.strict (term_behind (bounds c.args.limits) f p (MantissaDelta c.args.exponent)))
+          (ap (reader_of c.args.limits.strict) (mantissa_delta_field (bounds c.args.limits) f p c.args.exponent))
+          (c.args.pending.now.bytes ++ take c.in-Wrong.bytes c.args.rest.now) c.in-Wrong.code t,
+    )
 
 pub returns-in-Cut-clause-unit : goal.returns-in-Cut-clause-unit
 returns-in-Cut-clause-unit c scratch =
     let f = field_data c.args.field.now in
-    let p = previous_at f.entry (slots_dictionary c.args.slots.now) in
-    (unit_stays c.args.limits.strict (integer delta_range false D2 give) (mantissa_change f p c.args.exponent) (reader_of c.args.limits.strict (term_behind (bounds c.args.limits) f p (MantissaDelta c.args.exponent))) (ap (reader_of c.args.limits.strict) (mantissa_delta_field (bounds c.args.limits) f p c.args.exponent)) (c.args.pending.now.bytes ++ c.args.rest.now) c.in-Cut.ensures.unit, refl)
+    let p = previous_at f.entry (slots_dictionary c.args.slots.now) in (
+      unit_stays c.args.limits.strict (integer delta_range false D2 give) (mantissa_change f p c.args.exponent)
+          (reader_of c.args.limits.strict (term_behind (bounds c.args.limits) f p (MantissaDelta c.args.exponent)))
+          (ap (reader_of c.args.limits.strict) (mantissa_delta_field (bounds c.args.limits) f p c.args.exponent))
+          (c.args.pending.now.bytes ++ c.args.rest.now) c.in-Cut.ensures.unit,
+      refl,
+    )
 
 pub returns-in-Wrong-clause-whole : goal.returns-in-Wrong-clause-whole
-returns-in-Wrong-clause-whole c source n e = answered_more {T = ValueSource} (λ s. c.next_integer.new.pending.bytes ≡ []) (Err c.in-Wrong.code) c.in-Wrong.bytes tt source n e
+returns-in-Wrong-clause-whole c source n e = answered_more {T = ValueSource} (λ s. c.next_integer.new.pending.bytes ≡ [])
+    (Err c.in-Wrong.code) c.in-Wrong.bytes tt source n e
 
 pub returns-in-Wrong-clause-cut : goal.returns-in-Wrong-clause-cut
 returns-in-Wrong-clause-cut c e = absurd (answered_whole {T = ValueSource} (Err c.in-Wrong.code) c.in-Wrong.bytes e)
@@ -85,10 +106,12 @@ pub returns-in-Whole-None-default-clause-cut : goal.returns-in-Whole-None-defaul
 returns-in-Whole-None-default-clause-cut c e = absurd (answered_whole (Ok _) c.in-Whole-None-default.bytes e)
 
 pub returns-in-Whole-None-default-clause-whole : goal.returns-in-Whole-None-default-clause-whole
-returns-in-Whole-None-default-clause-whole c source n e = c.in-Whole-None-default.ensures.whole c.in-Whole-None-default.field-0 c.in-Whole-None-default.bytes refl
+returns-in-Whole-None-default-clause-whole c source n e =
+    c.in-Whole-None-default.ensures.whole c.in-Whole-None-default.field-0 c.in-Whole-None-default.bytes refl
 
 pub returns-in-Whole-Some-default-clause-whole : goal.returns-in-Whole-Some-default-clause-whole
-returns-in-Whole-Some-default-clause-whole c source n e = c.in-Whole-Some-default.ensures.whole c.in-Whole-Some-default.field-0 c.in-Whole-Some-default.bytes refl
+returns-in-Whole-Some-default-clause-whole c source n e =
+    c.in-Whole-Some-default.ensures.whole c.in-Whole-Some-default.field-0 c.in-Whole-Some-default.bytes refl
 
 pub change_mantissa-requires : goal.change_mantissa-requires
 change_mantissa-requires c = record { serves = c.requires.serves }

@@ -13,4 +13,5 @@ returns c =
     let kind = c.args.kind in
     let fits : FitsSigned w128 c.integer_of.result = search rules in
     let whole : to_z w128 (of_z w128 c.integer_of.result) ≡ c.integer_of.result = to_z-of_z fits in
-    c.of_integer.ensures ∙ ap (value_of_integer kind) (whole ∙ c.integer_of.ensures.value ∙ ap integer_of c.next_integer.ensures ∙ integer_again kind (incremented (range_of kind) (integer_of (scalar_data c.args.value))))
+    c.of_integer.ensures ∙ ap (value_of_integer kind) (whole ∙ c.integer_of.ensures.value ∙ ap integer_of c.next_integer.ensures
+    ∙ integer_again kind (incremented (range_of kind) (integer_of (scalar_data c.args.value))))

@@ -37,14 +37,17 @@ returns-clause-unit c limits slots =
     let whole : length text ≡ size = omega (arith, len, sum) in
     let bare : f.operator ≡ Op.None = search rules in
     let scratch : c.append.new.self.text ≡ text = c.append.ensures.text in
-    let checked : checked_text f.kind text ≡ Ok (value_of_text f.kind text) = rw (← scratch, ← c.as_slice.ensures) (c.is_text_of.ensures c.if-not-is_text_of.false) in
+    let checked : checked_text f.kind text ≡ Ok (value_of_text f.kind text) =
+    rw (← scratch, ← c.as_slice.ensures) (c.is_text_of.ensures c.if-not-is_text_of.false) in
     let no_delta : f.operator ≢ Op.Delta = λ e. let i : Op.None ≡ Op.Delta = sym bare ∙ e in absurd (cc i) in
     let no_constant : f.operator ≢ Op.Constant = λ e. let i : Op.None ≡ Op.Constant = sym bare ∙ e in absurd (cc i) in
     let here : reader_behind limits f d (Vector size) ≡ _ = ap (reader_of limits.strict) (vector_field l f p size) in (
       omega arith,
       within,
-      gives_unit f d d c.append.new.self.text piece From.Scratch limits.strict (raw size give) (λ v. behind_text l f p (Some v)) (reader_behind limits f d (Vector size)) text text (decide f p true (sent_text f.kind (Some text))) here
+      gives_unit f d d c.append.new.self.text piece From.Scratch limits.strict (raw size give) (λ v. behind_text l f p (Some v))
+          (reader_behind limits f d (Vector size)) text text (decide f p true (sent_text f.kind (Some text))) here
           (run_whole limits.strict size text whole) refl
           (decided_as f d d c.append.new.self.text piece (Ok From.Scratch) (decided_plain f p text c.requires.text no_constant no_delta (ap null_empties bare))
-          (text_given f d d c.append.new.self.text piece From.Scratch text (value_of_text f.kind text) checked refl (ap (λ t. Some (value_of_text f.kind t)) scratch) refl)),
+          (text_given f d d c.append.new.self.text piece From.Scratch text (value_of_text f.kind text) checked refl
+          (ap (λ t. Some (value_of_text f.kind t)) scratch) refl)),
     )

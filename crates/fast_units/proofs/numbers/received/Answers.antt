@@ -15,11 +15,14 @@ returns-in-Some-clause-decided c =
     let f = field_data c.args.field.now in
     let old = slots_dictionary c.args.slots.now in
     decided_as f old (slots_dictionary c.keep.new.slots) (Ok c.keep.result) (ap (λ x. decide f (previous_at f.entry old) true (sent_number x)) c.in-Some.is)
-    (value_decided f c.requires.serves c.requires.numbers old (slots_dictionary c.keep.new.slots) (number_data c.in-Some.number) c.keep.result c.requires.no_delta c.requires.no_constant c.keep.ensures.entry c.keep.ensures.value)
+    (value_decided f c.requires.serves c.requires.numbers old (slots_dictionary c.keep.new.slots)
+    (number_data c.in-Some.number) c.keep.result c.requires.no_delta c.requires.no_constant c.keep.ensures.entry c.keep.ensures.value)
 
 pub returns-in-None-clause-decided : goal.returns-in-None-clause-decided
 returns-in-None-clause-decided c =
     let f = field_data c.args.field.now in
     let old = slots_dictionary c.args.slots.now in
-    decided_as f old (slots_dictionary c.assign_empty.new.slots) (Ok From.Absent) (ap (λ x. decide f (previous_at f.entry old) true (sent_number x)) c.in-None.is)
-    (null_decided f c.requires.serves c.requires.numbers old (slots_dictionary c.assign_empty.new.slots) c.requires.no_delta c.requires.no_constant c.assign_empty.ensures.entry)
+    decided_as f old (slots_dictionary c.assign_empty.new.slots) (Ok From.Absent)
+    (ap (λ x. decide f (previous_at f.entry old) true (sent_number x)) c.in-None.is)
+    (null_decided f c.requires.serves c.requires.numbers old
+    (slots_dictionary c.assign_empty.new.slots) c.requires.no_delta c.requires.no_constant c.assign_empty.ensures.entry)

@@ -26,12 +26,17 @@ returns-in-Whole-Some-default-clause-unit c l scratch =
     let old = slots_dictionary c.args.slots.now in
     let p = previous_at f.entry old in
     let fits : FitsSigned w128 c.in-Whole-Some-default.delta = search rules in
-    subst (λ q. IsLastUnit (reader_of c.args.strict (field_term l f p true)) f c.args.pending.now.bytes c.args.rest.now old (slots_dictionary c.change_integer.new.slots) scratch q) (sym c.settled.ensures)
-    (last_unit c.args.strict (integer delta_range f.optional D2 give) (integer_change f p) (reader_of c.args.strict (field_term l f p true)) (ap (reader_of c.args.strict) (integer_delta_field l f p (range_of f.kind) c.requires.integers c.requires.delta))
-    f c.args.pending.now.bytes c.args.rest.now old (slots_dictionary c.change_integer.new.slots) scratch c.in-Whole-Some-default.field-0 c.in-Whole-Some-default.bytes
+    subst (λ q. IsLastUnit (reader_of c.args.strict (field_term l f p true)) f c.args.pending.now.bytes c.args.rest.now old
+    (slots_dictionary c.change_integer.new.slots) scratch q) (sym c.settled.ensures)
+    (last_unit c.args.strict (integer delta_range f.optional D2 give) (integer_change f p)
+    (reader_of c.args.strict (field_term l f p true)) (ap (reader_of c.args.strict)
+    (integer_delta_field l f p (range_of f.kind) c.requires.integers c.requires.delta))
+    f c.args.pending.now.bytes c.args.rest.now old (slots_dictionary c.change_integer.new.slots) scratch c.in-Whole-Some-default.field-0
+    c.in-Whole-Some-default.bytes
     (integer_step f p c.in-Whole-Some-default.delta) c.change_integer.result
     (ap (integer_change f p) c.in-Whole-Some-default.field-0-is)
-    (subst (λ d. IsDecided (integer_step f p d) f old (slots_dictionary c.change_integer.new.slots) c.change_integer.result) (again w128 c.in-Whole-Some-default.delta fits) c.change_integer.ensures.decided)
+    (subst (λ d. IsDecided (integer_step f p d) f old (slots_dictionary c.change_integer.new.slots) c.change_integer.result)
+    (again w128 c.in-Whole-Some-default.delta fits) c.change_integer.ensures.decided)
     c.in-Whole-Some-default.ensures.unit)
 
 pub returns-in-Whole-None-default-clause-unit : goal.returns-in-Whole-None-default-clause-unit
@@ -39,7 +44,8 @@ returns-in-Whole-None-default-clause-unit c l scratch =
     let f = field_data c.args.field.now in
     let old = slots_dictionary c.args.slots.now in
     let p = previous_at f.entry old in
-    last_unit c.args.strict (integer delta_range f.optional D2 give) (integer_change f p) (reader_of c.args.strict (field_term l f p true)) (ap (reader_of c.args.strict) (integer_delta_field l f p (range_of f.kind) c.requires.integers c.requires.delta))
+    last_unit c.args.strict (integer delta_range f.optional D2 give) (integer_change f p) (reader_of c.args.strict (field_term l f p true))
+    (ap (reader_of c.args.strict) (integer_delta_field l f p (range_of f.kind) c.requires.integers c.requires.delta))
     f c.args.pending.now.bytes c.args.rest.now old old scratch c.in-Whole-None-default.field-0 c.in-Whole-None-default.bytes
     (gives_none p) (Ok From.Absent)
     (ap (integer_change f p) c.in-Whole-None-default.field-0-is)
@@ -49,17 +55,29 @@ pub returns-in-Wrong-clause-unit : goal.returns-in-Wrong-clause-unit
 returns-in-Wrong-clause-unit c l scratch =
     let f = field_data c.args.field.now in
     let p = previous_at f.entry (slots_dictionary c.args.slots.now) in
-    let (some, within, t) = c.in-Wrong.ensures.unit in
-    (some, within, unit_stops c.args.strict (integer delta_range f.optional D2 give) (integer_change f p) (reader_of c.args.strict (field_term l f p true)) (ap (reader_of c.args.strict) (integer_delta_field l f p (range_of f.kind) c.requires.integers c.requires.delta)) (c.args.pending.now.bytes ++ take c.in-Wrong.bytes c.args.rest.now) c.in-Wrong.code t)
+    let (some, within, t) = c.in-Wrong.ensures.unit in (
+      some,
+      within,
+      unit_stops c.args.strict (integer delta_range f.optional D2 give) (integer_change f p)
+          (reader_of c.args.strict (field_term l f p true)) (ap (reader_of c.args.strict)
+          (integer_delta_field l f p (range_of f.kind) c.requires.integers c.requires.delta))
+          (c.args.pending.now.bytes ++ take c.in-Wrong.bytes c.args.rest.now) c.in-Wrong.code t,
+    )
 
 pub returns-in-Cut-clause-unit : goal.returns-in-Cut-clause-unit
 returns-in-Cut-clause-unit c l scratch =
     let f = field_data c.args.field.now in
-    let p = previous_at f.entry (slots_dictionary c.args.slots.now) in
-    (unit_stays c.args.strict (integer delta_range f.optional D2 give) (integer_change f p) (reader_of c.args.strict (field_term l f p true)) (ap (reader_of c.args.strict) (integer_delta_field l f p (range_of f.kind) c.requires.integers c.requires.delta)) (c.args.pending.now.bytes ++ c.args.rest.now) c.in-Cut.ensures.unit, refl)
+    let p = previous_at f.entry (slots_dictionary c.args.slots.now) in (
+      unit_stays c.args.strict (integer delta_range f.optional D2 give) (integer_change f p)
+          (reader_of c.args.strict (field_term l f p true)) (ap (reader_of c.args.strict)
+          (integer_delta_field l f p (range_of f.kind) c.requires.integers c.requires.delta))
+          (c.args.pending.now.bytes ++ c.args.rest.now) c.in-Cut.ensures.unit,
+      refl,
+    )
 
 pub returns-in-Wrong-clause-whole : goal.returns-in-Wrong-clause-whole
-returns-in-Wrong-clause-whole c source n e = answered_more {T = ValueSource} (λ s. c.next_integer.new.pending.bytes ≡ []) (Err c.in-Wrong.code) c.in-Wrong.bytes tt source n e
+returns-in-Wrong-clause-whole c source n e = answered_more {T = ValueSource} (λ s. c.next_integer.new.pending.bytes ≡ [])
+    (Err c.in-Wrong.code) c.in-Wrong.bytes tt source n e
 
 pub returns-in-Wrong-clause-cut : goal.returns-in-Wrong-clause-cut
 returns-in-Wrong-clause-cut c e = absurd (answered_whole {T = ValueSource} (Err c.in-Wrong.code) c.in-Wrong.bytes e)
@@ -80,10 +98,12 @@ pub returns-in-Whole-None-default-clause-cut : goal.returns-in-Whole-None-defaul
 returns-in-Whole-None-default-clause-cut c e = absurd (answered_whole (Ok _) c.in-Whole-None-default.bytes e)
 
 pub returns-in-Whole-None-default-clause-whole : goal.returns-in-Whole-None-default-clause-whole
-returns-in-Whole-None-default-clause-whole c source n e = c.in-Whole-None-default.ensures.whole c.in-Whole-None-default.field-0 c.in-Whole-None-default.bytes refl
+returns-in-Whole-None-default-clause-whole c source n e =
+    c.in-Whole-None-default.ensures.whole c.in-Whole-None-default.field-0 c.in-Whole-None-default.bytes refl
 
 pub returns-in-Whole-Some-default-clause-whole : goal.returns-in-Whole-Some-default-clause-whole
-returns-in-Whole-Some-default-clause-whole c source n e = c.in-Whole-Some-default.ensures.whole c.in-Whole-Some-default.field-0 c.in-Whole-Some-default.bytes refl
+returns-in-Whole-Some-default-clause-whole c source n e =
+    c.in-Whole-Some-default.ensures.whole c.in-Whole-Some-default.field-0 c.in-Whole-Some-default.bytes refl
 
 pub change_integer-requires : goal.change_integer-requires
 change_integer-requires c = record { serves = c.requires.serves }

@@ -25,7 +25,9 @@ of_integer-number-requires-clause-low c =
     let wire = range_data c.range_on_wire-range.result in
     let fits : FitsSigned w128 c.in-Whole-Some-default.integer = search rules in
     let inside : IsWithin (range_of kind) c.in-Whole-Some-default.integer =
-    number_within c.args.strict (range_of kind) wire c.args.field.now.optional D2 _ c.in-Whole-Some-default.field-0 c.in-Whole-Some-default.integer c.range_on_wire-range.ensures c.in-Whole-Some-default.field-0-is c.in-Whole-Some-default.ensures.unit.2 in
+    number_within c.args.strict (range_of kind) wire c.args.field.now.optional D2 _ c.in-Whole-Some-default.field-0
+    c.in-Whole-Some-default.integer c.range_on_wire-range.ensures c.in-Whole-Some-default.field-0-is
+    c.in-Whole-Some-default.ensures.unit.2 in
     subst (λ x. neg_ℤ (pos (2 ^ 63)) ≤ℤ x) (sym (again w128 c.in-Whole-Some-default.integer fits)) (kind_low kind c.in-Whole-Some-default.integer inside)
 
 pub of_integer-number-requires-clause-high : goal.of_integer-number-requires-clause-high
@@ -34,7 +36,9 @@ of_integer-number-requires-clause-high c =
     let wire = range_data c.range_on_wire-range.result in
     let fits : FitsSigned w128 c.in-Whole-Some-default.integer = search rules in
     let inside : IsWithin (range_of kind) c.in-Whole-Some-default.integer =
-    number_within c.args.strict (range_of kind) wire c.args.field.now.optional D2 _ c.in-Whole-Some-default.field-0 c.in-Whole-Some-default.integer c.range_on_wire-range.ensures c.in-Whole-Some-default.field-0-is c.in-Whole-Some-default.ensures.unit.2 in
+    number_within c.args.strict (range_of kind) wire c.args.field.now.optional D2 _ c.in-Whole-Some-default.field-0
+    c.in-Whole-Some-default.integer c.range_on_wire-range.ensures c.in-Whole-Some-default.field-0-is
+    c.in-Whole-Some-default.ensures.unit.2 in
     subst (λ x. x ≤ℤ (range_of kind).high) (sym (again w128 c.in-Whole-Some-default.integer fits)) inside.1
 
 pub returns-in-Whole-Some-default-clause-unit : goal.returns-in-Whole-Some-default-clause-unit
@@ -61,7 +65,8 @@ returns-in-Whole-None-default-clause-unit c l scratch =
     let wire = range_data c.range_on_wire-range.result in
     last_unit c.args.strict (integer wire f.optional D2 give) (behind_integer l f p) (reader_of c.args.strict (field_term l f p true))
     (integer_here c.args.strict l f p wire c.range_on_wire-range.ensures c.requires.integers c.requires.no_delta c.requires.no_constant)
-    f c.args.pending.now.bytes c.args.rest.now old (slots_dictionary c.received-in-Whole-None-default.new.slots) scratch c.in-Whole-None-default.field-0 c.in-Whole-None-default.bytes
+    f c.args.pending.now.bytes c.args.rest.now old (slots_dictionary c.received-in-Whole-None-default.new.slots) scratch
+    c.in-Whole-None-default.field-0 c.in-Whole-None-default.bytes
     (decide f p true (sent_number None)) (Ok c.received-in-Whole-None-default.result)
     (ap (behind_integer l f p) c.in-Whole-None-default.field-0-is)
     c.received-in-Whole-None-default.ensures.decided c.in-Whole-None-default.ensures.unit
@@ -118,7 +123,8 @@ pub returns-in-Wrong-clause-cut : goal.returns-in-Wrong-clause-cut
 returns-in-Wrong-clause-cut c e = absurd (answered_whole {T = ValueSource} (Err c.in-Wrong.code) c.in-Wrong.bytes e)
 
 pub returns-in-Wrong-clause-whole : goal.returns-in-Wrong-clause-whole
-returns-in-Wrong-clause-whole c source n e = answered_more {T = ValueSource} (λ s. c.next_integer.new.pending.bytes ≡ []) (Err c.in-Wrong.code) c.in-Wrong.bytes tt source n e
+returns-in-Wrong-clause-whole c source n e = answered_more {T = ValueSource} (λ s. c.next_integer.new.pending.bytes ≡ [])
+    (Err c.in-Wrong.code) c.in-Wrong.bytes tt source n e
 
 pub returns-in-Cut-clause-whole : goal.returns-in-Cut-clause-whole
 returns-in-Cut-clause-whole c source n e = absurd (answered_whole (Ok source) n (sym e))
@@ -139,7 +145,9 @@ pub returns-in-Cut-clause-terms : goal.returns-in-Cut-clause-terms
 returns-in-Cut-clause-terms c = refl
 
 pub returns-in-Whole-Some-default-clause-whole : goal.returns-in-Whole-Some-default-clause-whole
-returns-in-Whole-Some-default-clause-whole c source n e = c.in-Whole-Some-default.ensures.whole c.in-Whole-Some-default.field-0 c.in-Whole-Some-default.bytes refl
+returns-in-Whole-Some-default-clause-whole c source n e =
+    c.in-Whole-Some-default.ensures.whole c.in-Whole-Some-default.field-0 c.in-Whole-Some-default.bytes refl
 
 pub returns-in-Whole-None-default-clause-whole : goal.returns-in-Whole-None-default-clause-whole
-returns-in-Whole-None-default-clause-whole c source n e = c.in-Whole-None-default.ensures.whole c.in-Whole-None-default.field-0 c.in-Whole-None-default.bytes refl
+returns-in-Whole-None-default-clause-whole c source n e =
+    c.in-Whole-None-default.ensures.whole c.in-Whole-None-default.field-0 c.in-Whole-None-default.bytes refl

@@ -15,11 +15,17 @@ loop-i-init c = record { bytes = sym (append-nil c.args.entity.now); no_stop = c
 
 pub returns-in-Whole : goal.returns-in-Whole
 returns-in-Whole c =
-    let next = gathered_next c.args.entity.now c.args.rest.now c.loop-i.entity c.push.new.self c.loop-i.i c.loop-i.invariant.bytes c.loop-i-test.true c.push.ensures.bytes in
+    let next = gathered_next c.args.entity.now c.args.rest.now c.loop-i.entity c.push.new.self c.loop-i.i c.loop-i.invariant.bytes
+    c.loop-i-test.true c.push.ensures.bytes in
     let long = ap length c.push.ensures.bytes ∙ length-append c.loop-i.entity (get_or c.args.rest.now c.loop-i.i 0 ∷ []) in
     let short = c.loop-i.invariant.short in
-    let here = c.loop-i-test.true in
-    (omega arith, omega (arith, here), subst IsEntity next (c.in-Whole.ensures.entity refl), subst (λ (w : List ℕ). length w ≤ 10) next (omega (arith, long, short)), next)
+    let here = c.loop-i-test.true in (
+      omega arith,
+      omega (arith, here),
+      subst IsEntity next (c.in-Whole.ensures.entity refl),
+      subst (λ (w : List ℕ). length w ≤ 10) next (omega (arith, long, short)),
+      next,
+    )
 
 pub returns : goal.returns
 returns c =
@@ -28,11 +34,19 @@ returns c =
 
 pub loop-i-preserved : goal.loop-i-preserved
 loop-i-preserved c =
-    let next = gathered_next c.args.entity.now c.args.rest.now c.loop-i.entity c.push.new.self c.loop-i.i c.loop-i.invariant.bytes c.loop-i-test.true c.push.ensures.bytes in
+    let next = gathered_next c.args.entity.now c.args.rest.now c.loop-i.entity c.push.new.self c.loop-i.i c.loop-i.invariant.bytes
+    c.loop-i-test.true c.push.ensures.bytes in
     record { bytes = next; no_stop = c.in-More.ensures.still_open more_goes; short = (c.in-More.ensures.more.0 refl).1 }
 
 pub returns-in-TooLong : goal.returns-in-TooLong
 returns-in-TooLong c =
-    let next = gathered_next c.args.entity.now c.args.rest.now c.loop-i.entity c.push.new.self c.loop-i.i c.loop-i.invariant.bytes c.loop-i-test.true c.push.ensures.bytes in
-    let here = c.loop-i-test.true in
-    (omega arith, omega (arith, here), subst HaveNoStop next (c.in-TooLong.ensures.still_open long_goes), sym (ap length next) ∙ (c.in-TooLong.ensures.too_long.0 refl).1, refl)
+    let next = gathered_next c.args.entity.now c.args.rest.now c.loop-i.entity c.push.new.self c.loop-i.i c.loop-i.invariant.bytes
+    c.loop-i-test.true c.push.ensures.bytes in
+    let here = c.loop-i-test.true in (
+      omega arith,
+      omega (arith, here),
+      subst HaveNoStop next (c.in-TooLong.ensures.still_open long_goes),
+      sym (ap length next)
+          ∙ (c.in-TooLong.ensures.too_long.0 refl).1,
+      refl,
+    )

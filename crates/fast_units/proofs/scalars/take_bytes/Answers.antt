@@ -22,9 +22,12 @@ returns-in-Part-clause-unit c =
     let old = slots_dictionary c.args.slots.now in
     let p = previous_at f.entry old in
     let here : Stage = Part (to_z w32 (of_z w32 c.in-Part.subtraction)) in
-    subst (λ (stage : Stage). IsFieldUnit l (reader_of l.strict (term_behind (bounds l) f p stage)) f c.args.scratch.now.text c.args.rest.now old (slots_dictionary c.take_part.new.slots) c.take_part.new.scratch.text c.settled-in-Part.result)
+    subst (λ (stage : Stage). IsFieldUnit l (reader_of l.strict (term_behind (bounds l) f p stage)) f c.args.scratch.now.text
+    c.args.rest.now old (slots_dictionary c.take_part.new.slots) c.take_part.new.scratch.text c.settled-in-Part.result)
     (ap Part (to_z-of_z w32 c.in-Part.subtraction (search rules)) ∙ sym c.in-Part.is)
-    (unit_settled l (reader_of l.strict (term_behind (bounds l) f p here)) f c.args.scratch.now.text c.args.rest.now old (slots_dictionary c.take_part.new.slots) c.take_part.new.scratch.text c.take_part.result c.settled-in-Part.result c.settled-in-Part.ensures (c.take_part.ensures.unit))
+    (unit_settled l (reader_of l.strict (term_behind (bounds l) f p here)) f c.args.scratch.now.text c.args.rest.now old
+    (slots_dictionary c.take_part.new.slots) c.take_part.new.scratch.text c.take_part.result c.settled-in-Part.result
+    c.settled-in-Part.ensures (c.take_part.ensures.unit))
 
 pub take_vector-requires-clause-serves : goal.take_vector-requires-clause-serves
 take_vector-requires-clause-serves c = c.requires.serves
@@ -68,9 +71,12 @@ returns-in-Vector-clause-unit c =
     let f = field_data c.args.field.now in
     let old = slots_dictionary c.args.slots.now in
     let p = previous_at f.entry old in
-    subst (λ (stage : Stage). IsFieldUnit l (reader_of l.strict (term_behind (bounds l) f p stage)) f c.args.scratch.now.text c.args.rest.now old (slots_dictionary c.take_vector.new.slots) c.take_vector.new.scratch.text c.settled.result)
+    subst (λ (stage : Stage). IsFieldUnit l (reader_of l.strict (term_behind (bounds l) f p stage)) f c.args.scratch.now.text
+    c.args.rest.now old (slots_dictionary c.take_vector.new.slots) c.take_vector.new.scratch.text c.settled.result)
     (sym c.in-Vector.is)
-    (unit_settled l (reader_of l.strict (term_behind (bounds l) f p (Vector c.in-Vector.size))) f c.args.scratch.now.text c.args.rest.now old (slots_dictionary c.take_vector.new.slots) c.take_vector.new.scratch.text c.take_vector.result c.settled.result c.settled.ensures c.take_vector.ensures.unit)
+    (unit_settled l (reader_of l.strict (term_behind (bounds l) f p (Vector c.in-Vector.size))) f c.args.scratch.now.text c.args.rest.now
+    old (slots_dictionary c.take_vector.new.slots) c.take_vector.new.scratch.text c.take_vector.result c.settled.result
+    c.settled.ensures c.take_vector.ensures.unit)
 
 pub returns-in-Vector-clause-settles : goal.returns-in-Vector-clause-settles
 returns-in-Vector-clause-settles c = settles_settled c.take_vector.result c.settled.result c.settled.ensures
@@ -107,8 +113,11 @@ returns-in-Part-clause-kept c i =
     let p = previous_at f.entry old in
     let k = c.take_part.ensures.cut (cut_settled c.take_part.result c.settled-in-Part.result c.settled-in-Part.ensures i) in
     let b = subst (λ stage. IsBytesStage (bounds l) f p stage c.args.scratch.now.text) c.in-Part.is c.requires.bytes in
-    let same = sym (to_z-of_z w32 c.in-Part.subtraction (search rules)) in
-    (k.0, subst (λ stage. IsBytesStage (bounds l) f p stage c.take_part.new.scratch.text) (sym c.in-Part.is) (b.0, (b.1.0, b.1.1, k.1 b.1.0 (subst (λ x. subtraction_step f p x ≡ Ok b.1.0) same b.1.1))))
+    let same = sym (to_z-of_z w32 c.in-Part.subtraction (search rules)) in (
+      k.0,
+      subst (λ stage. IsBytesStage (bounds l) f p stage c.take_part.new.scratch.text) (sym c.in-Part.is)
+          (b.0, (b.1.0, b.1.1, k.1 b.1.0 (subst (λ x. subtraction_step f p x ≡ Ok b.1.0) same b.1.1))),
+    )
 
 pub returns-in-PartVector-clause-unit : goal.returns-in-PartVector-clause-unit
 returns-in-PartVector-clause-unit c =
@@ -117,9 +126,13 @@ returns-in-PartVector-clause-unit c =
     let old = slots_dictionary c.args.slots.now in
     let p = previous_at f.entry old in
     let here : Stage = PartVector (to_z w32 (of_z w32 c.in-PartVector.subtraction)) c.in-PartVector.size in
-    subst (λ (stage : Stage). IsFieldUnit l (reader_of l.strict (term_behind (bounds l) f p stage)) f c.args.scratch.now.text c.args.rest.now old (slots_dictionary c.take_part_vector.new.slots) c.take_part_vector.new.scratch.text c.settled-in-PartVector.result)
+    subst (λ (stage : Stage). IsFieldUnit l (reader_of l.strict (term_behind (bounds l) f p stage)) f c.args.scratch.now.text
+    c.args.rest.now old (slots_dictionary c.take_part_vector.new.slots) c.take_part_vector.new.scratch.text
+    c.settled-in-PartVector.result)
     (ap (λ k. PartVector k c.in-PartVector.size) (to_z-of_z w32 c.in-PartVector.subtraction (search rules)) ∙ sym c.in-PartVector.is)
-    (unit_settled l (reader_of l.strict (term_behind (bounds l) f p here)) f c.args.scratch.now.text c.args.rest.now old (slots_dictionary c.take_part_vector.new.slots) c.take_part_vector.new.scratch.text c.take_part_vector.result c.settled-in-PartVector.result c.settled-in-PartVector.ensures c.take_part_vector.ensures.unit)
+    (unit_settled l (reader_of l.strict (term_behind (bounds l) f p here)) f c.args.scratch.now.text c.args.rest.now old
+    (slots_dictionary c.take_part_vector.new.slots) c.take_part_vector.new.scratch.text c.take_part_vector.result
+    c.settled-in-PartVector.result c.settled-in-PartVector.ensures c.take_part_vector.ensures.unit)
 
 pub returns-in-PartVector-clause-settles : goal.returns-in-PartVector-clause-settles
 returns-in-PartVector-clause-settles c = settles_settled c.take_part_vector.result c.settled-in-PartVector.result c.settled-in-PartVector.ensures
@@ -140,7 +153,11 @@ returns-in-PartVector-clause-kept c i =
     (k.0, subst (λ stage. IsBytesStage (bounds l) f p stage c.take_part_vector.new.scratch.text) (sym c.in-PartVector.is) k.1)
 
 pub returns-in-Mantissa-clause-unit : goal.returns-in-Mantissa-clause-unit
-returns-in-Mantissa-clause-unit c = absurd (no_bytes (bounds c.args.limits) (field_data c.args.field.now) (previous_at (field_data c.args.field.now).entry (slots_dictionary c.args.slots.now)) c.args.stage c.args.scratch.now.text c.in-Mantissa.is c.requires.bytes)
+returns-in-Mantissa-clause-unit c = absurd (no_bytes (bounds c.args.limits) (field_data c.args.field.now)
+    (previous_at (field_data c.args.field.now).entry (slots_dictionary c.args.slots.now)) c.args.stage c.args.scratch.now.text
+    c.in-Mantissa.is c.requires.bytes)
 
 pub returns-in-Mantissa-clause-kept : goal.returns-in-Mantissa-clause-kept
-returns-in-Mantissa-clause-kept c i = absurd (no_bytes (bounds c.args.limits) (field_data c.args.field.now) (previous_at (field_data c.args.field.now).entry (slots_dictionary c.args.slots.now)) c.args.stage c.args.scratch.now.text c.in-Mantissa.is c.requires.bytes)
+returns-in-Mantissa-clause-kept c i = absurd (no_bytes (bounds c.args.limits) (field_data c.args.field.now)
+    (previous_at (field_data c.args.field.now).entry (slots_dictionary c.args.slots.now)) c.args.stage c.args.scratch.now.text
+    c.in-Mantissa.is c.requires.bytes)

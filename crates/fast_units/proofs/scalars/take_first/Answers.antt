@@ -22,7 +22,8 @@ returns-in-Decimal-clause-next c =
     let l = c.args.limits in
     let f = field_data c.args.field.now in
     let old = slots_dictionary c.args.slots.now in
-    next_of_decimal l (reader_of l.strict (field_term (bounds l) f (previous_at f.entry old) true)) f c.args.pending.now.bytes c.args.rest.now old (slots_dictionary c.take_exponent.new.slots) c.args.scratch.now.text
+    next_of_decimal l (reader_of l.strict (field_term (bounds l) f (previous_at f.entry old) true)) f c.args.pending.now.bytes
+    c.args.rest.now old (slots_dictionary c.take_exponent.new.slots) c.args.scratch.now.text
     c.take_exponent.result (ap family c.in-Decimal.is) (c.take_exponent.ensures.unit c.args.scratch.now.text)
 
 pub returns-in-Delta-clause-unit : goal.returns-in-Delta-clause-unit
@@ -39,9 +40,12 @@ returns-in_default c = let l = c.args.limits in
     let old = slots_dictionary c.args.slots.now in
     let p = previous_at f.entry old in
     record {
-      unit = subst (λ (scratch : List ℕ). IsFieldUnit l (reader_of l.strict (field_term (bounds l) f p true)) f c.args.pending.now.bytes c.args.rest.now old (slots_dictionary c.take_size.new.slots) scratch c.take_size.result) (sym c.clear.ensures.text) c.take_size.ensures.unit;
+      unit = subst (λ (scratch : List ℕ). IsFieldUnit l (reader_of l.strict (field_term (bounds l) f p true)) f c.args.pending.now.bytes
+          c.args.rest.now old (slots_dictionary c.take_size.new.slots) scratch c.take_size.result)
+          (sym c.clear.ensures.text) c.take_size.ensures.unit;
       next = next_of_text (bounds l) f p c.take_size.result c.take_size.ensures.more;
-      pending = kept_entity c.args.pending.now.bytes c.args.rest.now c.take_size.new.pending.bytes c.take_size.result c.take_size.ensures.whole c.take_size.ensures.cut;
+      pending = kept_entity c.args.pending.now.bytes c.args.rest.now c.take_size.new.pending.bytes c.take_size.result
+          c.take_size.ensures.whole c.take_size.ensures.cut;
       terms = search rules;
       capacity = search rules;
     }

@@ -20,9 +20,12 @@ returns-in-Mantissa-clause-unit c text =
     let old = slots_dictionary c.args.slots.now in
     let p = previous_at f.entry old in
     let here : Stage = Mantissa (to_z w32 (of_z w32 c.in-Mantissa.exponent)) in
-    subst (λ (stage : Stage). IsFieldUnit l (reader_of l.strict (term_behind (bounds l) f p stage)) f c.args.pending.now.bytes c.args.rest.now old (slots_dictionary c.take_mantissa.new.slots) text c.settled.result)
+    subst (λ (stage : Stage). IsFieldUnit l (reader_of l.strict (term_behind (bounds l) f p stage)) f c.args.pending.now.bytes
+    c.args.rest.now old (slots_dictionary c.take_mantissa.new.slots) text c.settled.result)
     (ap Mantissa (to_z-of_z w32 c.in-Mantissa.exponent (search rules)) ∙ sym c.in-Mantissa.is)
-    (unit_settled l (reader_of l.strict (term_behind (bounds l) f p here)) f c.args.pending.now.bytes c.args.rest.now old (slots_dictionary c.take_mantissa.new.slots) text c.take_mantissa.result c.settled.result c.settled.ensures (c.take_mantissa.ensures.unit text))
+    (unit_settled l (reader_of l.strict (term_behind (bounds l) f p here)) f c.args.pending.now.bytes c.args.rest.now old
+    (slots_dictionary c.take_mantissa.new.slots) text c.take_mantissa.result c.settled.result c.settled.ensures
+    (c.take_mantissa.ensures.unit text))
 
 pub returns-in-MantissaDelta-clause-unit : goal.returns-in-MantissaDelta-clause-unit
 returns-in-MantissaDelta-clause-unit c text =
@@ -31,9 +34,12 @@ returns-in-MantissaDelta-clause-unit c text =
     let old = slots_dictionary c.args.slots.now in
     let p = previous_at f.entry old in
     let here : Stage = MantissaDelta (to_z w32 (of_z w32 c.in-MantissaDelta.exponent)) in
-    subst (λ (stage : Stage). IsFieldUnit l (reader_of l.strict (term_behind (bounds l) f p stage)) f c.args.pending.now.bytes c.args.rest.now old (slots_dictionary c.take_mantissa_delta.new.slots) text c.settled-in-MantissaDelta.result)
+    subst (λ (stage : Stage). IsFieldUnit l (reader_of l.strict (term_behind (bounds l) f p stage)) f c.args.pending.now.bytes
+    c.args.rest.now old (slots_dictionary c.take_mantissa_delta.new.slots) text c.settled-in-MantissaDelta.result)
     (ap MantissaDelta (to_z-of_z w32 c.in-MantissaDelta.exponent (search rules)) ∙ sym c.in-MantissaDelta.is)
-    (unit_settled l (reader_of l.strict (term_behind (bounds l) f p here)) f c.args.pending.now.bytes c.args.rest.now old (slots_dictionary c.take_mantissa_delta.new.slots) text c.take_mantissa_delta.result c.settled-in-MantissaDelta.result c.settled-in-MantissaDelta.ensures (c.take_mantissa_delta.ensures.unit text))
+    (unit_settled l (reader_of l.strict (term_behind (bounds l) f p here)) f c.args.pending.now.bytes c.args.rest.now old
+    (slots_dictionary c.take_mantissa_delta.new.slots) text c.take_mantissa_delta.result c.settled-in-MantissaDelta.result
+    c.settled-in-MantissaDelta.ensures (c.take_mantissa_delta.ensures.unit text))
 
 pub returns-in-Part-clause-unit : goal.returns-in-Part-clause-unit
 returns-in-Part-clause-unit c text =
@@ -42,7 +48,8 @@ returns-in-Part-clause-unit c text =
     let old = slots_dictionary c.args.slots.now in
     let p = previous_at f.entry old in
     let here : Stage = Part (to_z w32 (of_z w32 c.in-Part.subtraction)) in
-    subst (λ (stage : Stage). IsFieldUnit l (reader_of l.strict (term_behind (bounds l) f p stage)) f c.args.pending.now.bytes c.args.rest.now old (slots_dictionary c.take_part_size.new.slots) text c.take_part_size.result)
+    subst (λ (stage : Stage). IsFieldUnit l (reader_of l.strict (term_behind (bounds l) f p stage)) f c.args.pending.now.bytes
+    c.args.rest.now old (slots_dictionary c.take_part_size.new.slots) text c.take_part_size.result)
     (ap Part (to_z-of_z w32 c.in-Part.subtraction (search rules)) ∙ sym c.in-Part.is)
     (c.take_part_size.ensures.unit text)
 
@@ -66,7 +73,8 @@ returns-in-Mantissa-clause-next c =
     next_settled (bounds c.args.limits) f (previous_at f.entry (slots_dictionary c.args.slots.now)) c.take_mantissa.result c.settled.result c.settled.ensures
 
 pub returns-in-Mantissa-clause-pending : goal.returns-in-Mantissa-clause-pending
-returns-in-Mantissa-clause-pending c = kept_settled c.args.pending.now.bytes c.args.rest.now c.take_mantissa.new.pending.bytes c.take_mantissa.result c.settled.result c.settled.ensures c.take_mantissa.ensures.whole c.take_mantissa.ensures.cut
+returns-in-Mantissa-clause-pending c = kept_settled c.args.pending.now.bytes c.args.rest.now c.take_mantissa.new.pending.bytes
+    c.take_mantissa.result c.settled.result c.settled.ensures c.take_mantissa.ensures.whole c.take_mantissa.ensures.cut
 
 pub returns-in-Mantissa-clause-terms : goal.returns-in-Mantissa-clause-terms
 returns-in-Mantissa-clause-terms c = c.take_mantissa.ensures.terms
@@ -74,10 +82,13 @@ returns-in-Mantissa-clause-terms c = c.take_mantissa.ensures.terms
 pub returns-in-MantissaDelta-clause-next : goal.returns-in-MantissaDelta-clause-next
 returns-in-MantissaDelta-clause-next c =
     let f = field_data c.args.field.now in
-    next_settled (bounds c.args.limits) f (previous_at f.entry (slots_dictionary c.args.slots.now)) c.take_mantissa_delta.result c.settled-in-MantissaDelta.result c.settled-in-MantissaDelta.ensures
+    next_settled (bounds c.args.limits) f (previous_at f.entry (slots_dictionary c.args.slots.now)) c.take_mantissa_delta.result
+    c.settled-in-MantissaDelta.result c.settled-in-MantissaDelta.ensures
 
 pub returns-in-MantissaDelta-clause-pending : goal.returns-in-MantissaDelta-clause-pending
-returns-in-MantissaDelta-clause-pending c = kept_settled c.args.pending.now.bytes c.args.rest.now c.take_mantissa_delta.new.pending.bytes c.take_mantissa_delta.result c.settled-in-MantissaDelta.result c.settled-in-MantissaDelta.ensures c.take_mantissa_delta.ensures.whole c.take_mantissa_delta.ensures.cut
+returns-in-MantissaDelta-clause-pending c = kept_settled c.args.pending.now.bytes c.args.rest.now c.take_mantissa_delta.new.pending.bytes
+    c.take_mantissa_delta.result c.settled-in-MantissaDelta.result c.settled-in-MantissaDelta.ensures c.take_mantissa_delta.ensures.whole
+    c.take_mantissa_delta.ensures.cut
 
 pub returns-in-MantissaDelta-clause-terms : goal.returns-in-MantissaDelta-clause-terms
 returns-in-MantissaDelta-clause-terms c = c.take_mantissa_delta.ensures.terms

@@ -14,4 +14,6 @@ returns-in-Ok-sum_in-clause-decided c =
     let old = slots_dictionary c.args.slots.now in
     let n = c.decimal-number.result in
     let step : mantissa_step f (previous_at f.entry old) c.args.exponent c.args.delta ≡ keeps f.kind (number_data n) = search rules in
-    decided_as f old (slots_dictionary c.keep.new.slots) (Ok (source_of (Some n))) step (keep_decided f old (slots_dictionary c.keep.new.slots) (number_data n) (source_of (Some n)) c.keep.ensures.entry (item_value (Some n) f))
+    decided_as f old (slots_dictionary c.keep.new.slots) (Ok (source_of (Some n))) step
+    (keep_decided f old (slots_dictionary c.keep.new.slots) (number_data n) (source_of (Some n)) c.keep.ensures.entry
+    (item_value (Some n) f))

@@ -38,8 +38,14 @@ returns-clause-unit c l scratch =
       omega (arith, within, size, short),
       record {
         outcome = gives.outcome;
-        turns = subst (λ (w : List ℕ). Turns (sent_reader c.args.strict l c.args.slots.now c.args.field.now) w (Done gives.outcome)) all (turns_run (c.in_ok-exponent.ensures.turns l) (subst (λ e. Turns (reader_of c.args.strict (term_behind l f p (MantissaDelta e))) (take b left) (Done gives.outcome)) (again w32 c.in_ok-exponent.exponent fits) gives.turns));
-        settled = record { value = gives.settled.value ∙ item_value item f new scratch (take b left) ∙ sym (item_value item f new scratch (take (a + b) rest)); dictionary = gives.settled.dictionary };
+        turns = subst (λ (w : List ℕ). Turns (sent_reader c.args.strict l c.args.slots.now c.args.field.now) w (Done gives.outcome)) all
+            (turns_run (c.in_ok-exponent.ensures.turns l) (subst
+            (λ e. Turns (reader_of c.args.strict (term_behind l f p (MantissaDelta e))) (take b left) (Done gives.outcome))
+            (again w32 c.in_ok-exponent.exponent fits) gives.turns));
+        settled = record {
+          value = gives.settled.value ∙ item_value item f new scratch (take b left) ∙ sym (item_value item f new scratch (take (a + b) rest));
+          dictionary = gives.settled.dictionary;
+        };
       },
     )
 

@@ -36,5 +36,6 @@ returns-in-Ok c = record {
       ∙ ap (reader_of s) (exponent-delta-turn l f p d)
       ∙ ap (λ r. reader_of s (of_result r >>= (λ e. stage_term l f p (behind_exponent_delta e)))) step
       ∙ ap (λ e. reader_of s (stage_term l f p (behind_exponent_delta e))) (sym (again w32 c.in-Ok.exponent exponent_fits))))
-      (unit_goes s (integer delta_range f.optional D2 give) (decimal_change f p) (reader_of s (field_term l f p true)) (ap (reader_of s) (exponent_delta_field l f p c.requires.decimals c.requires.delta)) (take n rest) x t);
+      (unit_goes s (integer delta_range f.optional D2 give) (decimal_change f p) (reader_of s (field_term l f p true))
+      (ap (reader_of s) (exponent_delta_field l f p c.requires.decimals c.requires.delta)) (take n rest) x t);
 }

@@ -32,7 +32,8 @@ returns-in_ok-number-in-Some-clause-unit c l scratch =
     let item = Some c.in_ok-number-in-Some.number in
     let exponent_fits : FitsSigned w32 e = search rules in
     let decided : IsDecided (mantissa_step f p e d) f old new (Ok (source_of item)) = search rules in
-    last_unit s (integer delta_range false D2 give) (mantissa_change f p e) (reader_of s (term_behind l f p (MantissaDelta e))) (ap (reader_of s) (mantissa_delta_field l f p e))
+    last_unit s (integer delta_range false D2 give) (mantissa_change f p e) (reader_of s (term_behind l f p (MantissaDelta e)))
+    (ap (reader_of s) (mantissa_delta_field l f p e))
     f [] c.args.rest.now old new scratch x n (mantissa_step f p e d) (Ok (source_of item))
     (ap (mantissa_change f p e) c.in-Some.is) decided
     (first_whole (λ y. y) s delta_range false D2 [] c.args.rest.now x n refl c.in_ok-delta.ensures)

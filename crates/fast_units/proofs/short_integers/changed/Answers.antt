@@ -16,7 +16,8 @@ returns-in-Ok-clause-decided c =
     let old = slots_dictionary c.args.slots.now in
     let p = previous_at f.entry old in
     let v = number_data c.in_ok-number.number in
-    let held : p ≡ assigned f.kind v = ap (λ e. previous_at e old) c.in_ok-entry.was ∙ sym c.held.ensures.1 ∙ c.in_ok-number.ensures c.held.ensures.0 ∙ ap (λ k. assigned k v) c.requires.kind in
+    let held : p ≡ assigned f.kind v = ap (λ e. previous_at e old) c.in_ok-entry.was ∙ sym c.held.ensures.1
+    ∙ c.in_ok-number.ensures c.held.ensures.0 ∙ ap (λ k. assigned k v) c.requires.kind in
     let own : base_integer f p ≡ Ok (integer_of v) = base_own f p v held in
     let inside : ranged (range_of c.args.kind) D2 (integer_of v +ℤ c.args.delta) ≡ Ok c.in-Ok.sum = search rules in
     let kept : value_of_integer c.args.kind c.in-Ok.sum ≡ number_data c.of_integer-number.result = search rules in
@@ -27,7 +28,9 @@ returns-in-Ok-clause-decided c =
     ∙ ap (λ r. r >>= (λ y. keeps c.args.kind (value_of_integer c.args.kind y))) inside
     ∙ ap (keeps c.args.kind) kept
     ∙ ap (λ k. keeps k (number_data c.of_integer-number.result)) c.requires.kind in
-    decided_as f old (slots_dictionary c.keep_integer.new.slots) (Ok (source_of (Some c.of_integer-number.result))) step (keep_decided f old (slots_dictionary c.keep_integer.new.slots) (number_data c.of_integer-number.result) (source_of (Some c.of_integer-number.result)) c.keep_integer.ensures.entry (item_value (Some c.of_integer-number.result) f))
+    decided_as f old (slots_dictionary c.keep_integer.new.slots) (Ok (source_of (Some c.of_integer-number.result))) step
+    (keep_decided f old (slots_dictionary c.keep_integer.new.slots) (number_data c.of_integer-number.result)
+    (source_of (Some c.of_integer-number.result)) c.keep_integer.ensures.entry (item_value (Some c.of_integer-number.result) f))
 
 pub returns-in_err-entry-clause-decided : goal.returns-in_err-entry-clause-decided
 returns-in_err-entry-clause-decided c = rw c.from_residual.ensures tt

@@ -19,9 +19,12 @@ returns-in_ok-number-in-Some-clause-unit c l scratch =
     let old = slots_dictionary c.args.slots.now in
     let p = previous_at f.entry old in
     let fits : FitsSigned w64 c.in-Some.delta = search rules in
-    delta_unit c.args.optional c.args.strict l f c.args.rest.now old (slots_dictionary c.changed.new.slots) scratch c.in_ok-delta.field-0 c.args.entity.len (integer_step f p c.in-Some.delta) (source_of (Some c.in_ok-number-in-Some.number))
+    delta_unit c.args.optional c.args.strict l f c.args.rest.now old
+    (slots_dictionary c.changed.new.slots) scratch c.in_ok-delta.field-0 c.args.entity.len (integer_step f p c.in-Some.delta)
+    (source_of (Some c.in_ok-number-in-Some.number))
     c.requires.optional c.requires.integers c.requires.delta c.in_ok-delta.ensures (ap (integer_change f p) c.in-Some.is)
-    (subst (λ d. IsDecided (integer_step f p d) f old (slots_dictionary c.changed.new.slots) (Ok (source_of (Some c.in_ok-number-in-Some.number)))) (again w64 c.in-Some.delta fits) c.in_ok-number-in-Some.ensures.decided)
+    (subst (λ d. IsDecided (integer_step f p d) f old (slots_dictionary c.changed.new.slots)
+    (Ok (source_of (Some c.in_ok-number-in-Some.number)))) (again w64 c.in-Some.delta fits) c.in_ok-number-in-Some.ensures.decided)
 
 pub returns-in-None-clause-unit : goal.returns-in-None-clause-unit
 returns-in-None-clause-unit c l scratch =

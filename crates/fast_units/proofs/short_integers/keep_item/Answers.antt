@@ -15,15 +15,19 @@ returns-in-None-clause-decided c =
     let f = field_data c.args.field.now in
     let old = slots_dictionary c.args.slots.now in
     let none = no_entry f c.requires.serves (keeps_none c.args.operator f.operator c.requires.operator c.in-None.is) in
-    item_decided f c.requires.serves c.requires.integers old old c.args.item c.requires.no_delta c.requires.no_constant (λ q. sym (ap (λ e. write_at e q old) none))
+    item_decided f c.requires.serves c.requires.integers old old c.args.item c.requires.no_delta c.requires.no_constant
+    (λ q. sym (ap (λ e. write_at e q old) none))
 
 pub returns-in-Some : goal.returns-in-Some
 returns-in-Some c =
     let f = field_data c.args.field.now in
     let old = slots_dictionary c.args.slots.now in
     record {
-      decided = subst (λ i. IsDecided (decide f (previous_at f.entry old) true (sent_number i)) f old (slots_dictionary c.keep_integer.new.slots) (Ok (source_of i))) (sym c.in-Some.is)
-          (value_decided f c.requires.serves (no_texts f c.requires.integers) old (slots_dictionary c.keep_integer.new.slots) (number_data c.in-Some.number) (source_of (Some c.in-Some.number)) c.requires.no_delta c.requires.no_constant c.keep_integer.ensures.entry (item_value (Some c.in-Some.number) f));
+      decided = subst (λ i. IsDecided (decide f (previous_at f.entry old) true (sent_number i)) f old
+          (slots_dictionary c.keep_integer.new.slots) (Ok (source_of i))) (sym c.in-Some.is)
+          (value_decided f c.requires.serves (no_texts f c.requires.integers) old (slots_dictionary c.keep_integer.new.slots)
+          (number_data c.in-Some.number) (source_of (Some c.in-Some.number)) c.requires.no_delta c.requires.no_constant
+          c.keep_integer.ensures.entry (item_value (Some c.in-Some.number) f));
       terms = c.keep_integer.ensures.terms;
     }
 
@@ -32,7 +36,9 @@ returns-in-None-item c =
     let f = field_data c.args.field.now in
     let old = slots_dictionary c.args.slots.now in
     record {
-      decided = subst (λ i. IsDecided (decide f (previous_at f.entry old) true (sent_number i)) f old (slots_dictionary c.assign_empty.new.slots) (Ok (source_of i))) (sym c.in-None-item.is)
-          (null_decided f c.requires.serves (no_texts f c.requires.integers) old (slots_dictionary c.assign_empty.new.slots) c.requires.no_delta c.requires.no_constant c.assign_empty.ensures.entry);
+      decided = subst (λ i. IsDecided (decide f (previous_at f.entry old) true (sent_number i)) f old
+          (slots_dictionary c.assign_empty.new.slots) (Ok (source_of i))) (sym c.in-None-item.is)
+          (null_decided f c.requires.serves (no_texts f c.requires.integers) old
+          (slots_dictionary c.assign_empty.new.slots) c.requires.no_delta c.requires.no_constant c.assign_empty.ensures.entry);
       terms = c.assign_empty.ensures.terms;
     }

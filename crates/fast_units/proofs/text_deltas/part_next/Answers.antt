@@ -16,5 +16,9 @@ returns-clause-step c limits scratch piece =
     let f = field_data c.args.field.now in
     let old = slots_dictionary c.args.slots.now in
     let p = previous_at f.entry old in
-    let step = sym c.in_ok-kept.ensures in
-    (refl, (c.requires.text, c.requires.delta, (_, step)), ap (reader_of limits.strict) (part_here (bounds limits) f p c.args.subtraction ∙ ap (λ (k : ℤ). term_behind (bounds limits) f p (Part k)) (sym (to_z-of_z w32 c.args.subtraction c.ranges.subtraction))))
+    let step = sym c.in_ok-kept.ensures in (
+      refl,
+      (c.requires.text, c.requires.delta, (_, step)),
+      ap (reader_of limits.strict) (part_here (bounds limits) f p c.args.subtraction
+          ∙ ap (λ (k : ℤ). term_behind (bounds limits) f p (Part k)) (sym (to_z-of_z w32 c.args.subtraction c.ranges.subtraction))),
+    )

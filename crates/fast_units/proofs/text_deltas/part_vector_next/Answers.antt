@@ -44,8 +44,10 @@ returns-clause-step c kept e scratch piece =
     let room : c.part_room-room.result ≡ l.max_text - kept_length kept = c.part_room-room.ensures.room kept (wrapped ∙ e) in
     let sized = subst (λ (most : ℕ). (if nat_le c.args.size most then Ok c.args.size else Err L1) ≡ Ok c.in_ok-size.size) room (sym c.in_ok-size.ensures) in
     let none = part_size_none l.strict (bounds l) f p kept c.args.size c.in_ok-size.size sized c.if-size-gt0.false in
-    subst (λ r. IsStepped l (reader_of l.strict (behind_part_size (bounds l) f p kept (Some (pos c.args.size)))) f old (slots_dictionary c.finish_part.new.slots) scratch piece r) (sym c.settled.ensures)
-    (stepped l _ f old (slots_dictionary c.finish_part.new.slots) scratch piece _ c.finish_part.result none (c.finish_part.ensures.field kept (wrapped ∙ e) scratch piece))
+    subst (λ r. IsStepped l (reader_of l.strict (behind_part_size (bounds l) f p kept (Some (pos c.args.size)))) f old
+    (slots_dictionary c.finish_part.new.slots) scratch piece r) (sym c.settled.ensures)
+    (stepped l _ f old (slots_dictionary c.finish_part.new.slots) scratch piece _ c.finish_part.result none
+    (c.finish_part.ensures.field kept (wrapped ∙ e) scratch piece))
 
 pub returns-in_err-size-clause-more : goal.returns-in_err-size-clause-more
 returns-in_err-size-clause-more c = rw ((err_from_is_err_and c.from_residual.result c.from_residual.ensures.1).1) tt
@@ -73,7 +75,8 @@ returns-in_err-size-clause-step c kept e scratch piece =
     let r = err_from_is_err_and c.from_residual.result c.from_residual.ensures.1 in
     let wrapped = ap (λ (x : ℤ). subtraction_step f p x) (to_z-of_z w32 c.args.subtraction c.ranges.subtraction) in
     let room : c.part_room-room.result ≡ l.max_text - kept_length kept = c.part_room-room.ensures.room kept (wrapped ∙ e) in
-    let sized = subst (λ (most : ℕ). (if nat_le c.args.size most then Ok c.args.size else Err L1) ≡ Err c.in_err-size.field-0.0) room (sym c.in_err-size.ensures) in
+    let sized = subst (λ (most : ℕ). (if nat_le c.args.size most then Ok c.args.size else Err L1) ≡ Err c.in_err-size.field-0.0) room
+    (sym c.in_err-size.ensures) in
     rw (r.1, r.2) (ap (reader_of l.strict) (part_size_wrong (bounds l) f p kept c.args.size c.in_err-size.field-0.0 sized))
 
 pub returns-in_err-size-clause-terms : goal.returns-in_err-size-clause-terms

@@ -30,7 +30,9 @@ next_ascii-requires-clause-open c =
     let k = c.args.subtraction in
     let (is_text, delta, found) = c.requires.stage in
     let (kept, step) = found in
-    let room : c.part_room-room.result ≡ l.max_text - kept_length kept = c.part_room-room.ensures.room kept (ap (λ (x : ℤ). subtraction_step f p x) (to_z-of_z w32 c.args.subtraction c.ranges.subtraction) ∙ step) in
+    let room : c.part_room-room.result ≡ l.max_text - kept_length kept =
+    c.part_room-room.ensures.room kept (ap (λ (x : ℤ). subtraction_step f p x) (to_z-of_z w32 c.args.subtraction c.ranges.subtraction)
+    ∙ step) in
     subst (λ (most : ℕ). ascii_phrase false most c.args.scratch.now.text [] cut) (sym room) (c.requires.open kept step)
 
 pub returns-in-Whole-true-default-clause-unit : goal.returns-in-Whole-true-default-clause-unit
@@ -42,18 +44,23 @@ returns-in-Whole-true-default-clause-unit c =
     let k = c.args.subtraction in
     let (is_text, delta, found) = c.requires.stage in
     let (kept, step) = found in
-    let room : c.part_room-room.result ≡ l.max_text - kept_length kept = c.part_room-room.ensures.room kept (ap (λ (x : ℤ). subtraction_step f p x) (to_z-of_z w32 c.args.subtraction c.ranges.subtraction) ∙ step) in
+    let room : c.part_room-room.result ≡ l.max_text - kept_length kept =
+    c.part_room-room.ensures.room kept (ap (λ (x : ℤ). subtraction_step f p x) (to_z-of_z w32 c.args.subtraction c.ranges.subtraction)
+    ∙ step) in
     let front = c.args.scratch.now.text in
     let g = ascii_text false c.part_room-room.result give in
     let here : reader_behind l f old (Part k) ≡ reader_of l.strict (g >>= part_change f p kept)
-    = ap (reader_of l.strict) (part_field (bounds l) f p k kept step c.requires.kind) ∙ ap (λ (most : ℕ). reader_of l.strict (ascii_text false most give >>= part_change f p kept)) (sym room) in
+    = ap (reader_of l.strict) (part_field (bounds l) f p k kept step c.requires.kind)
+    ∙ ap (λ (most : ℕ). reader_of l.strict (ascii_text false most give >>= part_change f p kept)) (sym room) in
     let text = c.next_ascii.new.scratch.text in
     let n = c.in-Whole-true-default.bytes in
     let x : Option (List ℕ) = text_or_null text c.in-Whole-true-default.field-0 in
     let i : x ≡ Some c.as_slice-part.result.now = ap (text_or_null text) c.in-Whole-true-default.field-0-test ∙ ap Some (sym c.as_slice-part.ensures) in
-    text_last l.strict g (part_change f p kept) (reader_behind l f old (Part k)) here f front c.args.rest.now old (slots_dictionary c.finish_part.new.slots) text n x (c.in-Whole-true-default.ensures.unit l.strict)
+    text_last l.strict g (part_change f p kept) (reader_behind l f old (Part k)) here f front c.args.rest.now old
+    (slots_dictionary c.finish_part.new.slots) text n x (c.in-Whole-true-default.ensures.unit l.strict)
     (text_step f kept c.as_slice-part.result.now) c.finish_part.result c.answered.result c.answered.ensures (ap (part_change f p kept) i)
-    (c.finish_part.ensures.field kept (ap (λ (z : ℤ). subtraction_step f p z) (to_z-of_z w32 c.args.subtraction c.ranges.subtraction) ∙ step) text (take n c.args.rest.now))
+    (c.finish_part.ensures.field kept (ap (λ (z : ℤ). subtraction_step f p z) (to_z-of_z w32 c.args.subtraction c.ranges.subtraction)
+    ∙ step) text (take n c.args.rest.now))
 
 pub returns-in-Whole-false-default-clause-unit : goal.returns-in-Whole-false-default-clause-unit
 returns-in-Whole-false-default-clause-unit c =
@@ -64,17 +71,22 @@ returns-in-Whole-false-default-clause-unit c =
     let k = c.args.subtraction in
     let (is_text, delta, found) = c.requires.stage in
     let (kept, step) = found in
-    let room : c.part_room-room.result ≡ l.max_text - kept_length kept = c.part_room-room.ensures.room kept (ap (λ (x : ℤ). subtraction_step f p x) (to_z-of_z w32 c.args.subtraction c.ranges.subtraction) ∙ step) in
+    let room : c.part_room-room.result ≡ l.max_text - kept_length kept =
+    c.part_room-room.ensures.room kept (ap (λ (x : ℤ). subtraction_step f p x) (to_z-of_z w32 c.args.subtraction c.ranges.subtraction)
+    ∙ step) in
     let front = c.args.scratch.now.text in
     let g = ascii_text false c.part_room-room.result give in
     let here : reader_behind l f old (Part k) ≡ reader_of l.strict (g >>= part_change f p kept)
-    = ap (reader_of l.strict) (part_field (bounds l) f p k kept step c.requires.kind) ∙ ap (λ (most : ℕ). reader_of l.strict (ascii_text false most give >>= part_change f p kept)) (sym room) in
+    = ap (reader_of l.strict) (part_field (bounds l) f p k kept step c.requires.kind)
+    ∙ ap (λ (most : ℕ). reader_of l.strict (ascii_text false most give >>= part_change f p kept)) (sym room) in
     let text = c.next_ascii.new.scratch.text in
     let n = c.in-Whole-false-default.bytes in
     let x : Option (List ℕ) = text_or_null text c.in-Whole-false-default.field-0 in
     let i : x ≡ None = ap (text_or_null text) c.in-Whole-false-default.field-0-test in
-    text_last l.strict g (part_change f p kept) (reader_behind l f old (Part k)) here f front c.args.rest.now old (slots_dictionary c.finish_absent.new.slots) text n x (c.in-Whole-false-default.ensures.unit l.strict)
-    (decide f p true null) (Ok c.finish_absent.result) _ refl (ap (part_change f p kept) i ∙ delta_null f p delta) (c.finish_absent.ensures.field text (take n c.args.rest.now))
+    text_last l.strict g (part_change f p kept) (reader_behind l f old (Part k)) here f front c.args.rest.now old
+    (slots_dictionary c.finish_absent.new.slots) text n x (c.in-Whole-false-default.ensures.unit l.strict)
+    (decide f p true null) (Ok c.finish_absent.result) _ refl (ap (part_change f p kept) i ∙ delta_null f p delta)
+    (c.finish_absent.ensures.field text (take n c.args.rest.now))
 
 pub returns-in-Wrong-clause-unit : goal.returns-in-Wrong-clause-unit
 returns-in-Wrong-clause-unit c =
@@ -85,14 +97,21 @@ returns-in-Wrong-clause-unit c =
     let k = c.args.subtraction in
     let (is_text, delta, found) = c.requires.stage in
     let (kept, step) = found in
-    let room : c.part_room-room.result ≡ l.max_text - kept_length kept = c.part_room-room.ensures.room kept (ap (λ (x : ℤ). subtraction_step f p x) (to_z-of_z w32 c.args.subtraction c.ranges.subtraction) ∙ step) in
+    let room : c.part_room-room.result ≡ l.max_text - kept_length kept =
+    c.part_room-room.ensures.room kept (ap (λ (x : ℤ). subtraction_step f p x) (to_z-of_z w32 c.args.subtraction c.ranges.subtraction)
+    ∙ step) in
     let front = c.args.scratch.now.text in
     let g = ascii_text false c.part_room-room.result give in
     let here : reader_behind l f old (Part k) ≡ reader_of l.strict (g >>= part_change f p kept)
-    = ap (reader_of l.strict) (part_field (bounds l) f p k kept step c.requires.kind) ∙ ap (λ (most : ℕ). reader_of l.strict (ascii_text false most give >>= part_change f p kept)) (sym room) in
+    = ap (reader_of l.strict) (part_field (bounds l) f p k kept step c.requires.kind)
+    ∙ ap (λ (most : ℕ). reader_of l.strict (ascii_text false most give >>= part_change f p kept)) (sym room) in
     let text = c.next_ascii.new.scratch.text in
-    let (some, within, turns) = c.in-Wrong.ensures.unit l.strict in
-    (some, within, unit_stops l.strict g (part_change f p kept) (reader_behind l f old (Part k)) here (front ++ take c.in-Wrong.bytes c.args.rest.now) c.in-Wrong.code turns)
+    let (some, within, turns) = c.in-Wrong.ensures.unit l.strict in (
+      some,
+      within,
+      unit_stops l.strict g (part_change f p kept) (reader_behind l f old (Part k)) here
+          (front ++ take c.in-Wrong.bytes c.args.rest.now) c.in-Wrong.code turns,
+    )
 
 pub returns-in-Cut-clause-unit : goal.returns-in-Cut-clause-unit
 returns-in-Cut-clause-unit c =
@@ -103,11 +122,14 @@ returns-in-Cut-clause-unit c =
     let k = c.args.subtraction in
     let (is_text, delta, found) = c.requires.stage in
     let (kept, step) = found in
-    let room : c.part_room-room.result ≡ l.max_text - kept_length kept = c.part_room-room.ensures.room kept (ap (λ (x : ℤ). subtraction_step f p x) (to_z-of_z w32 c.args.subtraction c.ranges.subtraction) ∙ step) in
+    let room : c.part_room-room.result ≡ l.max_text - kept_length kept =
+    c.part_room-room.ensures.room kept (ap (λ (x : ℤ). subtraction_step f p x) (to_z-of_z w32 c.args.subtraction c.ranges.subtraction)
+    ∙ step) in
     let front = c.args.scratch.now.text in
     let g = ascii_text false c.part_room-room.result give in
     let here : reader_behind l f old (Part k) ≡ reader_of l.strict (g >>= part_change f p kept)
-    = ap (reader_of l.strict) (part_field (bounds l) f p k kept step c.requires.kind) ∙ ap (λ (most : ℕ). reader_of l.strict (ascii_text false most give >>= part_change f p kept)) (sym room) in
+    = ap (reader_of l.strict) (part_field (bounds l) f p k kept step c.requires.kind)
+    ∙ ap (λ (most : ℕ). reader_of l.strict (ascii_text false most give >>= part_change f p kept)) (sym room) in
     let text = c.next_ascii.new.scratch.text in
     (unit_stays l.strict g (part_change f p kept) (reader_behind l f old (Part k)) here (front ++ c.args.rest.now) (c.in-Cut.ensures.unit l.strict), refl)
 
@@ -129,7 +151,8 @@ next_ascii-requires-clause-some c =
 
 pub finish_part-requires-clause-fits : goal.finish_part-requires-clause-fits
 finish_part-requires-clause-fits c kept step =
-    let whole = c.in-Whole-true-default.ensures.text c.in-Whole-true-default.bytes (ap (λ t. Whole t c.in-Whole-true-default.bytes) c.in-Whole-true-default.field-0-test) in
+    let whole = c.in-Whole-true-default.ensures.text c.in-Whole-true-default.bytes
+    (ap (λ t. Whole t c.in-Whole-true-default.bytes) c.in-Whole-true-default.field-0-test) in
     let room = c.part_room-room.ensures.room kept step in
     let most = c.requires.limit.0 in
     rw c.as_slice-part.ensures (omega (arith, whole, room, most))

@@ -25,7 +25,9 @@ pub size_of-size-requires : goal.size_of-size-requires
 size_of-size-requires c =
     let l = c.args.limits in
     let (some, within, turns) = c.in-Whole.ensures.unit in
-    let in_range = number_within l.strict (unsigned_range 32) (unsigned_range 32) false D2 (c.args.pending.now.bytes ++ take c.in-Whole.bytes c.args.rest.now) (Some (pos c.in-Whole.size)) (pos c.in-Whole.size) refl refl turns in
+    let in_range = number_within l.strict (unsigned_range 32) (unsigned_range 32) false D2
+    (c.args.pending.now.bytes ++ take c.in-Whole.bytes c.args.rest.now) (Some (pos c.in-Whole.size))
+    (pos c.in-Whole.size) refl refl turns in
     let same = ap (λ (z : ℤ). to_z w128 (of_z w128 z)) c.from.ensures ∙ size_again (pos c.in-Whole.size) in_range in
     subst (λ (z : ℤ). IsWithin (unsigned_range 32) z) (sym same) in_range
 
@@ -43,14 +45,19 @@ returns-in-Whole-clause-unit c scratch =
     let g = integer (unsigned_range 32) false D2 give in
     let next : Option ℤ → Grammar _ = behind_part_size (bounds l) f p kept in
     let (some, within, turns) = c.in-Whole.ensures.unit in
-    let in_range = number_within l.strict (unsigned_range 32) (unsigned_range 32) false D2 (c.args.pending.now.bytes ++ take c.in-Whole.bytes c.args.rest.now) (Some (pos c.in-Whole.size)) (pos c.in-Whole.size) refl refl turns in
+    let in_range = number_within l.strict (unsigned_range 32) (unsigned_range 32) false D2
+    (c.args.pending.now.bytes ++ take c.in-Whole.bytes c.args.rest.now) (Some (pos c.in-Whole.size))
+    (pos c.in-Whole.size) refl refl turns in
     let same = ap (λ (z : ℤ). to_z w128 (of_z w128 z)) c.from.ensures ∙ size_again (pos c.in-Whole.size) in_range in
     let n = c.in-Whole.bytes in
-    text_next l g next (reader_behind l f old (Part k)) here f front c.args.rest.now old (slots_dictionary c.part_vector_next.new.slots) scratch n (Some (pos c.in-Whole.size)) c.in-Whole.ensures.unit
+    text_next l g next (reader_behind l f old (Part k)) here f front c.args.rest.now old
+    (slots_dictionary c.part_vector_next.new.slots) scratch n (Some (pos c.in-Whole.size)) c.in-Whole.ensures.unit
     c.part_vector_next.result c.answered.result c.answered.ensures
-    (subst (λ (x : ℤ). IsStepped l (reader_of l.strict (next (Some x))) f old (slots_dictionary c.part_vector_next.new.slots) scratch (take n c.args.rest.now) c.part_vector_next.result)
+    (subst (λ (x : ℤ). IsStepped l (reader_of l.strict (next (Some x))) f old (slots_dictionary c.part_vector_next.new.slots) scratch
+    (take n c.args.rest.now) c.part_vector_next.result)
     (c.size_of-size.ensures ∙ same)
-    (c.part_vector_next.ensures.step kept (ap (λ (x : ℤ). subtraction_step f p x) (to_z-of_z w32 c.args.subtraction c.ranges.subtraction) ∙ step) scratch (take n c.args.rest.now)))
+    (c.part_vector_next.ensures.step kept (ap (λ (x : ℤ). subtraction_step f p x) (to_z-of_z w32 c.args.subtraction c.ranges.subtraction)
+    ∙ step) scratch (take n c.args.rest.now)))
 
 pub returns-in-Wrong-clause-unit : goal.returns-in-Wrong-clause-unit
 returns-in-Wrong-clause-unit c scratch =
@@ -84,7 +91,8 @@ returns-in-Cut-clause-unit c scratch =
     (unit_stays l.strict g next (reader_behind l f old (Part k)) here (front ++ c.args.rest.now) c.in-Cut.ensures.unit, refl)
 
 pub returns-in-Whole-clause-more : goal.returns-in-Whole-clause-more
-returns-in-Whole-clause-more c step n e = answered_more HasBytes c.part_vector_next.result c.in-Whole.bytes c.part_vector_next.ensures.more step n (sym c.answered.ensures ∙ e)
+returns-in-Whole-clause-more c step n e = answered_more HasBytes c.part_vector_next.result c.in-Whole.bytes c.part_vector_next.ensures.more
+    step n (sym c.answered.ensures ∙ e)
 
 pub returns-in-Whole-clause-cut : goal.returns-in-Whole-clause-cut
 returns-in-Whole-clause-cut c e = absurd (answered_whole c.part_vector_next.result c.in-Whole.bytes (sym c.answered.ensures ∙ e))
@@ -117,7 +125,8 @@ pub part_vector_next-requires-clause-joined : goal.part_vector_next-requires-cla
 part_vector_next-requires-clause-joined c = c.requires.joined
 
 pub returns-in-Wrong-clause-whole : goal.returns-in-Wrong-clause-whole
-returns-in-Wrong-clause-whole c step n e = answered_more {T = FieldStep} (λ s. c.next_unsigned.new.pending.bytes ≡ []) (Err c.in-Wrong.code) c.in-Wrong.bytes tt step n e
+returns-in-Wrong-clause-whole c step n e = answered_more {T = FieldStep} (λ s. c.next_unsigned.new.pending.bytes ≡ [])
+    (Err c.in-Wrong.code) c.in-Wrong.bytes tt step n e
 
 pub returns-in-Whole-clause-terms : goal.returns-in-Whole-clause-terms
 returns-in-Whole-clause-terms c = c.part_vector_next.ensures.terms

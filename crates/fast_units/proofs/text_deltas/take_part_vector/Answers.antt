@@ -36,9 +36,13 @@ finish_part-requires-clause-fits c other e =
     let (is_text, not_ascii, delta, found) = c.requires.stage in
     let (kept, step, fits) = found in
     let (some, within, turns, len) = c.in-Whole-Piece-default.ensures.unit c.args.limits.strict in
-    let is : length (run_at c.in-Whole-Piece-default.field-0 c.next_raw.new.scratch.text (take c.in-Whole-Piece-default.bytes c.args.rest.now)) ≡ length (run_at Piece c.next_raw.new.scratch.text (take c.in-Whole-Piece-default.bytes c.args.rest.now))
-    = ap (λ (r : Run). length (run_at r c.next_raw.new.scratch.text (take c.in-Whole-Piece-default.bytes c.args.rest.now))) c.in-Whole-Piece-default.field-0-is in
-    let same : kept ≡ other = one_kept kept other step (ap (λ (x : ℤ). subtraction_step f p x) (sym (to_z-of_z w32 c.args.subtraction c.ranges.subtraction)) ∙ e) in
+    let is : length (run_at c.in-Whole-Piece-default.field-0 c.next_raw.new.scratch.text
+    (take c.in-Whole-Piece-default.bytes c.args.rest.now)) ≡ length
+    (run_at Piece c.next_raw.new.scratch.text (take c.in-Whole-Piece-default.bytes c.args.rest.now))
+    = ap (λ (r : Run). length (run_at r c.next_raw.new.scratch.text (take c.in-Whole-Piece-default.bytes c.args.rest.now)))
+    c.in-Whole-Piece-default.field-0-is in
+    let same : kept ≡ other = one_kept kept other step (ap (λ (x : ℤ). subtraction_step f p x)
+    (sym (to_z-of_z w32 c.args.subtraction c.ranges.subtraction)) ∙ e) in
     let most = c.requires.limit.0 in
     let kepts : kept_length kept ≡ kept_length other = ap kept_length same in
     omega (arith, len, is, fits, most, kepts)
@@ -53,9 +57,13 @@ finish_part-requires-in-Whole-Scratch-default-clause-fits c other e =
     let (is_text, not_ascii, delta, found) = c.requires.stage in
     let (kept, step, fits) = found in
     let (some, within, turns, len) = c.in-Whole-Scratch-default.ensures.unit c.args.limits.strict in
-    let is : length (run_at c.in-Whole-Scratch-default.field-0 c.next_raw.new.scratch.text (take c.in-Whole-Scratch-default.bytes c.args.rest.now)) ≡ length (run_at Scratch c.next_raw.new.scratch.text (take c.in-Whole-Scratch-default.bytes c.args.rest.now))
-    = ap (λ (r : Run). length (run_at r c.next_raw.new.scratch.text (take c.in-Whole-Scratch-default.bytes c.args.rest.now))) c.in-Whole-Scratch-default.field-0-is in
-    let same : kept ≡ other = one_kept kept other step (ap (λ (x : ℤ). subtraction_step f p x) (sym (to_z-of_z w32 c.args.subtraction c.ranges.subtraction)) ∙ e) in
+    let is : length (run_at c.in-Whole-Scratch-default.field-0 c.next_raw.new.scratch.text
+    (take c.in-Whole-Scratch-default.bytes c.args.rest.now)) ≡ length
+    (run_at Scratch c.next_raw.new.scratch.text (take c.in-Whole-Scratch-default.bytes c.args.rest.now))
+    = ap (λ (r : Run). length (run_at r c.next_raw.new.scratch.text (take c.in-Whole-Scratch-default.bytes c.args.rest.now)))
+    c.in-Whole-Scratch-default.field-0-is in
+    let same : kept ≡ other = one_kept kept other step (ap (λ (x : ℤ). subtraction_step f p x)
+    (sym (to_z-of_z w32 c.args.subtraction c.ranges.subtraction)) ∙ e) in
     let most = c.requires.limit.0 in
     let kepts : kept_length kept ≡ kept_length other = ap kept_length same in
     rw c.as_slice-part.ensures (omega (arith, len, is, fits, most, kepts))
@@ -78,9 +86,11 @@ returns-in-Whole-Piece-default-clause-unit c =
     let (some, within, turns, len) = c.in-Whole-Piece-default.ensures.unit l.strict in
     let x : List ℕ = run_at c.in-Whole-Piece-default.field-0 text (take n c.args.rest.now) in
     let i : x ≡ (take n c.args.rest.now) = ap (λ (r : Run). run_at r text (take n c.args.rest.now)) c.in-Whole-Piece-default.field-0-is in
-    text_last l.strict g then (reader_behind l f old (PartVector k c.args.size)) here f front c.args.rest.now old (slots_dictionary c.finish_part.new.slots) text n x (some, within, turns)
+    text_last l.strict g then (reader_behind l f old (PartVector k c.args.size)) here f front c.args.rest.now old
+    (slots_dictionary c.finish_part.new.slots) text n x (some, within, turns)
     (text_step f kept (take n c.args.rest.now)) c.finish_part.result c.answered.result c.answered.ensures (ap then i)
-    (c.finish_part.ensures.field kept (ap (λ (z : ℤ). subtraction_step f p z) (to_z-of_z w32 c.args.subtraction c.ranges.subtraction) ∙ step) text (take n c.args.rest.now))
+    (c.finish_part.ensures.field kept (ap (λ (z : ℤ). subtraction_step f p z) (to_z-of_z w32 c.args.subtraction c.ranges.subtraction)
+    ∙ step) text (take n c.args.rest.now))
 
 pub returns-in-Whole-Scratch-default-clause-unit : goal.returns-in-Whole-Scratch-default-clause-unit
 returns-in-Whole-Scratch-default-clause-unit c =
@@ -99,10 +109,15 @@ returns-in-Whole-Scratch-default-clause-unit c =
     let n = c.in-Whole-Scratch-default.bytes in
     let (some, within, turns, len) = c.in-Whole-Scratch-default.ensures.unit l.strict in
     let x : List ℕ = run_at c.in-Whole-Scratch-default.field-0 text (take n c.args.rest.now) in
-    let i : x ≡ c.as_slice-part.result.now = ap (λ (r : Run). run_at r text (take n c.args.rest.now)) c.in-Whole-Scratch-default.field-0-is ∙ sym c.as_slice-part.ensures in
-    text_last l.strict g then (reader_behind l f old (PartVector k c.args.size)) here f front c.args.rest.now old (slots_dictionary c.finish_part-in-Whole-Scratch-default.new.slots) text n x (some, within, turns)
-    (text_step f kept c.as_slice-part.result.now) c.finish_part-in-Whole-Scratch-default.result c.answered-in-Whole-Scratch-default.result c.answered-in-Whole-Scratch-default.ensures (ap then i)
-    (c.finish_part-in-Whole-Scratch-default.ensures.field kept (ap (λ (z : ℤ). subtraction_step f p z) (to_z-of_z w32 c.args.subtraction c.ranges.subtraction) ∙ step) text (take n c.args.rest.now))
+    let i : x ≡ c.as_slice-part.result.now = ap (λ (r : Run). run_at r text (take n c.args.rest.now)) c.in-Whole-Scratch-default.field-0-is
+    ∙ sym c.as_slice-part.ensures in
+    text_last l.strict g then (reader_behind l f old (PartVector k c.args.size)) here f front c.args.rest.now old
+    (slots_dictionary c.finish_part-in-Whole-Scratch-default.new.slots) text n x (some, within, turns)
+    (text_step f kept c.as_slice-part.result.now) c.finish_part-in-Whole-Scratch-default.result c.answered-in-Whole-Scratch-default.result
+    c.answered-in-Whole-Scratch-default.ensures (ap then i)
+    (c.finish_part-in-Whole-Scratch-default.ensures.field kept
+    (ap (λ (z : ℤ). subtraction_step f p z) (to_z-of_z w32 c.args.subtraction c.ranges.subtraction) ∙ step) text
+    (take n c.args.rest.now))
 
 pub returns-in-Wrong-clause-unit : goal.returns-in-Wrong-clause-unit
 returns-in-Wrong-clause-unit c =
@@ -134,7 +149,9 @@ pub returns-in-Whole-Piece-default-clause-cut : goal.returns-in-Whole-Piece-defa
 returns-in-Whole-Piece-default-clause-cut c e = absurd (answered_whole c.finish_part.result c.in-Whole-Piece-default.bytes (sym c.answered.ensures ∙ e))
 
 pub returns-in-Whole-Scratch-default-clause-cut : goal.returns-in-Whole-Scratch-default-clause-cut
-returns-in-Whole-Scratch-default-clause-cut c e = absurd (answered_whole c.finish_part-in-Whole-Scratch-default.result c.in-Whole-Scratch-default.bytes (sym c.answered-in-Whole-Scratch-default.ensures ∙ e))
+returns-in-Whole-Scratch-default-clause-cut c e = absurd
+    (answered_whole c.finish_part-in-Whole-Scratch-default.result c.in-Whole-Scratch-default.bytes
+    (sym c.answered-in-Whole-Scratch-default.ensures ∙ e))
 
 pub returns-in-Wrong-clause-cut : goal.returns-in-Wrong-clause-cut
 returns-in-Wrong-clause-cut c e = absurd (answered_whole {T = ValueSource} (Err c.in-Wrong.code) c.in-Wrong.bytes e)

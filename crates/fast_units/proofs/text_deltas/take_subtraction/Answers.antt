@@ -26,7 +26,9 @@ length_of-requires c =
     let l = c.args.limits in
     let f = field_data c.args.field.now in
     let (some, within, turns) = c.in-Whole-Some-default.ensures.unit in
-    let in_range = number_within l.strict (signed_range 31) (signed_range 31) f.optional D7 (c.args.pending.now.bytes ++ take c.in-Whole-Some-default.bytes c.args.rest.now) c.in-Whole-Some-default.field-0 c.in-Whole-Some-default.length refl c.in-Whole-Some-default.field-0-is turns in
+    let in_range = number_within l.strict (signed_range 31) (signed_range 31) f.optional D7
+    (c.args.pending.now.bytes ++ take c.in-Whole-Some-default.bytes c.args.rest.now) c.in-Whole-Some-default.field-0
+    c.in-Whole-Some-default.length refl c.in-Whole-Some-default.field-0-is turns in
     subst (λ (z : ℤ). IsWithin (signed_range 31) z) (sym (length_again c.in-Whole-Some-default.length in_range)) in_range
 
 pub returns-in-Whole-Some-default-clause-unit : goal.returns-in-Whole-Some-default-clause-unit
@@ -40,13 +42,17 @@ returns-in-Whole-Some-default-clause-unit c scratch =
     let g = integer (signed_range 31) f.optional D7 give in
     let next : Option ℤ → Grammar _ = text_change (bounds l) f p in
     let (some, within, turns) = c.in-Whole-Some-default.ensures.unit in
-    let in_range = number_within l.strict (signed_range 31) (signed_range 31) f.optional D7 (c.args.pending.now.bytes ++ take c.in-Whole-Some-default.bytes c.args.rest.now) c.in-Whole-Some-default.field-0 c.in-Whole-Some-default.length refl c.in-Whole-Some-default.field-0-is turns in
+    let in_range = number_within l.strict (signed_range 31) (signed_range 31) f.optional D7
+    (c.args.pending.now.bytes ++ take c.in-Whole-Some-default.bytes c.args.rest.now) c.in-Whole-Some-default.field-0
+    c.in-Whole-Some-default.length refl c.in-Whole-Some-default.field-0-is turns in
     let is = c.length_of.ensures ∙ length_again c.in-Whole-Some-default.length in_range in
     let n = c.in-Whole-Some-default.bytes in
-    text_next l g next (first_reader l f old) here f front c.args.rest.now old old scratch n c.in-Whole-Some-default.field-0 c.in-Whole-Some-default.ensures.unit
+    text_next l g next (first_reader l f old) here f front c.args.rest.now old old scratch n c.in-Whole-Some-default.field-0
+    c.in-Whole-Some-default.ensures.unit
     c.part_next.result c.answered.result c.answered.ensures
     (subst (λ (x : Option ℤ). IsStepped l (reader_of l.strict (next x)) f old old scratch (take n c.args.rest.now) c.part_next.result)
-    (ap Some (ap (λ (z : ℤ). to_z w32 (of_z w32 z)) is ∙ length_narrow c.in-Whole-Some-default.length in_range) ∙ sym c.in-Whole-Some-default.field-0-is) (c.part_next.ensures.step l scratch (take n c.args.rest.now)))
+    (ap Some (ap (λ (z : ℤ). to_z w32 (of_z w32 z)) is ∙ length_narrow c.in-Whole-Some-default.length in_range)
+    ∙ sym c.in-Whole-Some-default.field-0-is) (c.part_next.ensures.step l scratch (take n c.args.rest.now)))
 
 pub returns-in-Whole-None-default-clause-unit : goal.returns-in-Whole-None-default-clause-unit
 returns-in-Whole-None-default-clause-unit c scratch =
@@ -59,8 +65,10 @@ returns-in-Whole-None-default-clause-unit c scratch =
     let g = integer (signed_range 31) f.optional D7 give in
     let next : Option ℤ → Grammar _ = text_change (bounds l) f p in
     let n = c.in-Whole-None-default.bytes in
-    text_settled l g next (first_reader l f old) here f front c.args.rest.now old (slots_dictionary c.finish_absent.new.slots) scratch n c.in-Whole-None-default.field-0 c.in-Whole-None-default.ensures.unit
-    (decide f p true null) c.finish_absent.result (ap next c.in-Whole-None-default.field-0-is ∙ delta_null f p c.requires.delta) (c.finish_absent.ensures.field scratch (take n c.args.rest.now))
+    text_settled l g next (first_reader l f old) here f front c.args.rest.now old
+    (slots_dictionary c.finish_absent.new.slots) scratch n c.in-Whole-None-default.field-0 c.in-Whole-None-default.ensures.unit
+    (decide f p true null) c.finish_absent.result (ap next c.in-Whole-None-default.field-0-is ∙ delta_null f p c.requires.delta)
+    (c.finish_absent.ensures.field scratch (take n c.args.rest.now))
 
 pub returns-in-Wrong-clause-unit : goal.returns-in-Wrong-clause-unit
 returns-in-Wrong-clause-unit c scratch =
@@ -88,7 +96,8 @@ returns-in-Cut-clause-unit c scratch =
     (unit_stays l.strict g next (first_reader l f old) here (front ++ c.args.rest.now) c.in-Cut.ensures.unit, refl)
 
 pub returns-in-Whole-Some-default-clause-more : goal.returns-in-Whole-Some-default-clause-more
-returns-in-Whole-Some-default-clause-more c step n e = answered_more HasBytes c.part_next.result c.in-Whole-Some-default.bytes c.part_next.ensures.more step n (sym c.answered.ensures ∙ e)
+returns-in-Whole-Some-default-clause-more c step n e = answered_more HasBytes c.part_next.result c.in-Whole-Some-default.bytes
+    c.part_next.ensures.more step n (sym c.answered.ensures ∙ e)
 
 pub returns-in-Whole-Some-default-clause-cut : goal.returns-in-Whole-Some-default-clause-cut
 returns-in-Whole-Some-default-clause-cut c e = absurd (answered_whole c.part_next.result c.in-Whole-Some-default.bytes (sym c.answered.ensures ∙ e))
@@ -127,7 +136,8 @@ pub finish_absent-requires-clause-serves : goal.finish_absent-requires-clause-se
 finish_absent-requires-clause-serves c = c.requires.serves
 
 pub returns-in-Wrong-clause-whole : goal.returns-in-Wrong-clause-whole
-returns-in-Wrong-clause-whole c step n e = answered_more {T = FieldStep} (λ s. c.next_integer.new.pending.bytes ≡ []) (Err c.in-Wrong.code) c.in-Wrong.bytes tt step n e
+returns-in-Wrong-clause-whole c step n e = answered_more {T = FieldStep} (λ s. c.next_integer.new.pending.bytes ≡ [])
+    (Err c.in-Wrong.code) c.in-Wrong.bytes tt step n e
 
 pub returns-in-Whole-Some-default-clause-terms : goal.returns-in-Whole-Some-default-clause-terms
 returns-in-Whole-Some-default-clause-terms c = refl

@@ -6,8 +6,11 @@ use Rattle.fast_units.proofs.text_outcomes.finish_absent.Goals as goal
 
 pub returns-then-null_empties-clause-field : goal.returns-then-null_empties-clause-field
 returns-then-null_empties-clause-field c scratch piece =
-    absent_emptied (field_data c.args.field.now) (slots_dictionary c.args.slots.now) (slots_dictionary c.assign_empty.new.slots) scratch piece c.requires.sent (sym c.if-null_empties.ensures) c.assign_empty.ensures.entry
+    absent_emptied (field_data c.args.field.now) (slots_dictionary c.args.slots.now)
+    (slots_dictionary c.assign_empty.new.slots) scratch piece c.requires.sent
+    (sym c.if-null_empties.ensures) c.assign_empty.ensures.entry
 
 pub returns-else-null_empties-clause-field : goal.returns-else-null_empties-clause-field
 returns-else-null_empties-clause-field c scratch piece =
-    absent_left (field_data c.args.field.now) (slots_dictionary c.args.slots.now) (slots_dictionary c.args.slots.now) scratch piece c.requires.sent (sym c.if-null_empties.ensures) refl
+    absent_left (field_data c.args.field.now) (slots_dictionary c.args.slots.now)
+    (slots_dictionary c.args.slots.now) scratch piece c.requires.sent (sym c.if-null_empties.ensures) refl

@@ -11,7 +11,11 @@ returns-in-Copy-clause-field c scratch piece h =
     let f = field_data c.args.field.now in
     let old = slots_dictionary c.args.slots.now in
     decided_as f old (slots_dictionary c.keep.new.slots) scratch piece c.keep.result
-    (elim c.in-Copy.is [ inl e ↦ decided_copy f (previous_at f.entry old) c.args.text.now c.requires.text e | inr e ↦ decided_increment f (previous_at f.entry old) c.args.text.now c.requires.text e ])
+    (elim c.in-Copy.is [
+      | inl e ↦ decided_copy f (previous_at f.entry old) c.args.text.now c.requires.text e
+      | inr e ↦ decided_increment f
+          (previous_at f.entry old) c.args.text.now c.requires.text e
+    ])
     (c.keep.ensures.field scratch piece)
 
 pub returns-in-Tail-clause-field : goal.returns-in-Tail-clause-field
@@ -25,7 +29,8 @@ returns-in_ok-checked_text-in_default c =
     let e = sym c.in_ok-checked_text-in_default.ensures in
     record {
       field = λ scratch piece h. decided_as f old old scratch piece (Ok c.args.place)
-          (decided_plain f (previous_at f.entry old) c.args.text.now c.requires.text c.requires.sent c.requires.whole (not_emptied f.operator c.in_default.not-Copy c.in_default.not-Increment c.in_default.not-Tail))
+          (decided_plain f (previous_at f.entry old) c.args.text.now c.requires.text c.requires.sent c.requires.whole
+          (not_emptied f.operator c.in_default.not-Copy c.in_default.not-Increment c.in_default.not-Tail))
           (text_given f old old scratch piece c.args.place c.args.text.now v e (checked_is f.kind c.args.text.now v e) h refl);
       terms = refl;
       capacity = refl;

@@ -7,7 +7,8 @@ use Rattle.fast_units.proofs.text_outcomes.join_tail.Goals as goal
 
 pub append-requires : goal.append-requires
 append-requires c =
-    let h = tail_together c.args.slots.now (field_data c.args.field.now) c.requires.serves c.requires.text c.requires.keeps (scalar_data c.in_ok-tail_base.field-0) c.tail_keeps.result.now c.args.part.now
+    let h = tail_together c.args.slots.now (field_data c.args.field.now) c.requires.serves c.requires.text c.requires.keeps
+    (scalar_data c.in_ok-tail_base.field-0) c.tail_keeps.result.now c.args.part.now
     (sym (c.in_ok-tail_base.ensures ∙ ap (tail_base (field_data c.args.field.now)) c.previous.ensures))
     (ap (λ (b : List ℕ). with_tail b c.args.part.now) (sym c.text_of-base.ensures) ∙ c.tail_keeps.ensures c.args.part.now refl) c.requires.fits in
     let r = c.requires.room in
@@ -15,7 +16,8 @@ append-requires c =
 
 pub append-requires-2 : goal.append-requires-2
 append-requires-2 c =
-    let h = tail_together c.args.slots.now (field_data c.args.field.now) c.requires.serves c.requires.text c.requires.keeps (scalar_data c.in_ok-tail_base.field-0) c.tail_keeps.result.now c.args.part.now
+    let h = tail_together c.args.slots.now (field_data c.args.field.now) c.requires.serves c.requires.text c.requires.keeps
+    (scalar_data c.in_ok-tail_base.field-0) c.tail_keeps.result.now c.args.part.now
     (sym (c.in_ok-tail_base.ensures ∙ ap (tail_base (field_data c.args.field.now)) c.previous.ensures))
     (ap (λ (b : List ℕ). with_tail b c.args.part.now) (sym c.text_of-base.ensures) ∙ c.tail_keeps.ensures c.args.part.now refl) c.requires.fits in
     let r = c.requires.room in
@@ -24,6 +26,7 @@ append-requires-2 c =
 pub returns-clause-fits : goal.returns-clause-fits
 returns-clause-fits c e =
     rw (c.append-2.ensures.text, c.append.ensures.text, c.clear.ensures.text, length-append c.tail_keeps.result.now c.args.part.now)
-    (tail_together c.args.slots.now (field_data c.args.field.now) c.requires.serves c.requires.text c.requires.keeps (scalar_data c.in_ok-tail_base.field-0) c.tail_keeps.result.now c.args.part.now
+    (tail_together c.args.slots.now (field_data c.args.field.now) c.requires.serves c.requires.text c.requires.keeps
+    (scalar_data c.in_ok-tail_base.field-0) c.tail_keeps.result.now c.args.part.now
     (sym (c.in_ok-tail_base.ensures ∙ ap (tail_base (field_data c.args.field.now)) c.previous.ensures))
     (ap (λ (b : List ℕ). with_tail b c.args.part.now) (sym c.text_of-base.ensures) ∙ c.tail_keeps.ensures c.args.part.now refl) c.requires.fits)

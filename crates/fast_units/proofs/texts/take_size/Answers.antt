@@ -23,7 +23,9 @@ size_of-requires c =
     let l = c.args.limits in
     let f = field_data c.args.field.now in
     let (some, within, turns) = c.in-Whole-Some-default.ensures.unit in
-    let in_range = number_within l.strict (unsigned_range 32) (unsigned_range 32) f.optional D2 (c.args.pending.now.bytes ++ take c.in-Whole-Some-default.bytes c.args.rest.now) c.in-Whole-Some-default.field-0 c.in-Whole-Some-default.size refl c.in-Whole-Some-default.field-0-is turns in
+    let in_range = number_within l.strict (unsigned_range 32) (unsigned_range 32) f.optional D2
+    (c.args.pending.now.bytes ++ take c.in-Whole-Some-default.bytes c.args.rest.now) c.in-Whole-Some-default.field-0
+    c.in-Whole-Some-default.size refl c.in-Whole-Some-default.field-0-is turns in
     subst (λ (z : ℤ). IsWithin (unsigned_range 32) z) (sym (size_again c.in-Whole-Some-default.size in_range)) in_range
 
 pub returns-in-Whole-Some-default-clause-unit : goal.returns-in-Whole-Some-default-clause-unit
@@ -33,16 +35,21 @@ returns-in-Whole-Some-default-clause-unit c =
     let old = slots_dictionary c.args.slots.now in
     let p = previous_at f.entry old in
     let front = c.args.pending.now.bytes in
-    let here : first_reader l f old ≡ _ = ap (reader_of l.strict) (size_field (bounds l) f p c.requires.text c.requires.kind c.requires.whole c.requires.sent) in
+    let here : first_reader l f old ≡ _ = ap (reader_of l.strict)
+    (size_field (bounds l) f p c.requires.text c.requires.kind c.requires.whole c.requires.sent) in
     let g = integer (unsigned_range 32) f.optional D2 give in
     let next : Option ℤ → Grammar _ = behind_size (bounds l) f p in
     let (some, within, turns) = c.in-Whole-Some-default.ensures.unit in
-    let in_range = number_within l.strict (unsigned_range 32) (unsigned_range 32) f.optional D2 (c.args.pending.now.bytes ++ take c.in-Whole-Some-default.bytes c.args.rest.now) c.in-Whole-Some-default.field-0 c.in-Whole-Some-default.size refl c.in-Whole-Some-default.field-0-is turns in
+    let in_range = number_within l.strict (unsigned_range 32) (unsigned_range 32) f.optional D2
+    (c.args.pending.now.bytes ++ take c.in-Whole-Some-default.bytes c.args.rest.now) c.in-Whole-Some-default.field-0
+    c.in-Whole-Some-default.size refl c.in-Whole-Some-default.field-0-is turns in
     let is : pos c.size_of.result ≡ c.in-Whole-Some-default.size = c.size_of.ensures ∙ size_again c.in-Whole-Some-default.size in_range in
     let n = c.in-Whole-Some-default.bytes in
-    text_next l g next (first_reader l f old) here f front c.args.rest.now old (slots_dictionary c.vector_next.new.slots) [] n c.in-Whole-Some-default.field-0 c.in-Whole-Some-default.ensures.unit
+    text_next l g next (first_reader l f old) here f front c.args.rest.now old (slots_dictionary c.vector_next.new.slots)
+    [] n c.in-Whole-Some-default.field-0 c.in-Whole-Some-default.ensures.unit
     c.vector_next.result c.answered.result c.answered.ensures
-    (subst (λ (x : Option ℤ). IsStepped l (reader_of l.strict (next x)) f old (slots_dictionary c.vector_next.new.slots) [] (take n c.args.rest.now) c.vector_next.result)
+    (subst (λ (x : Option ℤ). IsStepped l (reader_of l.strict (next x)) f old (slots_dictionary c.vector_next.new.slots) []
+    (take n c.args.rest.now) c.vector_next.result)
     (ap Some is ∙ sym c.in-Whole-Some-default.field-0-is) (c.vector_next.ensures.step (take n c.args.rest.now)))
 
 pub returns-in-Whole-None-default-clause-unit : goal.returns-in-Whole-None-default-clause-unit
@@ -52,11 +59,13 @@ returns-in-Whole-None-default-clause-unit c =
     let old = slots_dictionary c.args.slots.now in
     let p = previous_at f.entry old in
     let front = c.args.pending.now.bytes in
-    let here : first_reader l f old ≡ _ = ap (reader_of l.strict) (size_field (bounds l) f p c.requires.text c.requires.kind c.requires.whole c.requires.sent) in
+    let here : first_reader l f old ≡ _ = ap (reader_of l.strict)
+    (size_field (bounds l) f p c.requires.text c.requires.kind c.requires.whole c.requires.sent) in
     let g = integer (unsigned_range 32) f.optional D2 give in
     let next : Option ℤ → Grammar _ = behind_size (bounds l) f p in
     let n = c.in-Whole-None-default.bytes in
-    text_settled l g next (first_reader l f old) here f front c.args.rest.now old (slots_dictionary c.finish_absent.new.slots) [] n c.in-Whole-None-default.field-0 c.in-Whole-None-default.ensures.unit
+    text_settled l g next (first_reader l f old) here f front c.args.rest.now old (slots_dictionary c.finish_absent.new.slots)
+    [] n c.in-Whole-None-default.field-0 c.in-Whole-None-default.ensures.unit
     (decide f p true null) c.finish_absent.result (ap next c.in-Whole-None-default.field-0-is) (c.finish_absent.ensures.field [] (take n c.args.rest.now))
 
 pub returns-in-Wrong-clause-unit : goal.returns-in-Wrong-clause-unit
@@ -66,7 +75,8 @@ returns-in-Wrong-clause-unit c =
     let old = slots_dictionary c.args.slots.now in
     let p = previous_at f.entry old in
     let front = c.args.pending.now.bytes in
-    let here : first_reader l f old ≡ _ = ap (reader_of l.strict) (size_field (bounds l) f p c.requires.text c.requires.kind c.requires.whole c.requires.sent) in
+    let here : first_reader l f old ≡ _ = ap (reader_of l.strict)
+    (size_field (bounds l) f p c.requires.text c.requires.kind c.requires.whole c.requires.sent) in
     let g = integer (unsigned_range 32) f.optional D2 give in
     let next : Option ℤ → Grammar _ = behind_size (bounds l) f p in
     let (some, within, turns) = c.in-Wrong.ensures.unit in
@@ -79,13 +89,15 @@ returns-in-Cut-clause-unit c =
     let old = slots_dictionary c.args.slots.now in
     let p = previous_at f.entry old in
     let front = c.args.pending.now.bytes in
-    let here : first_reader l f old ≡ _ = ap (reader_of l.strict) (size_field (bounds l) f p c.requires.text c.requires.kind c.requires.whole c.requires.sent) in
+    let here : first_reader l f old ≡ _ = ap (reader_of l.strict)
+    (size_field (bounds l) f p c.requires.text c.requires.kind c.requires.whole c.requires.sent) in
     let g = integer (unsigned_range 32) f.optional D2 give in
     let next : Option ℤ → Grammar _ = behind_size (bounds l) f p in
     (unit_stays l.strict g next (first_reader l f old) here (front ++ c.args.rest.now) c.in-Cut.ensures.unit, refl)
 
 pub returns-in-Whole-Some-default-clause-more : goal.returns-in-Whole-Some-default-clause-more
-returns-in-Whole-Some-default-clause-more c step n e = answered_more HasBytes c.vector_next.result c.in-Whole-Some-default.bytes c.vector_next.ensures.more step n (sym c.answered.ensures ∙ e)
+returns-in-Whole-Some-default-clause-more c step n e = answered_more HasBytes c.vector_next.result c.in-Whole-Some-default.bytes
+    c.vector_next.ensures.more step n (sym c.answered.ensures ∙ e)
 
 pub returns-in-Whole-Some-default-clause-cut : goal.returns-in-Whole-Some-default-clause-cut
 returns-in-Whole-Some-default-clause-cut c e = absurd (answered_whole c.vector_next.result c.in-Whole-Some-default.bytes (sym c.answered.ensures ∙ e))
@@ -157,7 +169,8 @@ pub returns-in-Whole-None-default-clause-joined : goal.returns-in-Whole-None-def
 returns-in-Whole-None-default-clause-joined c = refl
 
 pub returns-in-Wrong-clause-whole : goal.returns-in-Wrong-clause-whole
-returns-in-Wrong-clause-whole c step n e = answered_more {T = FieldStep} (λ s. c.next_integer.new.pending.bytes ≡ []) (Err c.in-Wrong.code) c.in-Wrong.bytes tt step n e
+returns-in-Wrong-clause-whole c step n e = answered_more {T = FieldStep} (λ s. c.next_integer.new.pending.bytes ≡ [])
+    (Err c.in-Wrong.code) c.in-Wrong.bytes tt step n e
 
 pub returns-in-Wrong-clause-terms : goal.returns-in-Wrong-clause-terms
 returns-in-Wrong-clause-terms c = refl

@@ -31,7 +31,8 @@ returns-in-Whole-true-default-clause-unit c =
     let n = c.in-Whole-true-default.bytes in
     let x : Option (List ℕ) = text_or_null text c.in-Whole-true-default.field-0 in
     let i : x ≡ Some c.as_slice-text.result.now = ap (text_or_null text) c.in-Whole-true-default.field-0-test ∙ ap Some (sym c.as_slice-text.ensures) in
-    text_last l.strict g k (first_reader l f old) here f front c.args.rest.now old (slots_dictionary c.finish_ascii.new.slots) text n x (c.in-Whole-true-default.ensures.unit l.strict)
+    text_last l.strict g k (first_reader l f old) here f front c.args.rest.now old (slots_dictionary c.finish_ascii.new.slots) text n x
+    (c.in-Whole-true-default.ensures.unit l.strict)
     (decide f p true (sent_text f.kind (Some c.as_slice-text.result.now))) c.finish_ascii.result c.answered.result c.answered.ensures (ap k i)
     (c.finish_ascii.ensures.field text (take n c.args.rest.now) (ap (λ (t : List ℕ). Some (value_of_text f.kind t)) (sym c.as_slice-text.ensures)))
 
@@ -49,7 +50,8 @@ returns-in-Whole-false-default-clause-unit c =
     let n = c.in-Whole-false-default.bytes in
     let x : Option (List ℕ) = text_or_null text c.in-Whole-false-default.field-0 in
     let i : x ≡ None = ap (text_or_null text) c.in-Whole-false-default.field-0-test in
-    text_last l.strict g k (first_reader l f old) here f front c.args.rest.now old (slots_dictionary c.finish_absent.new.slots) text n x (c.in-Whole-false-default.ensures.unit l.strict)
+    text_last l.strict g k (first_reader l f old) here f front c.args.rest.now old (slots_dictionary c.finish_absent.new.slots) text n x
+    (c.in-Whole-false-default.ensures.unit l.strict)
     (decide f p true (sent_text f.kind None)) (Ok c.finish_absent.result) _ refl (ap k i) (c.finish_absent.ensures.field text (take n c.args.rest.now))
 
 pub returns-in-Wrong-clause-unit : goal.returns-in-Wrong-clause-unit
@@ -94,7 +96,8 @@ finish_ascii-requires-clause-serves c = c.requires.serves
 
 pub finish_ascii-requires-clause-fits : goal.finish_ascii-requires-clause-fits
 finish_ascii-requires-clause-fits c =
-    let whole = c.in-Whole-true-default.ensures.text c.in-Whole-true-default.bytes (ap (λ t. Whole t c.in-Whole-true-default.bytes) c.in-Whole-true-default.field-0-test) in
+    let whole = c.in-Whole-true-default.ensures.text c.in-Whole-true-default.bytes
+    (ap (λ t. Whole t c.in-Whole-true-default.bytes) c.in-Whole-true-default.field-0-test) in
     let most = c.requires.limit.0 in
     rw c.as_slice-text.ensures (omega (arith, whole, most))
 

@@ -28,8 +28,11 @@ slice_bounds-text-end c =
 pub finish_text-requires-clause-fits : goal.finish_text-requires-clause-fits
 finish_text-requires-clause-fits c =
     let (some, within, turns, len) = c.in-Whole-Piece-default.ensures.unit c.args.limits.strict in
-    let is : length (run_at c.in-Whole-Piece-default.field-0 c.next_raw.new.scratch.text (take c.in-Whole-Piece-default.bytes c.args.rest.now)) ≡ length (run_at Piece c.next_raw.new.scratch.text (take c.in-Whole-Piece-default.bytes c.args.rest.now))
-    = ap (λ (r : Run). length (run_at r c.next_raw.new.scratch.text (take c.in-Whole-Piece-default.bytes c.args.rest.now))) c.in-Whole-Piece-default.field-0-is in
+    let is : length (run_at c.in-Whole-Piece-default.field-0 c.next_raw.new.scratch.text
+    (take c.in-Whole-Piece-default.bytes c.args.rest.now)) ≡ length
+    (run_at Piece c.next_raw.new.scratch.text (take c.in-Whole-Piece-default.bytes c.args.rest.now))
+    = ap (λ (r : Run). length (run_at r c.next_raw.new.scratch.text (take c.in-Whole-Piece-default.bytes c.args.rest.now)))
+    c.in-Whole-Piece-default.field-0-is in
     let fits = c.requires.stage.4 in
     let most = c.requires.limit.0 in
     omega (arith, len, is, fits, most)
@@ -37,8 +40,11 @@ finish_text-requires-clause-fits c =
 pub finish_text-requires-in-Whole-Scratch-default-clause-fits : goal.finish_text-requires-in-Whole-Scratch-default-clause-fits
 finish_text-requires-in-Whole-Scratch-default-clause-fits c =
     let (some, within, turns, len) = c.in-Whole-Scratch-default.ensures.unit c.args.limits.strict in
-    let is : length (run_at c.in-Whole-Scratch-default.field-0 c.next_raw.new.scratch.text (take c.in-Whole-Scratch-default.bytes c.args.rest.now)) ≡ length (run_at Scratch c.next_raw.new.scratch.text (take c.in-Whole-Scratch-default.bytes c.args.rest.now))
-    = ap (λ (r : Run). length (run_at r c.next_raw.new.scratch.text (take c.in-Whole-Scratch-default.bytes c.args.rest.now))) c.in-Whole-Scratch-default.field-0-is in
+    let is : length (run_at c.in-Whole-Scratch-default.field-0 c.next_raw.new.scratch.text
+    (take c.in-Whole-Scratch-default.bytes c.args.rest.now)) ≡ length
+    (run_at Scratch c.next_raw.new.scratch.text (take c.in-Whole-Scratch-default.bytes c.args.rest.now))
+    = ap (λ (r : Run). length (run_at r c.next_raw.new.scratch.text (take c.in-Whole-Scratch-default.bytes c.args.rest.now)))
+    c.in-Whole-Scratch-default.field-0-is in
     let fits = c.requires.stage.4 in
     let most = c.requires.limit.0 in
     rw c.as_slice-text.ensures (omega (arith, len, is, fits, most))
@@ -58,7 +64,8 @@ returns-in-Whole-Piece-default-clause-unit c =
     let (some, within, turns, len) = c.in-Whole-Piece-default.ensures.unit l.strict in
     let x : List ℕ = run_at c.in-Whole-Piece-default.field-0 text (take n c.args.rest.now) in
     let i : x ≡ (take n c.args.rest.now) = ap (λ (r : Run). run_at r text (take n c.args.rest.now)) c.in-Whole-Piece-default.field-0-is in
-    text_last l.strict g k (reader_behind l f old (Vector c.args.size)) here f front c.args.rest.now old (slots_dictionary c.finish_text.new.slots) text n x (some, within, turns)
+    text_last l.strict g k (reader_behind l f old (Vector c.args.size)) here f front c.args.rest.now old
+    (slots_dictionary c.finish_text.new.slots) text n x (some, within, turns)
     (decide f p true (sent_text f.kind (Some (take n c.args.rest.now)))) c.finish_text.result c.answered.result c.answered.ensures (ap k i)
     (c.finish_text.ensures.field text (take n c.args.rest.now) refl)
 
@@ -76,10 +83,14 @@ returns-in-Whole-Scratch-default-clause-unit c =
     let n = c.in-Whole-Scratch-default.bytes in
     let (some, within, turns, len) = c.in-Whole-Scratch-default.ensures.unit l.strict in
     let x : List ℕ = run_at c.in-Whole-Scratch-default.field-0 text (take n c.args.rest.now) in
-    let i : x ≡ c.as_slice-text.result.now = ap (λ (r : Run). run_at r text (take n c.args.rest.now)) c.in-Whole-Scratch-default.field-0-is ∙ sym c.as_slice-text.ensures in
-    text_last l.strict g k (reader_behind l f old (Vector c.args.size)) here f front c.args.rest.now old (slots_dictionary c.finish_text-in-Whole-Scratch-default.new.slots) text n x (some, within, turns)
-    (decide f p true (sent_text f.kind (Some c.as_slice-text.result.now))) c.finish_text-in-Whole-Scratch-default.result c.answered-in-Whole-Scratch-default.result c.answered-in-Whole-Scratch-default.ensures (ap k i)
-    (c.finish_text-in-Whole-Scratch-default.ensures.field text (take n c.args.rest.now) (ap (λ (t : List ℕ). Some (value_of_text f.kind t)) (sym c.as_slice-text.ensures)))
+    let i : x ≡ c.as_slice-text.result.now = ap (λ (r : Run). run_at r text (take n c.args.rest.now)) c.in-Whole-Scratch-default.field-0-is
+    ∙ sym c.as_slice-text.ensures in
+    text_last l.strict g k (reader_behind l f old (Vector c.args.size)) here f front c.args.rest.now old
+    (slots_dictionary c.finish_text-in-Whole-Scratch-default.new.slots) text n x (some, within, turns)
+    (decide f p true (sent_text f.kind (Some c.as_slice-text.result.now))) c.finish_text-in-Whole-Scratch-default.result
+    c.answered-in-Whole-Scratch-default.result c.answered-in-Whole-Scratch-default.ensures (ap k i)
+    (c.finish_text-in-Whole-Scratch-default.ensures.field text (take n c.args.rest.now)
+    (ap (λ (t : List ℕ). Some (value_of_text f.kind t)) (sym c.as_slice-text.ensures)))
 
 pub returns-in-Wrong-clause-unit : goal.returns-in-Wrong-clause-unit
 returns-in-Wrong-clause-unit c =
@@ -108,7 +119,9 @@ pub returns-in-Whole-Piece-default-clause-cut : goal.returns-in-Whole-Piece-defa
 returns-in-Whole-Piece-default-clause-cut c e = absurd (answered_whole c.finish_text.result c.in-Whole-Piece-default.bytes (sym c.answered.ensures ∙ e))
 
 pub returns-in-Whole-Scratch-default-clause-cut : goal.returns-in-Whole-Scratch-default-clause-cut
-returns-in-Whole-Scratch-default-clause-cut c e = absurd (answered_whole c.finish_text-in-Whole-Scratch-default.result c.in-Whole-Scratch-default.bytes (sym c.answered-in-Whole-Scratch-default.ensures ∙ e))
+returns-in-Whole-Scratch-default-clause-cut c e = absurd
+    (answered_whole c.finish_text-in-Whole-Scratch-default.result c.in-Whole-Scratch-default.bytes
+    (sym c.answered-in-Whole-Scratch-default.ensures ∙ e))
 
 pub returns-in-Wrong-clause-cut : goal.returns-in-Wrong-clause-cut
 returns-in-Wrong-clause-cut c e = absurd (answered_whole {T = ValueSource} (Err c.in-Wrong.code) c.in-Wrong.bytes e)

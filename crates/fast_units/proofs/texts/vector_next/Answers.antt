@@ -17,8 +17,11 @@ returns-then-size-gt0-clause-step c piece =
     let f = field_data c.args.field.now in
     let old = slots_dictionary c.args.slots.now in
     let p = previous_at f.entry old in
-    let (same, fits, next) = size_fits (bounds l) f p c.args.size c.in_ok-size.size (sym c.in_ok-size.ensures) in
-    (refl, (c.requires.text, c.requires.kind, c.requires.whole, c.requires.sent, omega (arith, same, fits)), ap (reader_of l.strict) (next ∙ ap (λ (n : ℕ). term_behind (bounds l) f p (Vector n)) (sym same)))
+    let (same, fits, next) = size_fits (bounds l) f p c.args.size c.in_ok-size.size (sym c.in_ok-size.ensures) in (
+      refl,
+      (c.requires.text, c.requires.kind, c.requires.whole, c.requires.sent, omega (arith, same, fits)),
+      ap (reader_of l.strict) (next ∙ ap (λ (n : ℕ). term_behind (bounds l) f p (Vector n)) (sym same)),
+    )
 
 pub returns-clause-step : goal.returns-clause-step
 returns-clause-step c piece =
@@ -27,5 +30,6 @@ returns-clause-step c piece =
     let old = slots_dictionary c.args.slots.now in
     let p = previous_at f.entry old in
     let none = size_none l.strict (bounds l) f p c.args.size c.in_ok-size.size (sym c.in_ok-size.ensures) c.if-size-gt0.false in
-    subst (λ r. IsStepped l (reader_of l.strict (behind_size (bounds l) f p (Some (pos c.args.size)))) f old (slots_dictionary c.finish_text.new.slots) [] piece r) (sym c.settled.ensures)
+    subst (λ r. IsStepped l (reader_of l.strict (behind_size (bounds l) f p (Some (pos c.args.size)))) f old
+    (slots_dictionary c.finish_text.new.slots) [] piece r) (sym c.settled.ensures)
     (stepped l _ f old (slots_dictionary c.finish_text.new.slots) [] piece _ c.finish_text.result none (c.finish_text.ensures.field [] piece refl))

@@ -20,4 +20,5 @@ returns-in-Some-short_text-clause-text c = c.in-Some-short_text.ensures.text c.a
 pub returns-in-None-short_text-clause-text : goal.returns-in-None-short_text-clause-text
 returns-in-None-short_text-clause-text c =
     let e : c.short_text.new.scratch.text ≡ c.args.scratch.now.text = c.in-None-short_text.ensures.none ∙ sym c.requires.none in
-    subst (λ (front : List ℕ). IsNextText c.args.nullable c.args.room front c.args.rest.now c.characters.new.scratch.text c.characters.result) e (c.characters.ensures.text c.args.nullable)
+    subst (λ (front : List ℕ). IsNextText c.args.nullable c.args.room front c.args.rest.now c.characters.new.scratch.text
+    c.characters.result) e (c.characters.ensures.text c.args.nullable)

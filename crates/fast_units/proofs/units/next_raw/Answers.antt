@@ -6,7 +6,8 @@ use Rattle.fast_units.proofs.units.next_raw.Goals as goal
 
 pub returns-then-rest-missing-clause-unit : goal.returns-then-rest-missing-clause-unit
 returns-then-rest-missing-clause-unit c strict =
-    let sum : length (c.args.scratch.now.text ++ c.args.rest.now) ≡ length c.args.scratch.now.text + length c.args.rest.now = length-append c.args.scratch.now.text c.args.rest.now in
+    let sum : length (c.args.scratch.now.text ++ c.args.rest.now) ≡ length c.args.scratch.now.text + length c.args.rest.now =
+    length-append c.args.scratch.now.text c.args.rest.now in
     let short : length (c.args.scratch.now.text ++ c.args.rest.now) < c.args.size = omega arith in
     (run_cut strict c.args.size (c.args.scratch.now.text ++ c.args.rest.now) short, c.append.ensures.text, rw c.append.ensures.text short)
 

@@ -7,14 +7,18 @@ use Rattle.fast_units.proofs.units.next_unsigned.Goals as goal
 pub returns-in-Whole-clause-unit : goal.returns-in-Whole-clause-unit
 returns-in-Whole-clause-unit c =
     let none : c.args.pending.now.bytes ≡ [] = none_in_hand c.args.pending.now.bytes c.if-is_empty.ensures in
-    first_whole (λ x. Some (pos x)) c.args.strict (unsigned_up_to c.args.top) false D2 c.args.pending.now.bytes c.args.rest.now c.in-Whole.x c.in-Whole.len none c.in-Whole.ensures
+    first_whole (λ x. Some (pos x)) c.args.strict (unsigned_up_to c.args.top) false D2 c.args.pending.now.bytes c.args.rest.now
+    c.in-Whole.x c.in-Whole.len none c.in-Whole.ensures
 
 pub returns-in-Wrong-clause-unit : goal.returns-in-Wrong-clause-unit
 returns-in-Wrong-clause-unit c =
     let none : c.args.pending.now.bytes ≡ [] = none_in_hand c.args.pending.now.bytes c.if-is_empty.ensures in
-    first_wrong (λ x. Some (pos x)) c.args.strict (unsigned_up_to c.args.top) false D2 c.args.pending.now.bytes c.args.rest.now c.in-Wrong.fault c.stream_fault.result c.in-Wrong.len none c.in-Wrong.ensures
+    first_wrong (λ x. Some (pos x)) c.args.strict (unsigned_up_to c.args.top) false D2 c.args.pending.now.bytes c.args.rest.now
+    c.in-Wrong.fault c.stream_fault.result c.in-Wrong.len none c.in-Wrong.ensures
     (wrong_some (λ x. Some (pos x)) c.args.strict (unsigned_up_to c.args.top) false D2 c.args.rest.now c.in-Wrong.fault c.in-Wrong.len c.in-Wrong.ensures.1)
     (c.stream_fault.ensures c.args.strict (unsigned_up_to c.args.top) false c.in-Wrong.ensures.1)
 
 pub returns-clause-unit : goal.returns-clause-unit
-returns-clause-unit c = integer_unit (λ x. Some (pos x)) c.args.strict (unsigned_up_to c.args.top) false D2 c.args.pending.now.bytes c.args.rest.now c.complete_unsigned.new.self.bytes c.complete_unsigned.result c.complete_unsigned.ensures
+returns-clause-unit c = integer_unit (λ x. Some (pos x)) c.args.strict
+    (unsigned_up_to c.args.top) false D2 c.args.pending.now.bytes c.args.rest.now c.complete_unsigned.new.self.bytes
+    c.complete_unsigned.result c.complete_unsigned.ensures

@@ -7,7 +7,8 @@ use Rattle.fast_usage.proofs.commands.convert_command.Goals as goal
 
 pub returns : goal.returns
 returns c =
-    let bare : app_of c.after_help-command.result ≡ new_app (codes "convert") = ap app_of_fields c.after_help-command.ensures ∙ ap app_of_fields c.about.ensures ∙ c.new.ensures.app in
+    let bare : app_of c.after_help-command.result ≡ new_app (codes "convert") = ap app_of_fields c.after_help-command.ensures
+    ∙ ap app_of_fields c.about.ensures ∙ c.new.ensures.app in
     let given = IfOk-weaker c.with_input-command.result _ _ (λ r h. record { is = h.is ∙ ap with_input bare; local = h.local }) c.with_input-command.ensures in
     IfOk-weaker c.and_options.result _ _ (makes_options_of (with_input (new_app (codes "convert"))) c.with_input-command.result given) c.and_options.ensures
 

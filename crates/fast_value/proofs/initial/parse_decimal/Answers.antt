@@ -20,7 +20,8 @@ pub returns-in-None-parse_exponent-clause-none : goal.returns-in-None-parse_expo
 returns-in-None-parse_exponent-clause-none c e m h =
     let f = c.in-Some.ensures in
     let r = take_rest c.args.text.now (c.in-Some.at + 1) in
-    c.in-None-parse_exponent.ensures.none e (subst (λ ts. IsInteger exponent_range ts e) (sym r) (decimal_parts c.args.text.now c.in-Some.at e m f.found.0 f.found.1 f.before h).1)
+    c.in-None-parse_exponent.ensures.none e (subst (λ ts. IsInteger exponent_range ts e) (sym r)
+    (decimal_parts c.args.text.now c.in-Some.at e m f.found.0 f.found.1 f.before h).1)
 
 pub returns-in-Some-parse_exponent-clause-decimal :
     goal.returns-in-Some-parse_exponent-clause-decimal
@@ -28,7 +29,8 @@ returns-in-Some-parse_exponent-clause-decimal c =
     let f = c.in-Some.ensures in
     let r = take_rest c.args.text.now (c.in-Some.at + 1) in
     let d = decimal_of_parts c.args.text.now c.in-Some.at c.in-Some-parse_exponent.exponent c.in-Some-parse_int64-2.mantissa f.found.0 f.found.1
-    c.in-Some-parse_int64-2.ensures.integer (subst (λ ts. IsInteger exponent_range ts c.in-Some-parse_exponent.exponent) r c.in-Some-parse_exponent.ensures.integer) in
+    c.in-Some-parse_int64-2.ensures.integer (subst (λ ts. IsInteger exponent_range ts c.in-Some-parse_exponent.exponent) r
+    c.in-Some-parse_exponent.ensures.integer) in
     let exponent = c.in-Some-parse_exponent.ensures.integer.2 in
     let mantissa = c.in-Some-parse_int64-2.ensures.integer.2 in
     let small : SFits w32 c.in-Some-parse_exponent.exponent = omega (arith, ints, exponent) in

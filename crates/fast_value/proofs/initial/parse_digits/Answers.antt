@@ -16,19 +16,23 @@ below ds i n inside short digits read =
 
 pub overflow_mul-number : goal.overflow_mul-number
 overflow_mul-number c =
-    let b = below c.args.digits.now c.loop-digit.digit-index c.loop-digit.number c.loop-digit.auto.digit-index-end c.if-digits-gt20.false c.loop-digit.invariant.all_digits c.loop-digit.invariant.value in
+    let b = below c.args.digits.now c.loop-digit.digit-index c.loop-digit.number c.loop-digit.auto.digit-index-end c.if-digits-gt20.false
+    c.loop-digit.invariant.all_digits c.loop-digit.invariant.value in
     omega (arith, b)
 
 pub overflow_add-number : goal.overflow_add-number
 overflow_add-number c =
-    let b = below c.args.digits.now c.loop-digit.digit-index c.loop-digit.number c.loop-digit.auto.digit-index-end c.if-digits-gt20.false c.loop-digit.invariant.all_digits c.loop-digit.invariant.value in
+    let b = below c.args.digits.now c.loop-digit.digit-index c.loop-digit.number c.loop-digit.auto.digit-index-end c.if-digits-gt20.false
+    c.loop-digit.invariant.all_digits c.loop-digit.invariant.value in
     let d = c.type_inv.digits c.loop-digit.digit-index in
     let f = c.from.ensures in
     omega (arith, b, d, f)
 
 pub loop-digit-preserved : goal.loop-digit-preserved
 loop-digit-preserved c = record {
-  value = ap (λ n. c.loop-digit.number * 10 + n) c.from.ensures ∙ digits_value-more c.args.digits.now c.loop-digit.digit-index 0 c.loop-digit.number c.loop-digit-test.true c.loop-digit.invariant.value;
+  value = ap (λ n. c.loop-digit.number * 10 + n) c.from.ensures
+      ∙ digits_value-more c.args.digits.now c.loop-digit.digit-index 0 c.loop-digit.number c.loop-digit-test.true
+      c.loop-digit.invariant.value;
   all_digits = All-more IsAsciiDigit c.args.digits.now c.loop-digit.digit-index 0 c.loop-digit-test.true c.loop-digit.invariant.all_digits (search rules);
 }
 

@@ -10,7 +10,12 @@ returns-then-is_refused_unsigned-clause-overlong c = (λ _. c.if-is_refused_unsi
 
 pub returns-then-x-from-clause-outside : goal.returns-then-x-from-clause-outside
 returns-then-x-from-clause-outside c =
-    let sent : pos (number c.args.w.now) ≡ pos (suc c.in-Some.x) = subst (λ x. Means true (pos (number c.args.w.now)) (option_map pos x)) c.in-Some.is c.requires.meaning in
+    let sent : pos (number c.args.w.now) ≡ pos (suc c.in-Some.x) =
+    subst (λ x. Means true (pos (number c.args.w.now)) (option_map pos x)) c.in-Some.is c.requires.meaning in
     λ _. above_top c.args.strict c.args.top c.in-Some.x c.args.w.now
-    (record { entity = c.requires.entity; short = c.requires.short; shortest = λ s o. not_so _ _ c.is_refused_unsigned.ensures c.if-is_refused_unsigned.false (s, o) })
+    (record {
+      entity = c.requires.entity;
+      short = c.requires.short;
+      shortest = λ s o. not_so _ _ c.is_refused_unsigned.ensures c.if-is_refused_unsigned.false (s, o);
+    })
     (cc) (omega arith)

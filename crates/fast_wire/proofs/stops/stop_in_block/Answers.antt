@@ -11,7 +11,8 @@ returns-then-hits-eq0 c =
     let s = c.args.s.now in
     let at = c.args.at in
     let long = length-chunk at 16 s c.requires in
-    let e : 16 ≡ prefix_len (λ x. not (leb 128 x)) (chunk at 16 s) = sym (leading_from_mask_l (leb 128) (chunk at 16 s) (sym (mask_is (chunk at 16 s) long) ∙ c.if-hits-eq0.true) ∙ long) in
+    let e : 16 ≡ prefix_len (λ x. not (leb 128 x)) (chunk at 16 s) =
+    sym (leading_from_mask_l (leb 128) (chunk at 16 s) (sym (mask_is (chunk at 16 s) long) ∙ c.if-hits-eq0.true) ∙ long) in
     record {
       within = omega arith;
       before = λ k. before_stop s at _ k e (omega arith);

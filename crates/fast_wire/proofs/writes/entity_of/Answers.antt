@@ -17,4 +17,5 @@ loop-i-preserved c =
 pub returns-clause-value : goal.returns-clause-value
 returns-clause-value c =
     let e : c.loop-i.i ≡ 1 = omega arith in
-    ap number c.push-2.ensures.bytes ∙ last_group c.args.n _ c.loop-i.entity (subst (λ i. number c.loop-i.entity ≡ c.args.n / 2 ^ (7 * i)) e c.loop-i.invariant.value) refl
+    ap number c.push-2.ensures.bytes ∙ last_group c.args.n _ c.loop-i.entity
+    (subst (λ i. number c.loop-i.entity ≡ c.args.n / 2 ^ (7 * i)) e c.loop-i.invariant.value) refl

@@ -9,4 +9,5 @@ use Rattle.fast_words.proofs.words.number_or.Goals as goal
 pub returns : goal.returns
 returns c =
     subst (IsNumberAt c.args.name.now (rows_of (found_of c.args.matches.now)) c.args.otherwise) (sym c.unwrap_or.ensures)
-    (number_read (found_of c.args.matches.now) c.args.name.now c.get_one.result c.args.otherwise c.get_one.ensures.none c.get_one.ensures.value (λ t x (h : ParsesUnsigned 32 10 t x × ExplainsUnsignedError 10 t x × HasUnsignedDigitsIfOk t x). h.0))
+    (number_read (found_of c.args.matches.now) c.args.name.now c.get_one.result c.args.otherwise c.get_one.ensures.none
+    c.get_one.ensures.value (λ t x (h : ParsesUnsigned 32 10 t x × ExplainsUnsignedError 10 t x × HasUnsignedDigitsIfOk t x). h.0))

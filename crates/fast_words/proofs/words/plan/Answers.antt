@@ -18,7 +18,8 @@ returns-in_err-matches-clause-fault c =
     let made : app_of c.in_ok-fastcat_command.field-0 ≡ fastcat_app = c.in_ok-fastcat_command.ensures.is in
     let words : List Text = map (λ w. w.now) c.args.words.now in
     let e = c.in_err-matches.field-0.0 in
-    let fails : HasKind (fault_of fastcat_app words) e = subst (λ a. HasKind (fault_of a words) e) made (c.in_err-matches.ensures.kinds (ap is_simple_and_free made ∙ fastcat_free)) in
+    let fails : HasKind (fault_of fastcat_app words) e = subst (λ a. HasKind (fault_of a words) e) made
+    (c.in_err-matches.ensures.kinds (ap is_simple_and_free made ∙ fastcat_free)) in
     let r = err_from_is_err_and c.from_residual-in_err-matches.result c.from_residual-in_err-matches.ensures.1 in
     rw (r.1, r.2) fails
 
@@ -26,7 +27,8 @@ pub returns-clause-plan : goal.returns-clause-plan
 returns-clause-plan c =
     let made : app_of c.in_ok-fastcat_command.field-0 ≡ fastcat_app = c.in_ok-fastcat_command.ensures.is in
     let words : List Text = map (λ w. w.now) c.args.words.now in
-    let taken : fault_of fastcat_app words ≡ [] = subst (λ a. fault_of a words ≡ []) made (c.in_ok-matches.ensures.kinds (ap is_simple_and_free made ∙ fastcat_free)) in
+    let taken : fault_of fastcat_app words ≡ [] = subst (λ a. fault_of a words ≡ []) made
+    (c.in_ok-matches.ensures.kinds (ap is_simple_and_free made ∙ fastcat_free)) in
     let matches = (c.in_ok-matches.ensures.matches (ap is_simple made ∙ fastcat_simple)).1 ∙ ap (λ a. subcommand_of a words) made in
     elim c.match-subcommand.branch [
       | in-Some w ↦ (

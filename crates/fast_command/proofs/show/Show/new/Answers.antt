@@ -30,12 +30,14 @@ pub returns-in-Err-clause-long_initial : goal.returns-in-Err-clause-long_initial
 returns-in-Err-clause-long_initial c = λ bad. ap (λ (e : MakeError). Err e) (same_err (c.in-Err.ensures.long_initial.1 bad))
 
 -- no memory is a cause
-only_memory : {A : Type 0} (P : MakeError → Type 0) (r : Result A MakeError) → IfErr r (λ (e : MakeError). e ≡ Why.Memory) → IfErr r (λ (e : MakeError). (e ≡ Why.Memory) ⊎ P e)
+only_memory : {A : Type 0} (P : MakeError → Type 0) (r : Result A MakeError) → IfErr r (λ (e : MakeError). e ≡ Why.Memory)
+    → IfErr r (λ (e : MakeError). (e ≡ Why.Memory) ⊎ P e)
 only_memory P (Ok x) h = h
 only_memory P (Err e) h = inl h
 
 -- what a decoder is refused for
-refused_for : (set : Templates) (l : Limits) (e : MakeError) → (e ≡ Why.BadLimits → IsRefusal set l Why.BadLimits) → (e ≡ Why.InitialTooLong → IsRefusal set l Why.InitialTooLong) → (e ≡ Why.Memory) ⊎ IsRefusal set l e
+refused_for : (set : Templates) (l : Limits) (e : MakeError) → (e ≡ Why.BadLimits → IsRefusal set l Why.BadLimits)
+    → (e ≡ Why.InitialTooLong → IsRefusal set l Why.InitialTooLong) → (e ≡ Why.Memory) ⊎ IsRefusal set l e
 refused_for set l Why.Memory bad long = inl refl
 refused_for set l Why.BadLimits bad long = inr (bad refl)
 refused_for set l Why.InitialTooLong bad long = inr (long refl)
@@ -44,7 +46,9 @@ pub returns-in-Ok-clause-refused : goal.returns-in-Ok-clause-refused
 returns-in-Ok-clause-refused c = only_memory (IsRefusal c.args.templates.now c.args.limits) _ c.of.ensures.refused
 
 pub returns-in-Err-clause-refused : goal.returns-in-Err-clause-refused
-returns-in-Err-clause-refused c = refused_for c.args.templates.now c.args.limits c.in-Err.error (λ is. c.in-Err.ensures.bad_limits.0 (ap (λ (e : MakeError). Err e) is)) (λ is. c.in-Err.ensures.long_initial.0 (ap (λ (e : MakeError). Err e) is))
+returns-in-Err-clause-refused c = refused_for c.args.templates.now c.args.limits c.in-Err.error
+    (λ is. c.in-Err.ensures.bad_limits.0 (ap (λ (e : MakeError). Err e) is))
+    (λ is. c.in-Err.ensures.long_initial.0 (ap (λ (e : MakeError). Err e) is))
 
 pub of-requires-clause-set : goal.of-requires-clause-set
 of-requires-clause-set c = of_tree c.new-in-Ok.result c.args.templates.now _ c.new-in-Ok.ensures c.in-Ok.ensures.made.1

@@ -25,4 +25,5 @@ pub returns : goal.returns
 returns c =
     let left : c.args.self.now.left ≡ run_at c.self.inside.ops.now c.self.inside.ip = ap (λ (d : CursorData). d.left) (sym c.self.view_is) in
     let some : 0 < length (run_at c.self.inside.ops.now c.self.inside.ip) = subst (λ (ns : List ℕ). 0 < length ns) left c.requires in
-    ap (λ (ns : List ℕ). record (cursor_data c.self.inside) { left = ns }) (run-next c.self.inside.ops.now c.self.inside.ip some) ∙ ap (λ (d : CursorData). record d { left = drop 1 d.left }) c.self.view_is
+    ap (λ (ns : List ℕ). record (cursor_data c.self.inside) { left = ns }) (run-next c.self.inside.ops.now c.self.inside.ip some)
+    ∙ ap (λ (d : CursorData). record d { left = drop 1 d.left }) c.self.view_is

@@ -26,7 +26,9 @@ invariant_of-self c =
       within = c.self.invariant.within;
       cells = length-set i.maps.items i.start c.args.byte ∙ c.self.invariant.cells;
       starts = c.self.invariant.starts;
-      place = subst (λ m. IsPlace m c.of_byte-self-inside.result) (sym (here i c.args.byte c.of_byte-self-inside.result there c.of_byte-self-inside.ensures.len)) c.of_byte-self-inside.ensures.place;
+      place = subst (λ m. IsPlace m c.of_byte-self-inside.result)
+          (sym (here i c.args.byte c.of_byte-self-inside.result there c.of_byte-self-inside.ensures.len))
+          c.of_byte-self-inside.ensures.place;
       around = only-places i (set i.maps.items i.start c.args.byte) c.self.invariant (one-before i.maps.items i.start c.args.byte (omega (arith, there)));
       rest = c.self.invariant.rest;
       numbered = c.self.invariant.numbered;
@@ -36,7 +38,8 @@ invariant_of-self c =
 
 pub use_bit-requires : goal.use_bit-requires
 use_bit-requires c = record {
-  more = λ e. let spent = word-spent c.of_byte-self-inside.result.word e in let left = c.of_byte-self-inside.ensures.left in absurd (omega (arith, spent, left));
+  more = λ e. let spent = word-spent c.of_byte-self-inside.result.word e in let left = c.of_byte-self-inside.ensures.left in
+      absurd (omega (arith, spent, left));
 }
 
 pub returns-clause-same : goal.returns-clause-same
@@ -46,12 +49,21 @@ returns-clause-same c =
     let p : MapPlace = c.of_byte-self-inside.result in
     let there : i.start + map_limit ≤ length i.maps.items = cells-there i c.self.invariant in
     let cells : List ℕ = set i.maps.items i.start b in
-    let view : List ℕ → ℕ → ℕ → CursorData = λ w n e. record { ops = i.ops.now; frames = frames_on i.ops.now cells 0 (take i.level i.frames.items) []; left = run_at i.ops.now i.ip; map = w; used = n; ends = e; depth = length i.frames.items } in
+    let view : List ℕ → ℕ → ℕ → CursorData = λ w n e. record {
+      ops = i.ops.now;
+      frames = frames_on i.ops.now cells 0 (take i.level i.frames.items) [];
+      left = run_at i.ops.now i.ip;
+      map = w;
+      used = n;
+      ends = e;
+      depth = length i.frames.items;
+    } in
     ap (λ n. view (map_at cells i.start p.len) n p.end) (c.of_byte-self-inside.ensures.used (map_at cells i.start p.len))
     ∙ ap (λ w. view w 0 p.end) (here i b p there c.of_byte-self-inside.ensures.len)
     ∙ ap (view (b ∷ []) 0) c.of_byte-self-inside.ensures.end
     ∙ ap (λ (x : CursorData). record x { used = 0; ends = 8 })
-    (only-map i c.args.self.now cells (b ∷ []) (cursor_data i).used i.map.end c.self.invariant c.self.view_is (one-before i.maps.items i.start b (omega (arith, there))) refl refl)
+    (only-map i c.args.self.now cells (b ∷ []) (cursor_data i).used i.map.end c.self.invariant c.self.view_is
+    (one-before i.maps.items i.start b (omega (arith, there))) refl refl)
 
 -- The place before the first bit is one of the cursor.
 before : (d : CursorData) (p : Place) (b : ℕ) → IsAhead d.ops p.ahead.now → d.map ≡ b ∷ [] → IsWord (b ∷ []) d.ends p.word → IsPlaceOf d p
@@ -66,7 +78,15 @@ returns-clause-bits c =
     let cells : List ℕ = set i.maps.items i.start b in
     let map : List ℕ = map_at cells i.start p.len in
     let is : map ≡ b ∷ [] = here i b p there c.of_byte-self-inside.ensures.len in
-    let d : CursorData = record { ops = i.ops.now; frames = frames_on i.ops.now cells 0 (take i.level i.frames.items) []; left = run_at i.ops.now i.ip; map = map; used = used_at map p.end p.word; ends = p.end; depth = length i.frames.items } in
+    let d : CursorData = record {
+      ops = i.ops.now;
+      frames = frames_on i.ops.now cells 0 (take i.level i.frames.items) [];
+      left = run_at i.ops.now i.ip;
+      map = map;
+      used = used_at map p.end p.word;
+      ends = p.end;
+      depth = length i.frames.items;
+    } in
     let run : IsRun i.ops.now c.args.start = subst (λ (x : CursorData). IsRun x.ops c.args.start) (sym c.self.view_is) c.requires.run in
     c.use_bit.ensures.bits d (before d _ b (ahead-at i.ops.now c.args.start run) is c.of_byte-self-inside.ensures.place.is)
     ∙ ap (λ n. later_bits (drop n (bits map))) (c.of_byte-self-inside.ensures.used map)
@@ -81,6 +101,14 @@ returns-clause-place c =
     let cells : List ℕ = set i.maps.items i.start b in
     let map : List ℕ = map_at cells i.start p.len in
     let is : map ≡ b ∷ [] = here i b p there c.of_byte-self-inside.ensures.len in
-    let d : CursorData = record { ops = i.ops.now; frames = frames_on i.ops.now cells 0 (take i.level i.frames.items) []; left = run_at i.ops.now i.ip; map = map; used = used_at map p.end p.word; ends = p.end; depth = length i.frames.items } in
+    let d : CursorData = record {
+      ops = i.ops.now;
+      frames = frames_on i.ops.now cells 0 (take i.level i.frames.items) [];
+      left = run_at i.ops.now i.ip;
+      map = map;
+      used = used_at map p.end p.word;
+      ends = p.end;
+      depth = length i.frames.items;
+    } in
     let run : IsRun i.ops.now c.args.start = subst (λ (x : CursorData). IsRun x.ops c.args.start) (sym c.self.view_is) c.requires.run in
     c.use_bit.ensures.place d (before d _ b (ahead-at i.ops.now c.args.start run) is c.of_byte-self-inside.ensures.place.is)

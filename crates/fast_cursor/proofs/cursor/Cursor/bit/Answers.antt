@@ -8,4 +8,5 @@ use Rattle.fast_cursor.proofs.cursor.Cursor.bit.Goals as goal
 pub returns : goal.returns
 returns c =
     let i = c.self.inside in
-    word-top (map_at i.maps.items i.start i.map.len) i.map.end i.map.word c.self.invariant.place.is c.if-self.false ∙ ap (λ (d : CursorData). first_bit (bits_left d)) c.self.view_is
+    word-top (map_at i.maps.items i.start i.map.len) i.map.end i.map.word c.self.invariant.place.is c.if-self.false
+    ∙ ap (λ (d : CursorData). first_bit (bits_left d)) c.self.view_is

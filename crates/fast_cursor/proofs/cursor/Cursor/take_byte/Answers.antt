@@ -57,5 +57,6 @@ returns-then-byte-ge128-clause-same c =
     let there : start + map_limit ≤ length cells = cells-there c.self.inside c.self.invariant in
     let len : c.self.inside.map.len ≡ 0 = search (rules, c.if-self-eq0.true) in
     let (used, end) = unused c.self.inside c.self.invariant len in
-    only-map c.self.inside c.args.self.now (set cells start b) _ _ c.of_byte-self-inside.result.end c.self.invariant c.self.view_is (one-before cells start b (omega (arith, there)))
+    only-map c.self.inside c.args.self.now (set cells start b) _ _ c.of_byte-self-inside.result.end c.self.invariant c.self.view_is
+    (one-before cells start b (omega (arith, there)))
     (c.of_byte-self-inside.ensures.used _ ∙ sym used) (c.of_byte-self-inside.ensures.end ∙ sym end)

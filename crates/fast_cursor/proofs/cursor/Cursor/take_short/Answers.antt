@@ -22,7 +22,8 @@ invariant_of-self c =
     let short : c.args.entity.len ≤ 8 = c.requires.entity.short in
     let count : length now.items ≡ length i.maps.items = sym now.ok.0 ∙ i.maps.ok.0 in
     let here : take c.args.entity.len c.args.rest.now ≡ map_at now.items i.start c.of_entity-self-inside.result.len
-    = sym (ap (map_at now.items i.start) c.of_entity-self-inside.ensures.len ∙ filled.inner c.args.entity.len short ∙ ap (take c.args.entity.len) src ∙ take-take c.args.entity.len 8 c.args.rest.now short) in
+    = sym (ap (map_at now.items i.start) c.of_entity-self-inside.ensures.len ∙ filled.inner c.args.entity.len short
+    ∙ ap (take c.args.entity.len) src ∙ take-take c.args.entity.len 8 c.args.rest.now short) in
     record {
       within = c.self.invariant.within;
       cells = count ∙ c.self.invariant.cells;
@@ -48,7 +49,8 @@ returns-clause-map c is =
     let len : i.map.len ≡ 0 = search (rules, c.if-self-ne0.false) in
     let none : c.args.self.now.map ≡ [] = ap (λ (d : CursorData). d.map) (sym c.self.view_is) ∙ ap (map_at i.maps.items i.start) len in
     taken-entity c.args.self.now.map c.args.rest.now _ c.args.entity.number c.args.entity.len none c.requires.entity
-    (ap (map_at now.items i.start) c.of_entity-self-inside.ensures.len ∙ filled.inner c.args.entity.len short ∙ ap (take c.args.entity.len) src ∙ take-take c.args.entity.len 8 c.args.rest.now short)
+    (ap (map_at now.items i.start) c.of_entity-self-inside.ensures.len ∙ filled.inner c.args.entity.len short
+    ∙ ap (take c.args.entity.len) src ∙ take-take c.args.entity.len 8 c.args.rest.now short)
 
 pub returns-clause-same : goal.returns-clause-same
 returns-clause-same c =
@@ -61,4 +63,5 @@ returns-clause-same c =
     let filled = front-back i c.deref_mut.result.now c.copy_from_slice.new.self _ c.self.invariant c.deref_mut.ensures.value k eight in
     let len : i.map.len ≡ 0 = search (rules, c.if-self-ne0.false) in
     let (used, end) = unused i c.self.invariant len in
-    only-map i c.args.self.now now.items _ _ c.of_entity-self-inside.result.end c.self.invariant c.self.view_is filled.before (c.of_entity-self-inside.ensures.used _ ∙ sym used) (c.of_entity-self-inside.ensures.end ∙ sym end)
+    only-map i c.args.self.now now.items _ _ c.of_entity-self-inside.result.end c.self.invariant c.self.view_is filled.before
+    (c.of_entity-self-inside.ensures.used _ ∙ sym used) (c.of_entity-self-inside.ensures.end ∙ sym end)

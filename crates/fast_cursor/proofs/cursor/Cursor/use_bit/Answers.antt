@@ -9,7 +9,9 @@ pub invariant_of-self : goal.invariant_of-self
 invariant_of-self c =
     let i = c.self.inside in
     let ready : IsReady i c.if-self.self-inside = elim c.if-self.branch [
-      | then-self w ↦ subst (IsReady i) (sym w.self-inside-is) (ready-behind i w.refill.new.self c.self.invariant w.refill.ensures.place w.refill.ensures.left w.refill.ensures.len w.refill.ensures.bits)
+      | then-self w ↦ subst (IsReady i) (sym w.self-inside-is)
+          (ready-behind i w.refill.new.self c.self.invariant w.refill.ensures.place w.refill.ensures.left w.refill.ensures.len
+          w.refill.ensures.bits)
       | else-self w ↦ subst (IsReady i) (sym w.self-inside-is) (ready-here i c.self.invariant w.if-self.false)
     ] in
     behind-cursor i c.if-self.self-inside ready
@@ -18,7 +20,9 @@ pub returns-clause-bits : goal.returns-clause-bits
 returns-clause-bits c =
     let i = c.self.inside in
     let ready : IsReady i c.if-self.self-inside = elim c.if-self.branch [
-      | then-self w ↦ subst (IsReady i) (sym w.self-inside-is) (ready-behind i w.refill.new.self c.self.invariant w.refill.ensures.place w.refill.ensures.left w.refill.ensures.len w.refill.ensures.bits)
+      | then-self w ↦ subst (IsReady i) (sym w.self-inside-is)
+          (ready-behind i w.refill.new.self c.self.invariant w.refill.ensures.place w.refill.ensures.left w.refill.ensures.len
+          w.refill.ensures.bits)
       | else-self w ↦ subst (IsReady i) (sym w.self-inside-is) (ready-here i c.self.invariant w.if-self.false)
     ] in
     behind-bits i c.if-self.self-inside ready ∙ ap (λ (d : CursorData). later_bits (bits_left d)) c.self.view_is

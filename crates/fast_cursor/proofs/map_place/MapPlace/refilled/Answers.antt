@@ -24,7 +24,8 @@ returns-clause-place c =
     let all : c.args.maps.now.len ≡ length c.args.maps.now.items = c.args.maps.now.ok.0 in
     let count : length map ≡ c.args.self.len = map-is c.args.maps.now.items c.args.start c.args.self.len (omega (arith, all, c.requires.cells)) in
     let read : take (c.args.start + c.args.self.len - c.args.start) (drop c.args.start c.deref.result.now) ≡ map
-    = ap (λ l. take (c.args.start + c.args.self.len - c.args.start) (drop c.args.start l)) c.deref.ensures.value ∙ ap (λ n. map_at c.args.maps.now.items c.args.start n) k in
+    = ap (λ l. take (c.args.start + c.args.self.len - c.args.start) (drop c.args.start l)) c.deref.ensures.value
+    ∙ ap (λ n. map_at c.args.maps.now.items c.args.start n) k in
     record {
       short = c.requires.place.short;
       is = word-whole map c.saturating_add-end.result c.word_at.result ends (λ e. let f = ap length e in absurd (omega (arith, f, count, here)))
@@ -32,11 +33,17 @@ returns-clause-place c =
     }
 
 pub returns-clause-left : goal.returns-clause-left
-returns-clause-left c = top-is-left 56 c.word_at.result (drop (7 * (c.saturating_add-end.result - 8)) (bits (take (c.args.start + c.args.self.len - c.args.start) (drop c.args.start c.deref.result.now)))) (omega arith) c.word_at.ensures
+returns-clause-left c = top-is-left 56 c.word_at.result
+    (drop (7 * (c.saturating_add-end.result - 8)) (bits (take (c.args.start + c.args.self.len - c.args.start)
+    (drop c.args.start c.deref.result.now)))) (omega arith) c.word_at.ensures
 
 pub returns-clause-bits : goal.returns-clause-bits
 returns-clause-bits c =
-    let some : length (map_at c.args.maps.now.items c.args.start c.args.self.len) ≤ c.args.self.len = length-map c.args.maps.now.items c.args.start c.args.self.len in
+    let some : length (map_at c.args.maps.now.items c.args.start c.args.self.len) ≤ c.args.self.len =
+    length-map c.args.maps.now.items c.args.start c.args.self.len in
     let short : c.args.self.len ≤ map_limit = c.requires.place.short in
-    let whole : left_in c.word_at.result ≡ 56 = top-is-left 56 c.word_at.result (drop (7 * (c.saturating_add-end.result - 8)) (bits (take (c.args.start + c.args.self.len - c.args.start) (drop c.args.start c.deref.result.now)))) (omega arith) c.word_at.ensures in
-    bits-next (map_at c.args.maps.now.items c.args.start c.args.self.len) c.args.self.end c.args.self.word c.saturating_add-end.result c.word_at.result (omega (arith, some, short)) c.requires.spent whole c.saturating_add-end.ensures
+    let whole : left_in c.word_at.result ≡ 56 = top-is-left 56 c.word_at.result
+    (drop (7 * (c.saturating_add-end.result - 8)) (bits (take (c.args.start + c.args.self.len - c.args.start)
+    (drop c.args.start c.deref.result.now)))) (omega arith) c.word_at.ensures in
+    bits-next (map_at c.args.maps.now.items c.args.start c.args.self.len) c.args.self.end c.args.self.word c.saturating_add-end.result
+    c.word_at.result (omega (arith, some, short)) c.requires.spent whole c.saturating_add-end.ensures

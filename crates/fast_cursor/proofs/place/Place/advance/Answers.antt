@@ -8,7 +8,10 @@ use Rattle.fast_cursor.proofs.place.Place.advance.Goals as goal
 pub returns-clause-left : goal.returns-clause-left
 returns-clause-left c d =
     let ahead = c.args.self.now.ahead.now in
-    ap (λ (ns : List ℕ). record d { left = ns; used = used_at d.map d.ends c.args.self.now.word }) (ap run_nodes (from_on 1 ahead) ∙ nodes-past ahead c.requires)
+    ap (λ (ns : List ℕ). record d {
+      left = ns;
+      used = used_at d.map d.ends c.args.self.now.word;
+    }) (ap run_nodes (from_on 1 ahead) ∙ nodes-past ahead c.requires)
 
 pub returns-clause-place : goal.returns-clause-place
 returns-clause-place c d h =

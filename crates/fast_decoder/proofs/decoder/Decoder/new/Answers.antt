@@ -4,7 +4,8 @@ use Rattle.std.specs.Prelude.{None}
 use Rattle.fast_machine.specs.device.Positions.{set_of}
 use Rattle.fast_decoder.specs.meaning.Decoding.{DecoderData, AreBadLimits}
 use Rattle.fast_decoder.proofs.streams.Bounds.{stored-bound}
-use Rattle.fast_decoder.proofs.streams.Starts.{sound_fresh, read_fresh, good_limits, bad_is_not_long, long_is_not_bad, memory_is_not_bad, memory_is_not_long, made_is_no_error, yes_and_no}
+use Rattle.fast_decoder.proofs.streams.Starts.{sound_fresh, read_fresh, good_limits, bad_is_not_long, long_is_not_bad, memory_is_not_bad}
+use Rattle.fast_decoder.proofs.streams.Starts.{memory_is_not_long, made_is_no_error, yes_and_no}
 use Rattle.fast_decoder.proofs.decoder.Decoder.new.Goals as goal
 
 pub returns-then-limits-lt-MIN_TEXT-clause-bad_limits : goal.returns-then-limits-lt-MIN_TEXT-clause-bad_limits

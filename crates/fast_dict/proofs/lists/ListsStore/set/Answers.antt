@@ -21,11 +21,17 @@ index_mut-requires c =
 
 pub invariant_of-self : goal.invariant_of-self
 invariant_of-self c =
-    let short : length (text_of (value_data c.in_ok-value.value)) ≤ c.args.self.now.max_text = rw c.in_ok-value.ensures.value (storable (lists_terms c.args.self.now) c.args.entry (scalar_data c.args.scalar) c.requires.room).0 in
-    record { fitting = set_fits c.args.self.now.entries.items c.args.entry (Assigned c.args.kind c.in_ok-value.value) c.args.self.now.max_text c.args.self.now.fitting short }
+    let short : length (text_of (value_data c.in_ok-value.value)) ≤ c.args.self.now.max_text =
+    rw c.in_ok-value.ensures.value (storable (lists_terms c.args.self.now) c.args.entry
+    (scalar_data c.args.scalar) c.requires.room).0 in
+    record {
+      fitting = set_fits c.args.self.now.entries.items c.args.entry
+          (Assigned c.args.kind c.in_ok-value.value) c.args.self.now.max_text c.args.self.now.fitting short;
+    }
 
 pub returns-clause-ok : goal.returns-clause-ok
-returns-clause-ok c = map-set held_data c.args.self.now.entries.items c.args.entry _ ∙ ap (λ v. slice_set (lists_dictionary c.args.self.now) c.args.entry (assigned c.args.kind v)) c.in_ok-value.ensures.value
+returns-clause-ok c = map-set held_data c.args.self.now.entries.items c.args.entry _
+    ∙ ap (λ v. slice_set (lists_dictionary c.args.self.now) c.args.entry (assigned c.args.kind v)) c.in_ok-value.ensures.value
 
 pub returns-clause-same : goal.returns-clause-same
 returns-clause-same c =

@@ -16,7 +16,9 @@ use Rattle.fast_dict.specs.meaning.Previous.{previous_data}
 use Rattle.fast_dict.proofs.operators.decimals.exponent_delta.Goals as goal
 
 -- what the step gives for a base that is known
-at_base : (f : FieldData) (p : PreviousData) (k x : ℤ) (base : ScalarData) (r : Result ℤ Code) → Ok base ≡ delta_base f p → x ≡ exponent_of base → SFits w128 x → SFits w128 k → r ≡ ranged exponent_range R1 (to_z w128 (of_z w128 x) +ℤ to_z w128 (of_z w128 k)) → r ≡ exponent_step f p k
+at_base : (f : FieldData) (p : PreviousData) (k x : ℤ) (base : ScalarData) (r : Result ℤ Code) → Ok base ≡ delta_base f p
+    → x ≡ exponent_of base → SFits w128 x → SFits w128 k → r ≡ ranged exponent_range R1
+    (to_z w128 (of_z w128 x) +ℤ to_z w128 (of_z w128 k)) → r ≡ exponent_step f p k
 at_base f p k x base r known value fits_x fits_k sum =
     sum ∙ ap (λ y. ranged exponent_range R1 (y +ℤ to_z w128 (of_z w128 k))) (to_z-of_z w128 x fits_x ∙ value)
     ∙ ap (λ y. ranged exponent_range R1 (exponent_of base +ℤ y)) (to_z-of_z w128 k fits_k)
@@ -35,7 +37,9 @@ returns-in_err-base c =
 pub returns-in_err-sum : goal.returns-in_err-sum
 returns-in_err-sum c =
     let e = err_from_is_err_and c.from_residual-in_err-sum.result c.from_residual-in_err-sum.ensures.1 in
-    rw (e.1, e.2) (at_base (field_data c.args.field.now) (previous_data c.args.previous) c.args.delta c.exponent_of.result (scalar_data c.in_ok-base.base) (Err c.in_err-sum.field-0.0) c.in_ok-base.ensures c.exponent_of.ensures.value (record { sfits = c.exponent_of.type_inv }) c.ranges.delta c.in_err-sum.ensures.sum)
+    rw (e.1, e.2) (at_base (field_data c.args.field.now) (previous_data c.args.previous) c.args.delta c.exponent_of.result
+    (scalar_data c.in_ok-base.base) (Err c.in_err-sum.field-0.0) c.in_ok-base.ensures c.exponent_of.ensures.value
+    (record { sfits = c.exponent_of.type_inv }) c.ranges.delta c.in_err-sum.ensures.sum)
 
 pub exponent_value-requires-clause-low : goal.exponent_value-requires-clause-low
 exponent_value-requires-clause-low c = rw (short c.in_ok-sum.sum c.in_ok-sum.ensures.inside.0 c.in_ok-sum.ensures.inside.1) c.in_ok-sum.ensures.inside.0
@@ -45,5 +49,8 @@ exponent_value-requires-clause-high c = rw (short c.in_ok-sum.sum c.in_ok-sum.en
 
 pub returns : goal.returns
 returns c =
-    ap Ok (to_z-of_z w32 c.exponent_value.result (record { sfits = c.exponent_value.type_inv }) ∙ c.exponent_value.ensures ∙ short c.in_ok-sum.sum c.in_ok-sum.ensures.inside.0 c.in_ok-sum.ensures.inside.1)
-    ∙ at_base (field_data c.args.field.now) (previous_data c.args.previous) c.args.delta c.exponent_of.result (scalar_data c.in_ok-base.base) (Ok c.in_ok-sum.sum) c.in_ok-base.ensures c.exponent_of.ensures.value (record { sfits = c.exponent_of.type_inv }) c.ranges.delta c.in_ok-sum.ensures.sum
+    ap Ok (to_z-of_z w32 c.exponent_value.result (record { sfits = c.exponent_value.type_inv }) ∙ c.exponent_value.ensures
+    ∙ short c.in_ok-sum.sum c.in_ok-sum.ensures.inside.0 c.in_ok-sum.ensures.inside.1)
+    ∙ at_base (field_data c.args.field.now) (previous_data c.args.previous) c.args.delta c.exponent_of.result
+    (scalar_data c.in_ok-base.base) (Ok c.in_ok-sum.sum) c.in_ok-base.ensures c.exponent_of.ensures.value
+    (record { sfits = c.exponent_of.type_inv }) c.ranges.delta c.in_ok-sum.ensures.sum

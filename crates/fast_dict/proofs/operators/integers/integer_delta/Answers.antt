@@ -18,7 +18,8 @@ use Rattle.fast_dict.specs.meaning.Previous.{previous_data}
 use Rattle.fast_dict.proofs.operators.integers.integer_delta.Goals as goal
 
 -- what is kept is the sum, as a value of the kind
-kept_sum : {kind : Kind} {v : ScalarData} (o : Result Outcome Code) (x : ℤ) (r : Result Outcome Code) → o ≡ keeps kind v → v ≡ value_of_integer kind x → keeps kind (value_of_integer kind x) ≡ r → o ≡ r
+kept_sum : {kind : Kind} {v : ScalarData} (o : Result Outcome Code) (x : ℤ) (r : Result Outcome Code) → o ≡ keeps kind v
+    → v ≡ value_of_integer kind x → keeps kind (value_of_integer kind x) ≡ r → o ≡ r
 kept_sum {kind = kind} o x r keep value rest = keep ∙ ap (keeps kind) value ∙ rest
 
 -- The bounds of a kind are no long numbers.
@@ -43,8 +44,13 @@ greatest Unicode = refl
 greatest Bytes = refl
 
 -- what the step gives for a base that is known
-at_base : (f : FieldData) (p : PreviousData) (k x low high : ℤ) (base : ScalarData) (r : Result ℤ Code) → Ok base ≡ delta_base f p → x ≡ integer_of base → low ≡ (range_of f.kind).low → high ≡ (range_of f.kind).high → SFits w128 x → SFits w128 k
-    → r ≡ ranged (record { is_signed = true; low = to_z w128 (of_z w128 low); high = to_z w128 (of_z w128 high) }) D2 (to_z w128 (of_z w128 x) +ℤ to_z w128 (of_z w128 k)) → (r >>= (λ s. keeps f.kind (value_of_integer f.kind s))) ≡ integer_step f p k
+at_base : (f : FieldData) (p : PreviousData) (k x low high : ℤ) (base : ScalarData) (r : Result ℤ Code) → Ok base ≡ delta_base f p
+    → x ≡ integer_of base → low ≡ (range_of f.kind).low → high ≡ (range_of f.kind).high → SFits w128 x → SFits w128 k
+    → r ≡ ranged (record {
+      is_signed = true;
+      low = to_z w128 (of_z w128 low);
+      high = to_z w128 (of_z w128 high);
+    }) D2 (to_z w128 (of_z w128 x) +ℤ to_z w128 (of_z w128 k)) → (r >>= (λ s. keeps f.kind (value_of_integer f.kind s))) ≡ integer_step f p k
 at_base f p k x low high base r known value is_low is_high fits_x fits_k sum =
     let long : ℤ → ℤ = λ y. to_z w128 (of_z w128 y) in
     let kept : Result ℤ Code → Result Outcome Code = λ a. a >>= (λ s. keeps f.kind (value_of_integer f.kind s)) in
@@ -61,12 +67,16 @@ returns c = kept_sum _ (to_z w128 (of_z w128 c.in_ok-sum.sum)) _ c.kept.ensures 
 pub returns-in_err-base : goal.returns-in_err-base
 returns-in_err-base c =
     let e = err_from_is_err_and c.from_residual.result c.from_residual.ensures.1 in
-    rw (e.1, e.2) (ap (λ b. b >>= (λ v. ranged (range_of c.args.field.now.kind) D2 (integer_of v +ℤ c.args.delta) >>= (λ x. keeps c.args.field.now.kind (value_of_integer c.args.field.now.kind x)))) c.in_err-base.ensures)
+    rw (e.1, e.2) (ap (λ b. b >>= (λ v. ranged (range_of c.args.field.now.kind) D2 (integer_of v +ℤ c.args.delta) >>=
+    (λ x. keeps c.args.field.now.kind (value_of_integer c.args.field.now.kind x)))) c.in_err-base.ensures)
 
 pub returns-in_err-sum : goal.returns-in_err-sum
 returns-in_err-sum c =
     let e = err_from_is_err_and c.from_residual-in_err-sum.result c.from_residual-in_err-sum.ensures.1 in
-    rw (e.1, e.2) (at_base (field_data c.args.field.now) (previous_data c.args.previous) c.args.delta c.integer_of.result c.range_of-low.result.0 c.range_of-low.result.1 (scalar_data c.in_ok-base.base) (Err c.in_err-sum.field-0.0) c.in_ok-base.ensures c.integer_of.ensures.value c.range_of-low.ensures.low c.range_of-low.ensures.high (record { sfits = c.integer_of.type_inv }) c.ranges.delta c.in_err-sum.ensures.sum)
+    rw (e.1, e.2) (at_base (field_data c.args.field.now) (previous_data c.args.previous) c.args.delta c.integer_of.result
+    c.range_of-low.result.0 c.range_of-low.result.1 (scalar_data c.in_ok-base.base)
+    (Err c.in_err-sum.field-0.0) c.in_ok-base.ensures c.integer_of.ensures.value c.range_of-low.ensures.low c.range_of-low.ensures.high
+    (record { sfits = c.integer_of.type_inv }) c.ranges.delta c.in_err-sum.ensures.sum)
 
 pub integer_value-requires-clause-low : goal.integer_value-requires-clause-low
 integer_value-requires-clause-low c = search rules

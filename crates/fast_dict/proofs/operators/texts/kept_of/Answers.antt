@@ -1,5 +1,6 @@
 -- The goals that a wrong body would leave: `search` proves them of this one, and named ones say at once what is missing.
-use Rattle.std.proofs.Common.{rules, arith, ◌≡◌, ◌∙◌, ◌-◌, ◌-ℤ◌, ◌≤◌, ℕ, ℤ, pos, negsuc, nat_abs, int_le, to_z, of_z, true, false, refl, ap, subst, List, length, take, drop, Option, Result, Ok, Some, None, SomeIff, ok_or}
+use Rattle.std.proofs.Common.{rules, arith, ◌≡◌, ◌∙◌, ◌-◌, ◌-ℤ◌, ◌≤◌, ℕ, ℤ, pos, negsuc, nat_abs, int_le, to_z, of_z, true, false, refl, ap}
+use Rattle.std.proofs.Common.{subst, List, length, take, drop, Option, Result, Ok, Some, None, SomeIff, ok_or}
 use Rattle.std.specs.Int.{w128}
 use Rattle.std.proofs.lemmas.Bool.{le-leb}
 use Rattle.std.proofs.lemmas.Int.{ints, to_z-of_z}
@@ -49,12 +50,18 @@ taken_at (Some x) n size k r e f h = let same : k ≡ x = cc in (same ∙ h.1, r
 taken_at None n size k r e f h = absurd (cc)
 
 -- what is kept behind the bytes that are taken from the front
-behind : (base : List ℕ) (k : ℕ) (l : ℤ) → SFits w128 l → int_le (pos 0) (to_z w128 (of_z w128 l)) ≡ false → k ≡ nat_abs (to_z w128 (of_z w128 (negsuc 0 -ℤ to_z w128 (of_z w128 l)))) → k ≤ length base → Ok (prepend_to (take (length base - k) (drop k base))) ≡ kept_of base l
-behind base k (pos n) fits below e h = let f : int_le (pos 0) (pos n) ≡ false = subst (λ z. int_le (pos 0) z ≡ false) (to_z-of_z w128 (pos n) fits) below in let g : int_le (pos 0) (pos n) ≡ true = le-leb 0 n (omega arith) in absurd (cc)
+behind : (base : List ℕ) (k : ℕ) (l : ℤ) → SFits w128 l → int_le (pos 0) (to_z w128 (of_z w128 l)) ≡ false
+    → k ≡ nat_abs (to_z w128 (of_z w128 (negsuc 0 -ℤ to_z w128 (of_z w128 l)))) → k ≤ length base
+    → Ok (prepend_to (take (length base - k) (drop k base))) ≡ kept_of base l
+behind base k (pos n) fits below e h = let f : int_le (pos 0) (pos n) ≡ false =
+    subst (λ z. int_le (pos 0) z ≡ false) (to_z-of_z w128 (pos n) fits) below in
+    let g : int_le (pos 0) (pos n) ≡ true = le-leb 0 n (omega arith) in absurd (cc)
 behind base k (negsuc m) fits below e h =
     let turned : negsuc 0 -ℤ negsuc m ≡ pos m = omega (arith, ints) in
-    let same : k ≡ m = e ∙ ap (λ z. nat_abs (to_z w128 (of_z w128 (negsuc 0 -ℤ z)))) (to_z-of_z w128 (negsuc m) fits) ∙ ap (λ z. nat_abs (to_z w128 (of_z w128 z))) turned ∙ ap nat_abs (to_z-of_z w128 (pos m) (record { sfits = fits.sfits })) in
-    let all : take (length base - m) (drop m base) ≡ drop m base = take_all (length base - m) (drop m base) (let left = length-drop m base in omega (arith, left)) in
+    let same : k ≡ m = e ∙ ap (λ z. nat_abs (to_z w128 (of_z w128 (negsuc 0 -ℤ z)))) (to_z-of_z w128 (negsuc m) fits)
+    ∙ ap (λ z. nat_abs (to_z w128 (of_z w128 z))) turned ∙ ap nat_abs (to_z-of_z w128 (pos m) (record { sfits = fits.sfits })) in
+    let all : take (length base - m) (drop m base) ≡ drop m base =
+    take_all (length base - m) (drop m base) (let left = length-drop m base in omega (arith, left)) in
     rw (same, all, le-leb m (length base) (omega (arith, h, same))) refl
 
 pub returns : goal.returns

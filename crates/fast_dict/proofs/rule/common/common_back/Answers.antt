@@ -7,7 +7,11 @@ use Rattle.fast_dict.proofs.rule.common.common_back.Goals as goal
 
 pub loop-size-preserved : goal.loop-size-preserved
 loop-size-preserved c =
-    let e : slice_index_or (reverse c.args.a.now) c.loop-size.size 0 ≡ slice_index_or (reverse c.args.b.now) c.loop-size.size 0 = rw (get_or-reverse c.args.a.now c.loop-size.size 0 c.loop-size-test.true, get_or-reverse c.args.b.now c.loop-size.size 0 c.if-size-b.true) c.if-a-size.true in
+    let e : slice_index_or (reverse c.args.a.now) c.loop-size.size 0 ≡ slice_index_or (reverse c.args.b.now) c.loop-size.size 0 =
+    rw (
+      get_or-reverse c.args.a.now c.loop-size.size 0 c.loop-size-test.true,
+      get_or-reverse c.args.b.now c.loop-size.size 0 c.if-size-b.true,
+    ) c.if-a-size.true in
     let a : c.loop-size.size < length (reverse c.args.a.now) = rw length-reverse c.loop-size-test.true in
     let b : c.loop-size.size < length (reverse c.args.b.now) = rw length-reverse c.if-size-b.true in
     let m = front_more (reverse c.args.a.now) (reverse c.args.b.now) c.loop-size.size a b e in
@@ -19,7 +23,11 @@ loop-size-preserved c =
 
 pub returns-else-a-size-clause-size : goal.returns-else-a-size-clause-size
 returns-else-a-size-clause-size c =
-    let e : slice_index_or (reverse c.args.a.now) c.loop-size.size 0 ≡ slice_index_or (reverse c.args.b.now) c.loop-size.size 0 → ⊥ = rw (get_or-reverse c.args.a.now c.loop-size.size 0 c.loop-size-test.true, get_or-reverse c.args.b.now c.loop-size.size 0 c.if-size-b.true) c.if-a-size.false in
+    let e : slice_index_or (reverse c.args.a.now) c.loop-size.size 0 ≡ slice_index_or (reverse c.args.b.now) c.loop-size.size 0
+    → ⊥ = rw (
+      get_or-reverse c.args.a.now c.loop-size.size 0 c.loop-size-test.true,
+      get_or-reverse c.args.b.now c.loop-size.size 0 c.if-size-b.true,
+    ) c.if-a-size.false in
     let a : c.loop-size.size < length (reverse c.args.a.now) = rw length-reverse c.loop-size-test.true in
     let b : c.loop-size.size < length (reverse c.args.b.now) = rw length-reverse c.if-size-b.true in
     let m = front_stops (reverse c.args.a.now) (reverse c.args.b.now) c.loop-size.size a b e in

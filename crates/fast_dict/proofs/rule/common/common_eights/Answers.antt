@@ -11,7 +11,9 @@ loop-size-preserved c =
     let k = c.loop-size.size in
     let bytes_a : (i : ℕ) → get_or a i 0 < 256 = λ i. omega (arith, c.type_inv.a i) in
     let bytes_b : (i : ℕ) → get_or b i 0 < 256 = λ i. omega (arith, c.type_inv.b i) in
-    let more : common_front (drop k a) (drop k b) ≡ 8 + common_front (drop (k + 8) a) (drop (k + 8) b) = eight_more a b k c.eight_at.result c.eight_at-then-size-b.result c.loop-size-test.true c.if-size-b.true bytes_a bytes_b c.eight_at.ensures c.eight_at-then-size-b.ensures c.if-eight_at.true in
+    let more : common_front (drop k a) (drop k b) ≡ 8 + common_front (drop (k + 8) a) (drop (k + 8) b) =
+    eight_more a b k c.eight_at.result c.eight_at-then-size-b.result c.loop-size-test.true c.if-size-b.true bytes_a bytes_b
+    c.eight_at.ensures c.eight_at-then-size-b.ensures c.if-eight_at.true in
     record {
       size = omega (arith, more, c.loop-size.invariant.size);
       in_a = c.loop-size-test.true;

@@ -25,7 +25,8 @@ loop-size-preserved c =
     }
 
 pub returns-else-a-size-clause-size : goal.returns-else-a-size-clause-size
-returns-else-a-size-clause-size c = let m = front_stops c.args.a.now c.args.b.now c.loop-size.size c.loop-size-test.true c.if-size-b.true c.if-a-size.false in omega (arith, m, c.loop-size.invariant.size)
+returns-else-a-size-clause-size c = let m = front_stops c.args.a.now c.args.b.now c.loop-size.size c.loop-size-test.true c.if-size-b.true
+    c.if-a-size.false in omega (arith, m, c.loop-size.invariant.size)
 
 pub returns-else-a-size-clause-in_a : goal.returns-else-a-size-clause-in_a
 returns-else-a-size-clause-in_a c = c.loop-size.invariant.in_a
@@ -34,7 +35,8 @@ pub returns-else-a-size-clause-in_b : goal.returns-else-a-size-clause-in_b
 returns-else-a-size-clause-in_b c = c.loop-size.invariant.in_b
 
 pub returns-else-size-b-clause-size : goal.returns-else-size-b-clause-size
-returns-else-size-b-clause-size c = let h = front_past c.args.a.now c.args.b.now c.loop-size.size c.if-size-b.false in omega (arith, h, c.loop-size.invariant.size)
+returns-else-size-b-clause-size c = let h = front_past c.args.a.now c.args.b.now c.loop-size.size c.if-size-b.false in
+    omega (arith, h, c.loop-size.invariant.size)
 
 pub returns-else-size-b-clause-in_a : goal.returns-else-size-b-clause-in_a
 returns-else-size-b-clause-in_a c = c.loop-size.invariant.in_a
@@ -44,7 +46,8 @@ returns-else-size-b-clause-in_b c = c.loop-size.invariant.in_b
 
 pub returns-after-loop-size-clause-size : goal.returns-after-loop-size-clause-size
 returns-after-loop-size-clause-size c =
-    let none : common_front (drop c.loop-size.size c.args.a.now) (drop c.loop-size.size c.args.b.now) ≡ 0 = ap (λ xs. common_front xs (drop c.loop-size.size c.args.b.now)) (drop_all c.loop-size.size c.args.a.now c.loop-size-test.false) in
+    let none : common_front (drop c.loop-size.size c.args.a.now) (drop c.loop-size.size c.args.b.now) ≡ 0 =
+    ap (λ xs. common_front xs (drop c.loop-size.size c.args.b.now)) (drop_all c.loop-size.size c.args.a.now c.loop-size-test.false) in
     omega (arith, none, c.loop-size.invariant.size)
 
 pub returns-after-loop-size-clause-in_a : goal.returns-after-loop-size-clause-in_a

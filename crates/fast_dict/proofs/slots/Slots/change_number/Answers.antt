@@ -15,5 +15,6 @@ returns-clause-entry c =
     let places = c.args.self.now.places.items in
     let entries = c.args.self.now.entries.items in
     ap (λ e. entries_data block places (slice_set entries c.args.entry e)) c.change.ensures
-    ∙ put-entries block block places entries c.args.entry c.args.self.now.max_text c.args.held (with_text c.args.held []) (λ j size n h. refl) c.args.self.now.fitting
+    ∙ put-entries block block places entries c.args.entry c.args.self.now.max_text c.args.held (with_text c.args.held [])
+    (λ j size n h. refl) c.args.self.now.fitting
     (number-entry block (slice_index_or places c.args.entry None) c.args.held c.requires.number)

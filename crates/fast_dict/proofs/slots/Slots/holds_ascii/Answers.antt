@@ -10,5 +10,7 @@ entry-requires c = place_of_entry c.args.self.now c.args.entry c.requires
 
 pub returns-in-Ascii-clause-text : goal.returns-in-Ascii-clause-text
 returns-in-Ascii-clause-text c _ =
-    let place = slice_index_or c.args.self.now.places.items c.args.entry None in
-    (text_in c.args.self.now.block.items place c.in-Ascii.field-0, ascii_entry c.args.self.now c.args.entry c.in-Ascii.field-0 (sym c.entry.ensures.value ∙ c.in-Ascii.is))
+    let place = slice_index_or c.args.self.now.places.items c.args.entry None in (
+      text_in c.args.self.now.block.items place c.in-Ascii.field-0,
+      ascii_entry c.args.self.now c.args.entry c.in-Ascii.field-0 (sym c.entry.ensures.value ∙ c.in-Ascii.is),
+    )

@@ -16,7 +16,8 @@ returns c =
     let block = c.args.self.now.block.items in
     let h = place_of_entry c.args.self.now c.args.entry c.requires.0 in
     let within : c.args.entry < vec_len c.args.self.now.places = omega (arith, h, c.args.self.now.paired) in
-    let at : slice_index_or c.args.self.now.places.items c.args.entry None ≡ Some place = sym (get_or_read_under _ _ _ _ None c.index.ensures within c.args.self.now.places.ok.0) ∙ c.in-Some.is in
+    let at : slice_index_or c.args.self.now.places.items c.args.entry None ≡ Some place =
+    sym (get_or_read_under _ _ _ _ None c.index.ensures within c.args.self.now.places.ok.0) ∙ c.in-Some.is in
     let same : size ≡ place + size - place = omega arith in
     ascii_entry c.args.self.now c.args.entry size (sym c.entry.ensures.value ∙ c.in-Ascii.is)
     ∙ ap (λ (o : Option ℕ). assigned Ascii (AsciiText (text_in block o size))) at
@@ -34,7 +35,8 @@ overflow_add-result c =
     let place = c.in-Some.place in
     let h = place_of_entry c.args.self.now c.args.entry c.requires.0 in
     let within : c.args.entry < vec_len c.args.self.now.places = omega (arith, h, c.args.self.now.paired) in
-    let at : slice_index_or c.args.self.now.places.items c.args.entry None ≡ Some place = sym (get_or_read_under _ _ _ _ None c.index.ensures within c.args.self.now.places.ok.0) ∙ c.in-Some.is in
+    let at : slice_index_or c.args.self.now.places.items c.args.entry None ≡ Some place =
+    sym (get_or_read_under _ _ _ _ None c.index.ensures within c.args.self.now.places.ok.0) ∙ c.in-Some.is in
     let end : place + c.args.self.now.max_text ≤ vec_len c.args.self.now.block = c.args.self.now.within c.args.entry place at in
     let fits : c.in-Ascii.size ≤ c.args.self.now.max_text = c.in-Ascii.ensures.fits in
     search rules
@@ -50,7 +52,8 @@ slice_bounds-result-end c =
     let place = c.in-Some.place in
     let h = place_of_entry c.args.self.now c.args.entry c.requires.0 in
     let within : c.args.entry < vec_len c.args.self.now.places = omega (arith, h, c.args.self.now.paired) in
-    let at : slice_index_or c.args.self.now.places.items c.args.entry None ≡ Some place = sym (get_or_read_under _ _ _ _ None c.index.ensures within c.args.self.now.places.ok.0) ∙ c.in-Some.is in
+    let at : slice_index_or c.args.self.now.places.items c.args.entry None ≡ Some place =
+    sym (get_or_read_under _ _ _ _ None c.index.ensures within c.args.self.now.places.ok.0) ∙ c.in-Some.is in
     let end : place + c.args.self.now.max_text ≤ vec_len c.args.self.now.block = c.args.self.now.within c.args.entry place at in
     let fits : c.in-Ascii.size ≤ c.args.self.now.max_text = c.in-Ascii.ensures.fits in
     search rules

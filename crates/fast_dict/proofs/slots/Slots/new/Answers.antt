@@ -7,7 +7,8 @@ use Rattle.fast_dict.proofs.Slotted.{fresh-entries, fresh_fits}
 use Rattle.fast_dict.proofs.slots.Slots.new.Goals as goal
 
 pub invariant_of-result-clause-ordered : goal.invariant_of-result-clause-ordered
-invariant_of-result-clause-ordered c i j p q h a b = places-ordered c.args.max_text 0 c.args.takes_text.now i j p q h (rw (← c.in_ok-places.ensures.items) a) (rw (← c.in_ok-places.ensures.items) b)
+invariant_of-result-clause-ordered c i j p q h a b = places-ordered c.args.max_text 0 c.args.takes_text.now i j p q h
+    (rw (← c.in_ok-places.ensures.items) a) (rw (← c.in_ok-places.ensures.items) b)
 
 pub invariant_of-result-clause-within : goal.invariant_of-result-clause-within
 invariant_of-result-clause-within c i p a =

@@ -25,7 +25,8 @@ pub overflow_add-result : goal.overflow_add-result
 overflow_add-result c =
     let h = place_of_entry c.args.self.now c.args.entry c.requires in
     let b : c.args.entry < vec_len c.args.self.now.places = omega (arith, h, c.args.self.now.paired) in
-    let at : slice_index_or c.args.self.now.places.items c.args.entry None ≡ Some c.in_ok-place.place = sym (get_or_read_under _ _ _ _ None c.index.ensures b c.args.self.now.places.ok.0) ∙ c.in_ok-place.was in
+    let at : slice_index_or c.args.self.now.places.items c.args.entry None ≡ Some c.in_ok-place.place =
+    sym (get_or_read_under _ _ _ _ None c.index.ensures b c.args.self.now.places.ok.0) ∙ c.in_ok-place.was in
     let k : c.in_ok-place.place + c.args.self.now.max_text ≤ vec_len c.args.self.now.block = c.args.self.now.within c.args.entry c.in_ok-place.place at in
     let l : text_length c.entry.result ≡ c.in_ok-size.size = c.in_ok-size.ensures.0 in
     search (rules, k, l)
@@ -34,7 +35,8 @@ pub slice_bounds-result-end : goal.slice_bounds-result-end
 slice_bounds-result-end c =
     let h = place_of_entry c.args.self.now c.args.entry c.requires in
     let b : c.args.entry < vec_len c.args.self.now.places = omega (arith, h, c.args.self.now.paired) in
-    let at : slice_index_or c.args.self.now.places.items c.args.entry None ≡ Some c.in_ok-place.place = sym (get_or_read_under _ _ _ _ None c.index.ensures b c.args.self.now.places.ok.0) ∙ c.in_ok-place.was in
+    let at : slice_index_or c.args.self.now.places.items c.args.entry None ≡ Some c.in_ok-place.place =
+    sym (get_or_read_under _ _ _ _ None c.index.ensures b c.args.self.now.places.ok.0) ∙ c.in_ok-place.was in
     let k : c.in_ok-place.place + c.args.self.now.max_text ≤ vec_len c.args.self.now.block = c.args.self.now.within c.args.entry c.in_ok-place.place at in
     let l : text_length c.entry.result ≡ c.in_ok-size.size = c.in_ok-size.ensures.0 in
     search (rules, k, l)

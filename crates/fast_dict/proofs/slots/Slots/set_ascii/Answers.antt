@@ -12,12 +12,16 @@ use Rattle.fast_dict.proofs.slots.Slots.set_ascii.Goals as goal
 pub returns-clause-entry : goal.returns-clause-entry
 returns-clause-entry c =
     let text = c.args.text.now in
-    let held : entry_data c.write_text.new.self.block.items (slice_index_or c.args.self.now.places.items c.args.entry None) (Held.Ascii (length text)) ≡ assigned Ascii (AsciiText text) =
-    ap (λ t. assigned Ascii (AsciiText t)) (ap (λ ps. text_in c.write_text.new.self.block.items (slice_index_or ps.items c.args.entry None) (length text)) (sym c.write_text.ensures.places) ∙ c.write_text.ensures.text) in
+    let held : entry_data c.write_text.new.self.block.items (slice_index_or c.args.self.now.places.items c.args.entry None)
+    (Held.Ascii (length text)) ≡ assigned Ascii (AsciiText text) =
+    ap (λ t. assigned Ascii (AsciiText t)) (ap (λ ps. text_in c.write_text.new.self.block.items (slice_index_or ps.items c.args.entry None)
+    (length text)) (sym c.write_text.ensures.places) ∙ c.write_text.ensures.text) in
     rw (c.put.ensures.entries, c.put.ensures.places, c.put.ensures.block, c.write_text.ensures.entries, c.write_text.ensures.places)
-    (put-entries c.args.self.now.block.items c.write_text.new.self.block.items c.args.self.now.places.items c.args.self.now.entries.items c.args.entry c.args.self.now.max_text (Held.Ascii (length text))
+    (put-entries c.args.self.now.block.items c.write_text.new.self.block.items c.args.self.now.places.items c.args.self.now.entries.items
+    c.args.entry c.args.self.now.max_text (Held.Ascii (length text))
     (assigned Ascii (AsciiText text))
-    (λ j size n h. ap (λ ps. text_in c.write_text.new.self.block.items (slice_index_or ps.items j None) size) (sym c.write_text.ensures.places) ∙ c.write_text.ensures.others j size n (rw c.write_text.ensures.max_text h))
+    (λ j size n h. ap (λ ps. text_in c.write_text.new.self.block.items (slice_index_or ps.items j None) size)
+    (sym c.write_text.ensures.places) ∙ c.write_text.ensures.others j size n (rw c.write_text.ensures.max_text h))
     c.args.self.now.fitting held)
 
 pub returns-clause-holds : goal.returns-clause-holds

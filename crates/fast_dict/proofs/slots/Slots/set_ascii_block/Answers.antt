@@ -13,13 +13,18 @@ use Rattle.fast_dict.proofs.slots.Slots.set_ascii_block.Goals as goal
 pub returns-clause-entry : goal.returns-clause-entry
 returns-clause-entry c =
     let text = take c.args.count c.args.block.now in
-    let held : entry_data c.write_block.new.self.block.items (slice_index_or c.args.self.now.places.items c.args.entry None) (Held.Ascii c.args.count) ≡ assigned Ascii (AsciiText text) =
-    ap (λ t. assigned Ascii (AsciiText t)) (text_over c.args.self.now.block.items c.write_block.new.self.block.items text (slice_index_or c.args.self.now.places.items c.args.entry None) c.args.count
-    (ap (λ ps. text_in c.write_block.new.self.block.items (slice_index_or ps.items c.args.entry None) (0 + c.args.count)) (sym c.write_block.ensures.places) ∙ c.write_block.ensures.text c.args.count c.requires.count)) in
+    let held : entry_data c.write_block.new.self.block.items (slice_index_or c.args.self.now.places.items c.args.entry None)
+    (Held.Ascii c.args.count) ≡ assigned Ascii (AsciiText text) =
+    ap (λ t. assigned Ascii (AsciiText t)) (text_over c.args.self.now.block.items c.write_block.new.self.block.items text
+    (slice_index_or c.args.self.now.places.items c.args.entry None) c.args.count
+    (ap (λ ps. text_in c.write_block.new.self.block.items (slice_index_or ps.items c.args.entry None) (0 + c.args.count))
+    (sym c.write_block.ensures.places) ∙ c.write_block.ensures.text c.args.count c.requires.count)) in
     rw (c.put.ensures.entries, c.put.ensures.places, c.put.ensures.block, c.write_block.ensures.entries, c.write_block.ensures.places)
-    (put-entries c.args.self.now.block.items c.write_block.new.self.block.items c.args.self.now.places.items c.args.self.now.entries.items c.args.entry c.args.self.now.max_text (Held.Ascii c.args.count)
+    (put-entries c.args.self.now.block.items c.write_block.new.self.block.items c.args.self.now.places.items c.args.self.now.entries.items
+    c.args.entry c.args.self.now.max_text (Held.Ascii c.args.count)
     (assigned Ascii (AsciiText text))
-    (λ j size n h. ap (λ ps. text_in c.write_block.new.self.block.items (slice_index_or ps.items j None) size) (sym c.write_block.ensures.places) ∙ c.write_block.ensures.others j size n (rw c.write_block.ensures.max_text h))
+    (λ j size n h. ap (λ ps. text_in c.write_block.new.self.block.items (slice_index_or ps.items j None) size)
+    (sym c.write_block.ensures.places) ∙ c.write_block.ensures.others j size n (rw c.write_block.ensures.max_text h))
     c.args.self.now.fitting held)
 
 pub returns-clause-holds : goal.returns-clause-holds

@@ -32,11 +32,16 @@ returns-clause-tail c _ =
     let at : ℕ = c.saturating_sub-at.result in
     let n : length part ≡ c.args.count = length-take-le c.args.count c.args.block.now (omega (arith, c.requires.block, c.requires.count)) in
     let here : at ≡ c.in-Ascii.size - length part = c.saturating_sub-at.ensures ∙ ap (λ k. c.in-Ascii.size - k) (sym n) in
-    let within : c.args.entry < vec_len c.args.self.now.places = let h = place_of_entry c.args.self.now c.args.entry c.requires.there in omega (arith, h, c.args.self.now.paired) in
-    let some : is_some place ≡ true = ap is_some (sym (get_or_read_under _ _ _ _ None c.index.ensures within c.args.self.now.places.ok.0)) ∙ c.if-is_none.ensures in
+    let within : c.args.entry < vec_len c.args.self.now.places = let h = place_of_entry c.args.self.now c.args.entry c.requires.there in
+    omega (arith, h, c.args.self.now.paired) in
+    let some : is_some place ≡ true = ap is_some (sym (get_or_read_under _ _ _ _ None c.index.ensures within c.args.self.now.places.ok.0))
+    ∙ c.if-is_none.ensures in
     let joined : text_in c.write_block.new.self.block.items place (at + c.args.count) ≡ with_tail base part =
-    ap (λ ps. text_in c.write_block.new.self.block.items (slice_index_or ps.items c.args.entry None) (at + c.args.count)) (sym c.write_block.ensures.places) ∙ c.write_block.ensures.text c.args.count c.requires.count
-    ∙ tail_in block part place c.args.self.now.max_text c.in-Ascii.size at some (λ p e. let h = c.args.self.now.within c.args.entry p e in omega (arith, h, c.args.self.now.block.ok.0)) c.in-Ascii.ensures.fits here in
+    ap (λ ps. text_in c.write_block.new.self.block.items (slice_index_or ps.items c.args.entry None) (at + c.args.count))
+    (sym c.write_block.ensures.places) ∙ c.write_block.ensures.text c.args.count c.requires.count
+    ∙ tail_in block part place c.args.self.now.max_text c.in-Ascii.size at some
+    (λ p e. let h = c.args.self.now.within c.args.entry p e in omega (arith, h, c.args.self.now.block.ok.0)) c.in-Ascii.ensures.fits
+    here in
     let held : entry_data c.write_block.new.self.block.items place (Held.Ascii (at + c.args.count)) ≡ assigned Ascii (AsciiText (with_tail base part)) =
     ap (λ t. assigned Ascii (AsciiText t)) joined in (
       base,
@@ -44,14 +49,16 @@ returns-clause-tail c _ =
       rw (c.put.ensures.entries, c.put.ensures.places, c.put.ensures.block, c.write_block.ensures.entries, c.write_block.ensures.places)
           (put-entries block c.write_block.new.self.block.items places entries c.args.entry c.args.self.now.max_text (Held.Ascii (at + c.args.count))
           (assigned Ascii (AsciiText (with_tail base part)))
-          (λ j size n h. ap (λ ps. text_in c.write_block.new.self.block.items (slice_index_or ps.items j None) size) (sym c.write_block.ensures.places) ∙ c.write_block.ensures.others j size n (rw c.write_block.ensures.max_text h))
+          (λ j size n h. ap (λ ps. text_in c.write_block.new.self.block.items (slice_index_or ps.items j None) size)
+          (sym c.write_block.ensures.places) ∙ c.write_block.ensures.others j size n (rw c.write_block.ensures.max_text h))
           c.args.self.now.fitting held),
     )
 
 pub returns-clause-holds : goal.returns-clause-holds
 returns-clause-holds c _ =
     let at = c.saturating_sub-at.result + c.args.count in
-    let within : c.args.entry < vec_len c.args.self.now.places = let h = place_of_entry c.args.self.now c.args.entry c.requires.there in omega (arith, h, c.args.self.now.paired) in
+    let within : c.args.entry < vec_len c.args.self.now.places = let h = place_of_entry c.args.self.now c.args.entry c.requires.there in
+    omega (arith, h, c.args.self.now.paired) in
     let some : is_some (slice_index_or c.args.self.now.places.items c.args.entry None) ≡ true =
     ap is_some (sym (get_or_read_under _ _ _ _ None c.index.ensures within c.args.self.now.places.ok.0)) ∙ c.if-is_none.ensures in
     set_holds c.args.self.now c.put.new.self c.args.entry at c.requires.there some
@@ -75,7 +82,8 @@ write_block-requires-clause-fits c = omega (arith, c.if-self-at-lt16.false)
 
 pub write_block-requires-clause-takes : goal.write_block-requires-clause-takes
 write_block-requires-clause-takes c =
-    let within : c.args.entry < vec_len c.args.self.now.places = let h = place_of_entry c.args.self.now c.args.entry c.requires.there in omega (arith, h, c.args.self.now.paired) in
+    let within : c.args.entry < vec_len c.args.self.now.places = let h = place_of_entry c.args.self.now c.args.entry c.requires.there in
+    omega (arith, h, c.args.self.now.paired) in
     ap is_some (sym (get_or_read_under _ _ _ _ None c.index.ensures within c.args.self.now.places.ok.0)) ∙ c.if-is_none.ensures
 
 pub write_block-requires-clause-block : goal.write_block-requires-clause-block
@@ -91,7 +99,10 @@ pub put-requires-clause-fits : goal.put-requires-clause-fits
 put-requires-clause-fits c = rw c.write_block.ensures.max_text (omega (arith, c.if-self-at-lt16.false, c.requires.count))
 
 pub returns-clause-same : goal.returns-clause-same
-returns-clause-same c = same_terms c.args.self.now c.put.new.self c.args.entry (Held.Ascii (c.saturating_sub-at.result + c.args.count)) (c.put.ensures.entries ∙ ap (λ es. slice_set es.items c.args.entry (Held.Ascii (c.saturating_sub-at.result + c.args.count))) c.write_block.ensures.entries) (c.put.ensures.places ∙ c.write_block.ensures.places) (c.put.ensures.max_text ∙ c.write_block.ensures.max_text)
+returns-clause-same c = same_terms c.args.self.now c.put.new.self c.args.entry (Held.Ascii (c.saturating_sub-at.result + c.args.count))
+    (c.put.ensures.entries ∙ ap (λ es. slice_set es.items c.args.entry (Held.Ascii (c.saturating_sub-at.result + c.args.count)))
+    c.write_block.ensures.entries) (c.put.ensures.places ∙ c.write_block.ensures.places)
+    (c.put.ensures.max_text ∙ c.write_block.ensures.max_text)
 
 pub returns-then-is_none-clause-tail : goal.returns-then-is_none-clause-tail
 returns-then-is_none-clause-tail c e = never e

@@ -13,5 +13,6 @@ returns-clause-entry c =
     let block = c.args.self.now.block.items in
     let places = c.args.self.now.places.items in
     rw (c.put.ensures.entries, c.put.ensures.places, c.put.ensures.block)
-    (put-entries block block places c.args.self.now.entries.items c.args.entry c.args.self.now.max_text c.args.held (with_text c.args.held []) (λ j size n h. refl) c.args.self.now.fitting
+    (put-entries block block places c.args.self.now.entries.items c.args.entry c.args.self.now.max_text c.args.held
+    (with_text c.args.held []) (λ j size n h. refl) c.args.self.now.fitting
     (number-entry block (slice_index_or places c.args.entry None) c.args.held c.requires.number))

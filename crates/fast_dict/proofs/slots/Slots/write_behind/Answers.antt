@@ -11,7 +11,8 @@ returns-in-Some-clause-text c =
     let place = c.in-Some.place in
     let part = c.args.part.now in
     let b : c.args.entry < vec_len s.places = omega (arith, s.paired, c.requires.there) in
-    let at : slice_index_or s.places.items c.args.entry None ≡ Some place = sym (get_or_read_under _ _ _ _ None c.index.ensures b s.places.ok.0) ∙ c.in-Some.is in
+    let at : slice_index_or s.places.items c.args.entry None ≡ Some place =
+    sym (get_or_read_under _ _ _ _ None c.index.ensures b s.places.ok.0) ∙ c.in-Some.is in
     let h : place + s.max_text ≤ vec_len s.block = s.within c.args.entry place at in
     rw (at, c.copy_into.ensures.items) (text_behind s.block.items part place c.args.keep (omega (arith, h, s.block.ok.0, c.requires.fits)))
 
@@ -20,7 +21,9 @@ returns-in-Some-clause-others c i size ne small =
     let s = c.args.self.now in
     let place = c.in-Some.place in
     let b : c.args.entry < vec_len s.places = omega (arith, s.paired, c.requires.there) in
-    let at : slice_index_or s.places.items c.args.entry None ≡ Some place = sym (get_or_read_under _ _ _ _ None c.index.ensures b s.places.ok.0) ∙ c.in-Some.is in
+    let at : slice_index_or s.places.items c.args.entry None ≡ Some place =
+    sym (get_or_read_under _ _ _ _ None c.index.ensures b s.places.ok.0) ∙ c.in-Some.is in
     let h : place + s.max_text ≤ vec_len s.block = s.within c.args.entry place at in
     let k : place + s.max_text ≤ length s.block.items = omega (arith, h, s.block.ok.0) in
-    rw c.copy_into.ensures.items (behind_elsewhere s.block.items c.args.part.now s.places.items c.args.entry place c.args.keep i s.max_text size c.requires.fits small k ne at s.ordered)
+    rw c.copy_into.ensures.items (behind_elsewhere s.block.items c.args.part.now s.places.items c.args.entry place c.args.keep i s.max_text
+    size c.requires.fits small k ne at s.ordered)

@@ -21,10 +21,13 @@ put-requires-clause-there c = rw c.write_text.ensures.entries (place_of_entry c.
 
 pub returns-clause-ok : goal.returns-clause-ok
 returns-clause-ok c =
-    let held : entry_data c.write_text.new.self.block.items (slice_index_or c.args.self.now.places.items c.args.entry None) c.of.result ≡ assigned c.args.kind (scalar_data c.args.scalar) =
+    let held : entry_data c.write_text.new.self.block.items
+    (slice_index_or c.args.self.now.places.items c.args.entry None) c.of.result ≡ assigned c.args.kind (scalar_data c.args.scalar) =
     rw (c.of.ensures.size, ← c.bytes_of.ensures, ← c.write_text.ensures.places, c.write_text.ensures.text, c.bytes_of.ensures) c.of.ensures.value in
     rw (c.put.ensures.entries, c.put.ensures.places, c.put.ensures.block, c.write_text.ensures.entries, c.write_text.ensures.places)
-    (put-entries c.args.self.now.block.items c.write_text.new.self.block.items c.args.self.now.places.items c.args.self.now.entries.items c.args.entry c.args.self.now.max_text c.of.result
+    (put-entries c.args.self.now.block.items c.write_text.new.self.block.items c.args.self.now.places.items c.args.self.now.entries.items
+    c.args.entry c.args.self.now.max_text c.of.result
     (assigned c.args.kind (scalar_data c.args.scalar))
-    (λ j size n h. ap (λ ps. text_in c.write_text.new.self.block.items (slice_index_or ps.items j None) size) (sym c.write_text.ensures.places) ∙ c.write_text.ensures.others j size n (rw c.write_text.ensures.max_text h))
+    (λ j size n h. ap (λ ps. text_in c.write_text.new.self.block.items (slice_index_or ps.items j None) size)
+    (sym c.write_text.ensures.places) ∙ c.write_text.ensures.others j size n (rw c.write_text.ensures.max_text h))
     c.args.self.now.fitting held)

@@ -7,5 +7,6 @@ use Rattle.fast_dump.proofs.dump.Dump.take.Given as goal
 
 abbrev pub invariant-loop-k : goal.invariant-loop-k
 invariant-loop-k g l =
-    (first : Start) (t : Tree) (s : Limits) (b : List ℕ) (es : List EventData) → Progress g.T.Target.written g.T.Target.has_failed first t s l.fn.self b es → length b + length l.bytes < 2 ^ 64
+    (first : Start) (t : Tree) (s : Limits) (b : List ℕ) (es : List EventData)
+    → Progress g.T.Target.written g.T.Target.has_failed first t s l.fn.self b es → length b + length l.bytes < 2 ^ 64
     → (more : List EventData) × Progress g.T.Target.written g.T.Target.has_failed first t s l.self (b ++ take l.k l.bytes) (es ++ more)

@@ -10,8 +10,11 @@ returns-in_err-rest g c held had t b ls h =
 pub returns-in_err-write_closing_columns : goal.returns-in_err-write_closing_columns
 returns-in_err-write_closing_columns g c held had t b ls h =
     let p = err_from_is_err_and c.from_residual-in_err-write_closing_columns.result c.from_residual-in_err-write_closing_columns.ensures.1 in
-    rw p.1 (closes_columns _ _ held had t _ _ b ls _ _ p.0 (fault_text c.args.fault.code c.args.fault.place) (c.in_ok-rest.ensures.rows held had t b ls h) c.in_ok-rest.ensures.empty c.place.ensures c.in_err-write_closing_columns.ensures)
+    rw p.1 (closes_columns _ _ held had t _ _ b ls _ _ p.0 (fault_text c.args.fault.code c.args.fault.place)
+    (c.in_ok-rest.ensures.rows held had t b ls h) c.in_ok-rest.ensures.empty c.place.ensures c.in_err-write_closing_columns.ensures)
 
 pub returns : goal.returns
 returns g c held had t b ls h =
-    closes_line _ _ held had t _ _ _ b ls _ _ c.write_fault.result (fault_text c.args.fault.code c.args.fault.place) (c.in_ok-rest.ensures.rows held had t b ls h) c.in_ok-rest.ensures.empty c.place.ensures c.in_ok-write_closing_columns.ensures c.write_fault.ensures.written c.write_fault.ensures.part c.write_fault.ensures.fails c.write_fault.ensures.stays
+    closes_line _ _ held had t _ _ _ b ls _ _ c.write_fault.result (fault_text c.args.fault.code c.args.fault.place)
+    (c.in_ok-rest.ensures.rows held had t b ls h) c.in_ok-rest.ensures.empty c.place.ensures c.in_ok-write_closing_columns.ensures
+    c.write_fault.ensures.written c.write_fault.ensures.part c.write_fault.ensures.fails c.write_fault.ensures.stays

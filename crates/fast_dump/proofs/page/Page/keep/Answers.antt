@@ -4,7 +4,8 @@ use Rattle.fast_dump.proofs.Closing.{end_of}
 use Rattle.fast_dump.proofs.page.Page.keep.Goals as goal
 
 pub returns-clause-gains : goal.returns-clause-gains
-returns-clause-gains g c held had t b ls h = page_gains _ _ held had t _ _ b ls _ (c.in_ok-make_room.ensures.rows held had t b ls h) refl c.push.ensures.kept c.push.ensures.place refl refl
+returns-clause-gains g c held had t b ls h = page_gains _ _ held had t _ _ b ls _
+    (c.in_ok-make_room.ensures.rows held had t b ls h) refl c.push.ensures.kept c.push.ensures.place refl refl
 
 pub returns-then-end-eq18446744073709551615-clause-torn : goal.returns-then-end-eq18446744073709551615-clause-torn
 returns-then-end-eq18446744073709551615-clause-torn g c held had t b ls h small =

@@ -10,4 +10,5 @@ returns-in_err-write_note-clause-rows g c held had t b ls h =
 
 pub returns-clause-rows : goal.returns-clause-rows
 returns-clause-rows g c held had t b ls h =
-    page_aside _ _ held had t _ c.args.self.now _ b ls _ _ h h.names c.place.ensures c.bytes.ensures.bytes c.in_ok-write_note.ensures c.clear.ensures.kept c.clear.ensures.place refl refl
+    page_aside _ _ held had t _ c.args.self.now _ b ls _ _ h h.names c.place.ensures c.bytes.ensures.bytes c.in_ok-write_note.ensures
+    c.clear.ensures.kept c.clear.ensures.place refl refl

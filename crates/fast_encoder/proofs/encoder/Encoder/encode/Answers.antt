@@ -9,7 +9,8 @@ use Rattle.fast_encoder.proofs.encoder.Encoder.encode.Goals as goal
 pub returns-then-try_encode-clause-told : goal.returns-then-try_encode-clause-told
 returns-then-try_encode-clause-told c = λ f h.
     let e = c.if-try_encode.ensures.encoded refl in
-    absurd (refused_is_not_encoded (tree c.args.self.now) c.args.self.now.limits c.args.self.now.dictionary c.try_encode.new.self.dictionary (message_data c.args.message.now) e.bytes f e.suits e.fits e.ruled h)
+    absurd (refused_is_not_encoded (tree c.args.self.now) c.args.self.now.limits c.args.self.now.dictionary
+    c.try_encode.new.self.dictionary (message_data c.args.message.now) e.bytes f e.suits e.fits e.ruled h)
 
 pub returns-clause-told : goal.returns-clause-told
 returns-clause-told c = λ f h.

@@ -19,22 +19,30 @@ use Rattle.fast_encoder.proofs.encoder.Encoder.try_encode.Goals as goal
 abbrev before : (t : Templates) → Limits → LedgerData → EncoderData
 before t l s = record { set = set_of t; limits = l; dictionary = s.now }
 
-ruled : (c : goal.After-commit) → EncodesMessage (tree_of c.self.inside.plan.templates.now) c.self.inside.plan.limits c.self.inside.work.ledger.now (message_data c.args.message.now) c.try_message-tried.new.work.draft.bytes.items c.commit.new.self.now
+ruled : (c : goal.After-commit) → EncodesMessage (tree_of c.self.inside.plan.templates.now) c.self.inside.plan.limits
+    c.self.inside.work.ledger.now (message_data c.args.message.now) c.try_message-tried.new.work.draft.bytes.items c.commit.new.self.now
 ruled c = rw c.commit.ensures.now c.in_default-tried.ensures.ok
 
-encoded : (c : goal.After-commit) → IsEncoded (before c.self.inside.plan.templates.now c.self.inside.plan.limits c.self.inside.work.ledger) (message_data c.args.message.now) c.args.out.now.items (before c.self.inside.plan.templates.now c.self.inside.plan.limits c.commit.new.self) c.extend_from_slice.new.self.items
+encoded : (c : goal.After-commit) → IsEncoded (before c.self.inside.plan.templates.now c.self.inside.plan.limits c.self.inside.work.ledger)
+    (message_data c.args.message.now) c.args.out.now.items
+    (before c.self.inside.plan.templates.now c.self.inside.plan.limits c.commit.new.self) c.extend_from_slice.new.self.items
 encoded c = record {
   bytes = c.try_message-tried.new.work.draft.bytes.items;
-  appended = c.extend_from_slice.ensures.items ∙ ap (λ (b : Bool). if b then c.args.out.now.items ++ c.deref.result.now else c.args.out.now.items) c.if-is_err.ensures.negation ∙ ap (λ (z : List ℕ). c.args.out.now.items ++ z) c.deref.ensures.value;
+  appended = c.extend_from_slice.ensures.items ∙ ap (λ (b : Bool). if b then c.args.out.now.items
+      ++ c.deref.result.now else c.args.out.now.items) c.if-is_err.ensures.negation
+      ∙ ap (λ (z : List ℕ). c.args.out.now.items ++ z) c.deref.ensures.value;
   suits = c.in_default-tried.ensures.suits;
   fits = c.in_default-tried.ensures.fits;
   ruled = ruled c;
-  spelled = encoded_is_spelled (tree_of c.self.inside.plan.templates.now) c.self.inside.plan.limits c.self.inside.work.ledger.now (message_data c.args.message.now) c.try_message-tried.new.work.draft.bytes.items c.commit.new.self.now
+  spelled = encoded_is_spelled (tree_of c.self.inside.plan.templates.now) c.self.inside.plan.limits c.self.inside.work.ledger.now
+      (message_data c.args.message.now) c.try_message-tried.new.work.draft.bytes.items c.commit.new.self.now
       (distinct_ids c.self.inside.plan.templates.now) c.in_default-tried.ensures.suits c.in_default-tried.ensures.fits (ruled c);
 }
 
 pub returns-clause-encoded : goal.returns-clause-encoded
-returns-clause-encoded c = λ _. subst (λ (e : EncoderData). IsEncoded e (message_data c.args.message.now) c.args.out.now.items (before c.self.inside.plan.templates.now c.self.inside.plan.limits c.commit.new.self) c.extend_from_slice.new.self.items) c.self.view_is (encoded c)
+returns-clause-encoded c = λ _. subst (λ (e : EncoderData). IsEncoded e (message_data c.args.message.now) c.args.out.now.items
+    (before c.self.inside.plan.templates.now c.self.inside.plan.limits c.commit.new.self) c.extend_from_slice.new.self.items)
+    c.self.view_is (encoded c)
 
 pub known-requires : goal.known-requires
 known-requires c = tt

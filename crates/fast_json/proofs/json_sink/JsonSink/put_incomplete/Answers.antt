@@ -8,19 +8,23 @@ use Rattle.fast_json.proofs.json_sink.JsonSink.put_incomplete.Goals as goal
 pub returns-clause-written : goal.returns-clause-written
 returns-clause-written g c =
     let all = writes_same (ap json_incomplete c.as_slice.ensures) c.put_unknown.ensures in
-    (is_put (target_of c.args.self.now) c.finish-outcome.new.self.target.now c.finish-outcome.result c.new-line.ensures.as_it_is refl c.new-line.ensures.fresh all c.finish-outcome.ensures).whole
+    (is_put (target_of c.args.self.now) c.finish-outcome.new.self.target.now c.finish-outcome.result c.new-line.ensures.as_it_is refl
+    c.new-line.ensures.fresh all c.finish-outcome.ensures).whole
 
 pub returns-clause-part : goal.returns-clause-part
 returns-clause-part g c =
     let all = writes_same (ap json_incomplete c.as_slice.ensures) c.put_unknown.ensures in
-    (is_put (target_of c.args.self.now) c.finish-outcome.new.self.target.now c.finish-outcome.result c.new-line.ensures.as_it_is refl c.new-line.ensures.fresh all c.finish-outcome.ensures).part
+    (is_put (target_of c.args.self.now) c.finish-outcome.new.self.target.now c.finish-outcome.result c.new-line.ensures.as_it_is refl
+    c.new-line.ensures.fresh all c.finish-outcome.ensures).part
 
 pub returns-clause-fails : goal.returns-clause-fails
 returns-clause-fails g c =
     let all = writes_same (ap json_incomplete c.as_slice.ensures) c.put_unknown.ensures in
-    (is_put (target_of c.args.self.now) c.finish-outcome.new.self.target.now c.finish-outcome.result c.new-line.ensures.as_it_is refl c.new-line.ensures.fresh all c.finish-outcome.ensures).fails
+    (is_put (target_of c.args.self.now) c.finish-outcome.new.self.target.now c.finish-outcome.result c.new-line.ensures.as_it_is refl
+    c.new-line.ensures.fresh all c.finish-outcome.ensures).fails
 
 pub returns-clause-stays : goal.returns-clause-stays
 returns-clause-stays g c =
     let all = writes_same (ap json_incomplete c.as_slice.ensures) c.put_unknown.ensures in
-    (is_put (target_of c.args.self.now) c.finish-outcome.new.self.target.now c.finish-outcome.result c.new-line.ensures.as_it_is refl c.new-line.ensures.fresh all c.finish-outcome.ensures).stays
+    (is_put (target_of c.args.self.now) c.finish-outcome.new.self.target.now c.finish-outcome.result c.new-line.ensures.as_it_is refl
+    c.new-line.ensures.fresh all c.finish-outcome.ensures).stays

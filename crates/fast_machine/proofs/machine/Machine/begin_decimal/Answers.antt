@@ -7,27 +7,36 @@ use Rattle.fast_dict.specs.meaning.Dictionary.{previous_at}
 use Rattle.fast_dict.specs.meaning.Slots.{slots_dictionary}
 use Rattle.fast_stream.specs.device.Continuations.{mantissa_after_then}
 use Rattle.fast_machine.specs.device.Positions.{set_of, turning}
-use Rattle.fast_machine.proofs.steps.FieldTurns.{serves_here, serves_known, can_turn_slots, state_of, behind, parts_next, sent_here, field_known, field_wrong, exponent_waits, turn_fault, turn_as}
+use Rattle.fast_machine.proofs.steps.FieldTurns.{serves_here, serves_known, can_turn_slots, state_of, behind, parts_next, sent_here}
+use Rattle.fast_machine.proofs.steps.FieldTurns.{field_known, field_wrong, exponent_waits, turn_fault, turn_as}
 use Rattle.fast_machine.proofs.machine.Machine.begin_decimal.Goals as goal
 
 pub returns-then-needs_bytes-clause-turn : goal.returns-then-needs_bytes-clause-turn
 returns-then-needs_bytes-clause-turn g c =
     let m = c.args.self.now in
     let e = field_data c.args.exponent.now in
-    exponent_waits g.S.Sink.takes g.S.Sink.stops (set_of c.args.templates.now) c.args.limits c.args.sink.now m c.args.node e (field_data c.args.mantissa.now) c.requires.turn c.requires.next
-    (sent_here e c.presence-bit.result (state_of m) (c.presence-bit.ensures (slots_dictionary m.slots) m.counted) (c.needs_bytes.ensures.operator c.if-needs_bytes.true) (c.needs_bytes.ensures.sent c.if-needs_bytes.true))
+    exponent_waits g.S.Sink.takes g.S.Sink.stops (set_of c.args.templates.now) c.args.limits c.args.sink.now m c.args.node e
+    (field_data c.args.mantissa.now) c.requires.turn c.requires.next
+    (sent_here e c.presence-bit.result (state_of m) (c.presence-bit.ensures (slots_dictionary m.slots) m.counted)
+    (c.needs_bytes.ensures.operator c.if-needs_bytes.true) (c.needs_bytes.ensures.sent c.if-needs_bytes.true))
 
 pub unsent-requires : goal.unsent-requires
-unsent-requires g c = record { serves = serves_here (set_of c.args.templates.now) c.args.limits c.args.self.now (field_data c.args.exponent.now) c.requires.turn.supplied c.requires.exponent }
+unsent-requires g c = record {
+  serves = serves_here (set_of c.args.templates.now) c.args.limits c.args.self.now
+      (field_data c.args.exponent.now) c.requires.turn.supplied c.requires.exponent;
+}
 
 pub exponent_known-requires-clause-turn : goal.exponent_known-requires-clause-turn
-exponent_known-requires-clause-turn g c = can_turn_slots (set_of c.args.templates.now) c.args.limits c.args.self.now c.unsent.new.slots c.requires.turn c.unsent.ensures.terms
+exponent_known-requires-clause-turn g c = can_turn_slots
+    (set_of c.args.templates.now) c.args.limits c.args.self.now c.unsent.new.slots c.requires.turn c.unsent.ensures.terms
 
 pub exponent_known-requires-clause-exponent : goal.exponent_known-requires-clause-exponent
-exponent_known-requires-clause-exponent g c = serves_known (set_of c.args.templates.now) c.args.self.now c.unsent.new.slots (field_data c.args.exponent.now) c.unsent.ensures.terms c.requires.exponent
+exponent_known-requires-clause-exponent g c = serves_known (set_of c.args.templates.now) c.args.self.now c.unsent.new.slots
+    (field_data c.args.exponent.now) c.unsent.ensures.terms c.requires.exponent
 
 pub exponent_known-requires-clause-mantissa : goal.exponent_known-requires-clause-mantissa
-exponent_known-requires-clause-mantissa g c = serves_known (set_of c.args.templates.now) c.args.self.now c.unsent.new.slots (field_data c.args.mantissa.now) c.unsent.ensures.terms c.requires.mantissa
+exponent_known-requires-clause-mantissa g c = serves_known (set_of c.args.templates.now) c.args.self.now c.unsent.new.slots
+    (field_data c.args.mantissa.now) c.unsent.ensures.terms c.requires.mantissa
 
 pub returns-in-Err-clause-turn : goal.returns-in-Err-clause-turn
 returns-in-Err-clause-turn g c =
@@ -38,7 +47,9 @@ returns-in-Err-clause-turn g c =
     let f = field_data c.args.mantissa.now in
     turn_fault g.S.Sink.takes g.S.Sink.stops set l (turning set l m) c.args.sink.now c.in-Err.code (record m { slots = c.unsent.new.slots })
     (parts_next set l m c.args.node e f c.requires.next
-    ∙ field_wrong l.strict (bounds l) e c.presence-bit.result (state_of m) (mantissa_after_then (bounds l) c.args.node f (behind set l m)) c.in-Err.code (c.presence-bit.ensures (slots_dictionary m.slots) m.counted)
+    ∙ field_wrong l.strict (bounds l) e c.presence-bit.result (state_of m)
+    (mantissa_after_then (bounds l) c.args.node f (behind set l m)) c.in-Err.code
+    (c.presence-bit.ensures (slots_dictionary m.slots) m.counted)
     (c.needs_bytes.ensures.unsent c.if-needs_bytes.false (bounds l) (previous_at e.entry (slots_dictionary m.slots))) c.in-Err.ensures.decided)
     (can_turn_slots set l m c.unsent.new.slots c.requires.turn c.unsent.ensures.terms).supplied
 
@@ -51,6 +62,10 @@ returns-in-Ok-clause-turn g c =
     let f = field_data c.args.mantissa.now in
     turn_as g.S.Sink.takes g.S.Sink.stops set l (turning set l m) _ c.args.sink.now c.exponent_known.result c.exponent_known.new.sink c.exponent_known.new.self
     (parts_next set l m c.args.node e f c.requires.next
-    ∙ field_known l.strict (bounds l) e c.presence-bit.result (slots_dictionary m.slots) (slots_dictionary c.unsent.new.slots) m.counted m.cursor (mantissa_after_then (bounds l) c.args.node f (behind set l m)) c.in-Ok.source m.text.text []
-    (c.presence-bit.ensures (slots_dictionary m.slots) m.counted) (c.needs_bytes.ensures.unsent c.if-needs_bytes.false (bounds l) (previous_at e.entry (slots_dictionary m.slots))) c.in-Ok.ensures.decided)
+    ∙ field_known l.strict (bounds l) e c.presence-bit.result (slots_dictionary m.slots)
+    (slots_dictionary c.unsent.new.slots) m.counted m.cursor
+    (mantissa_after_then (bounds l) c.args.node f (behind set l m)) c.in-Ok.source m.text.text []
+    (c.presence-bit.ensures (slots_dictionary m.slots) m.counted)
+    (c.needs_bytes.ensures.unsent c.if-needs_bytes.false (bounds l) (previous_at e.entry (slots_dictionary m.slots)))
+    c.in-Ok.ensures.decided)
     c.exponent_known.ensures.turn

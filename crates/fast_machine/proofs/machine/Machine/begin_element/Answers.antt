@@ -22,13 +22,24 @@ returns-clause-turn g c =
     let set = set_of c.args.templates.now in
     let some : 0 < c.args.count = search rules in
     let behind : Machine = record m { cursor = c.open_element.new.self; turns = c.after-self.result } in
-    turn_in g.S.Sink.takes g.S.Sink.stops set c.args.limits (record m { turns = c.after-self.result }) (awaiting c.args.width behind) c.open_element.new.self (opened_turn c.args.width) c.args.width
-    (Some (record { more = c.args.count - 1; body = (run_in (set_of c.args.templates.now) c.args.start); width = c.args.width })) (run_in (set_of c.args.templates.now) c.args.start) _ ElementStart c.args.sink.now c.hand-2.new.sink
+    turn_in g.S.Sink.takes g.S.Sink.stops set c.args.limits (record m { turns = c.after-self.result })
+    (awaiting c.args.width behind) c.open_element.new.self (opened_turn c.args.width) c.args.width
+    (Some (record {
+      more = c.args.count - 1;
+      body = (run_in (set_of c.args.templates.now) c.args.start);
+      width = c.args.width;
+    })) (run_in (set_of c.args.templates.now) c.args.start) _ ElementStart c.args.sink.now c.hand-2.new.sink
     (opened_waits c.args.width behind) (opened_goes c.args.width behind)
-    (c.open_element.ensures ∙ ap (λ (ops : List Op). entered m.cursor (Some (record { more = c.args.count - 1; body = run_at ops c.args.start; width = c.args.width })) (run_at ops c.args.start)) c.requires.turn.supplied.program)
+    (c.open_element.ensures ∙ ap (λ (ops : List Op). entered m.cursor (Some (record {
+      more = c.args.count - 1;
+      body = run_at ops c.args.start;
+      width = c.args.width;
+    })) (run_at ops c.args.start)) c.requires.turn.supplied.program)
     (can_turn-turns set c.args.limits m c.after-self.result c.requires.turn) c.requires.width c.requires.below c.requires.nested
     (c.requires.below, c.requires.nested, c.requires.width)
-    (ap (reader_of c.args.limits.strict) (element_turn (bounds c.args.limits) (frames_in set m.cursor.frames) c.args.count (body_in set (run_in (set_of c.args.templates.now) c.args.start)) (body_in set m.cursor.left) (state_in (slots_dictionary m.slots) m.counted m.cursor) some))
+    (ap (reader_of c.args.limits.strict) (element_turn (bounds c.args.limits) (frames_in set m.cursor.frames) c.args.count
+    (body_in set (run_in (set_of c.args.templates.now) c.args.start)) (body_in set m.cursor.left)
+    (state_in (slots_dictionary m.slots) m.counted m.cursor) some))
     c.in_ok-hand-2.ensures
 
 pub returns-clause-turns : goal.returns-clause-turns
@@ -37,8 +48,13 @@ returns-clause-turns g c way n h =
     let set = set_of c.args.templates.now in
     let some : 0 < c.args.count = search rules in
     awaiting_turns way set c.args.limits n (record m { cursor = c.open_element.new.self; turns = c.after-self.result }) c.args.width
-    (element_opened way set c.args.limits n m.turns.count c.after-self.result.count m.counted m.counted m.cursor c.open_element.new.self (run_in (set_of c.args.templates.now) c.args.start) c.args.count c.args.width some c.after-self.ensures refl
-    (c.open_element.ensures ∙ ap (λ (ops : List Op). entered m.cursor (Some (record { more = c.args.count - 1; body = run_at ops c.args.start; width = c.args.width })) (run_at ops c.args.start)) c.requires.turn.supplied.program) h)
+    (element_opened way set c.args.limits n m.turns.count c.after-self.result.count m.counted m.counted m.cursor c.open_element.new.self
+    (run_in (set_of c.args.templates.now) c.args.start) c.args.count c.args.width some c.after-self.ensures refl
+    (c.open_element.ensures ∙ ap (λ (ops : List Op). entered m.cursor (Some (record {
+      more = c.args.count - 1;
+      body = run_at ops c.args.start;
+      width = c.args.width;
+    })) (run_at ops c.args.start)) c.requires.turn.supplied.program) h)
 
 pub open_element-requires-clause-run : goal.open_element-requires-clause-run
 open_element-requires-clause-run g c = subst (λ (ops : List Op). IsRun ops c.args.start) (sym c.requires.turn.supplied.program) c.requires.run

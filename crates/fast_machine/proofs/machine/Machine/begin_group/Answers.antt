@@ -14,42 +14,66 @@ pub returns-then-not-bit-clause-turn : goal.returns-then-not-bit-clause-turn
 returns-then-not-bit-clause-turn g c =
     let m = c.args.self.now in
     let set = set_of c.args.templates.now in
-    group_absent g.S.Sink.takes g.S.Sink.stops set c.args.limits m c.use_bit.new.self c.advance.new.self c.args.node (run_in (set_of c.args.templates.now) c.args.start) c.args.sink.now c.requires.turn
-    (subst (λ b. IsAtGroup set m.cursor c.args.node b (run_in (set_of c.args.templates.now) c.args.start)) c.if-optional.true c.requires.next) (sym c.if-not-bit.ensures) c.use_bit.ensures.same c.use_bit.ensures.bits c.advance.ensures
+    group_absent g.S.Sink.takes g.S.Sink.stops set c.args.limits m c.use_bit.new.self c.advance.new.self c.args.node
+    (run_in (set_of c.args.templates.now) c.args.start) c.args.sink.now c.requires.turn
+    (subst (λ b. IsAtGroup set m.cursor c.args.node b (run_in (set_of c.args.templates.now) c.args.start)) c.if-optional.true
+    c.requires.next) (sym c.if-not-bit.ensures) c.use_bit.ensures.same c.use_bit.ensures.bits c.advance.ensures
 
 pub returns-clause-turn : goal.returns-clause-turn
 returns-clause-turn g c =
     let m = c.args.self.now in
     let set = set_of c.args.templates.now in
-    let begun : IsGroupBegun set c.args.limits m c.if-optional.self c.args.node (run_in (set_of c.args.templates.now) c.args.start) = elim c.if-optional.branch [
-      | then-optional+else-not-bit w ↦ group_present set c.args.limits m c.if-optional.self w.use_bit.new.self c.args.node (run_in (set_of c.args.templates.now) c.args.start)
-          (subst (λ b. IsAtGroup set m.cursor c.args.node b (run_in (set_of c.args.templates.now) c.args.start)) w.if-optional.true c.requires.next) (sym w.if-not-bit.ensures) w.use_bit.ensures.same w.use_bit.ensures.bits w.self-is
-      | else-optional w ↦ group_there set c.args.limits m c.if-optional.self c.args.node (run_in (set_of c.args.templates.now) c.args.start) (subst (λ b. IsAtGroup set m.cursor c.args.node b (run_in (set_of c.args.templates.now) c.args.start)) w.if-optional.false c.requires.next) w.self-is
+    let begun : IsGroupBegun set c.args.limits m c.if-optional.self c.args.node (run_in (set_of c.args.templates.now) c.args.start) =
+    elim c.if-optional.branch [
+      | then-optional+else-not-bit w ↦ group_present set c.args.limits m c.if-optional.self w.use_bit.new.self c.args.node
+          (run_in (set_of c.args.templates.now) c.args.start)
+          (subst (λ b. IsAtGroup set m.cursor c.args.node b (run_in (set_of c.args.templates.now) c.args.start)) w.if-optional.true
+          c.requires.next) (sym w.if-not-bit.ensures) w.use_bit.ensures.same w.use_bit.ensures.bits w.self-is
+      | else-optional w ↦ group_there set c.args.limits m c.if-optional.self c.args.node
+          (run_in (set_of c.args.templates.now) c.args.start)
+          (subst (λ b. IsAtGroup set m.cursor c.args.node b (run_in (set_of c.args.templates.now) c.args.start)) w.if-optional.false
+          c.requires.next) w.self-is
     ] in
     rw (c.open_segment.ensures.turn, c.open_segment.ensures.waits)
-    (turn_as g.S.Sink.takes g.S.Sink.stops set c.args.limits (turning set c.args.limits m) _ c.args.sink.now (opened_result c.enter_group-begun.result) c.enter_group-begun.new.sink
-    (opened_by c.enter_group-begun.result c.enter_group-begun.new.self) (begun_from set c.args.limits m c.if-optional.self c.args.node (run_in (set_of c.args.templates.now) c.args.start) begun) c.enter_group-begun.ensures.turn)
+    (turn_as g.S.Sink.takes g.S.Sink.stops set c.args.limits (turning set c.args.limits m) _ c.args.sink.now
+    (opened_result c.enter_group-begun.result) c.enter_group-begun.new.sink
+    (opened_by c.enter_group-begun.result c.enter_group-begun.new.self)
+    (begun_from set c.args.limits m c.if-optional.self c.args.node (run_in (set_of c.args.templates.now) c.args.start) begun)
+    c.enter_group-begun.ensures.turn)
 
 pub returns-clause-turns : goal.returns-clause-turns
 returns-clause-turns g c way n h =
     let m = c.args.self.now in
     let set = set_of c.args.templates.now in
-    let begun : IsGroupBegun set c.args.limits m c.if-optional.self c.args.node (run_in (set_of c.args.templates.now) c.args.start) = elim c.if-optional.branch [
-      | then-optional+else-not-bit w ↦ group_present set c.args.limits m c.if-optional.self w.use_bit.new.self c.args.node (run_in (set_of c.args.templates.now) c.args.start)
-          (subst (λ b. IsAtGroup set m.cursor c.args.node b (run_in (set_of c.args.templates.now) c.args.start)) w.if-optional.true c.requires.next) (sym w.if-not-bit.ensures) w.use_bit.ensures.same w.use_bit.ensures.bits w.self-is
-      | else-optional w ↦ group_there set c.args.limits m c.if-optional.self c.args.node (run_in (set_of c.args.templates.now) c.args.start) (subst (λ b. IsAtGroup set m.cursor c.args.node b (run_in (set_of c.args.templates.now) c.args.start)) w.if-optional.false c.requires.next) w.self-is
+    let begun : IsGroupBegun set c.args.limits m c.if-optional.self c.args.node (run_in (set_of c.args.templates.now) c.args.start) =
+    elim c.if-optional.branch [
+      | then-optional+else-not-bit w ↦ group_present set c.args.limits m c.if-optional.self w.use_bit.new.self c.args.node
+          (run_in (set_of c.args.templates.now) c.args.start)
+          (subst (λ b. IsAtGroup set m.cursor c.args.node b (run_in (set_of c.args.templates.now) c.args.start)) w.if-optional.true
+          c.requires.next) (sym w.if-not-bit.ensures) w.use_bit.ensures.same w.use_bit.ensures.bits w.self-is
+      | else-optional w ↦ group_there set c.args.limits m c.if-optional.self c.args.node
+          (run_in (set_of c.args.templates.now) c.args.start)
+          (subst (λ b. IsAtGroup set m.cursor c.args.node b (run_in (set_of c.args.templates.now) c.args.start)) w.if-optional.false
+          c.requires.next) w.self-is
     ] in
-    let (next, counted) = begun_turns way set c.args.limits n m c.if-optional.self c.args.node c.args.optional (run_in (set_of c.args.templates.now) c.args.start) begun c.requires.next h in
+    let (next, counted) = begun_turns way set c.args.limits n m c.if-optional.self c.args.node c.args.optional
+    (run_in (set_of c.args.templates.now) c.args.start) begun c.requires.next h in
     rw (c.open_segment.ensures.turn, c.open_segment.ensures.waits) (c.enter_group-begun.ensures.turns way n c.args.optional next counted)
 
 pub enter_group-begun-requires-clause-turn : goal.enter_group-begun-requires-clause-turn
 enter_group-begun-requires-clause-turn g c =
     let m = c.args.self.now in
     let set = set_of c.args.templates.now in
-    let begun : IsGroupBegun set c.args.limits m c.if-optional.self c.args.node (run_in (set_of c.args.templates.now) c.args.start) = elim c.if-optional.branch [
-      | then-optional+else-not-bit w ↦ group_present set c.args.limits m c.if-optional.self w.use_bit.new.self c.args.node (run_in (set_of c.args.templates.now) c.args.start)
-          (subst (λ b. IsAtGroup set m.cursor c.args.node b (run_in (set_of c.args.templates.now) c.args.start)) w.if-optional.true c.requires.next) (sym w.if-not-bit.ensures) w.use_bit.ensures.same w.use_bit.ensures.bits w.self-is
-      | else-optional w ↦ group_there set c.args.limits m c.if-optional.self c.args.node (run_in (set_of c.args.templates.now) c.args.start) (subst (λ b. IsAtGroup set m.cursor c.args.node b (run_in (set_of c.args.templates.now) c.args.start)) w.if-optional.false c.requires.next) w.self-is
+    let begun : IsGroupBegun set c.args.limits m c.if-optional.self c.args.node (run_in (set_of c.args.templates.now) c.args.start) =
+    elim c.if-optional.branch [
+      | then-optional+else-not-bit w ↦ group_present set c.args.limits m c.if-optional.self w.use_bit.new.self c.args.node
+          (run_in (set_of c.args.templates.now) c.args.start)
+          (subst (λ b. IsAtGroup set m.cursor c.args.node b (run_in (set_of c.args.templates.now) c.args.start)) w.if-optional.true
+          c.requires.next) (sym w.if-not-bit.ensures) w.use_bit.ensures.same w.use_bit.ensures.bits w.self-is
+      | else-optional w ↦ group_there set c.args.limits m c.if-optional.self c.args.node
+          (run_in (set_of c.args.templates.now) c.args.start)
+          (subst (λ b. IsAtGroup set m.cursor c.args.node b (run_in (set_of c.args.templates.now) c.args.start)) w.if-optional.false
+          c.requires.next) w.self-is
     ] in
     group_can set c.args.limits m c.if-optional.self c.args.node c.args.optional (run_in set c.args.start) c.requires.turn c.requires.next begun
 
@@ -57,10 +81,16 @@ pub enter_group-begun-requires-clause-left : goal.enter_group-begun-requires-cla
 enter_group-begun-requires-clause-left g c =
     let m = c.args.self.now in
     let set = set_of c.args.templates.now in
-    let begun : IsGroupBegun set c.args.limits m c.if-optional.self c.args.node (run_in (set_of c.args.templates.now) c.args.start) = elim c.if-optional.branch [
-      | then-optional+else-not-bit w ↦ group_present set c.args.limits m c.if-optional.self w.use_bit.new.self c.args.node (run_in (set_of c.args.templates.now) c.args.start)
-          (subst (λ b. IsAtGroup set m.cursor c.args.node b (run_in (set_of c.args.templates.now) c.args.start)) w.if-optional.true c.requires.next) (sym w.if-not-bit.ensures) w.use_bit.ensures.same w.use_bit.ensures.bits w.self-is
-      | else-optional w ↦ group_there set c.args.limits m c.if-optional.self c.args.node (run_in (set_of c.args.templates.now) c.args.start) (subst (λ b. IsAtGroup set m.cursor c.args.node b (run_in (set_of c.args.templates.now) c.args.start)) w.if-optional.false c.requires.next) w.self-is
+    let begun : IsGroupBegun set c.args.limits m c.if-optional.self c.args.node (run_in (set_of c.args.templates.now) c.args.start) =
+    elim c.if-optional.branch [
+      | then-optional+else-not-bit w ↦ group_present set c.args.limits m c.if-optional.self w.use_bit.new.self c.args.node
+          (run_in (set_of c.args.templates.now) c.args.start)
+          (subst (λ b. IsAtGroup set m.cursor c.args.node b (run_in (set_of c.args.templates.now) c.args.start)) w.if-optional.true
+          c.requires.next) (sym w.if-not-bit.ensures) w.use_bit.ensures.same w.use_bit.ensures.bits w.self-is
+      | else-optional w ↦ group_there set c.args.limits m c.if-optional.self c.args.node
+          (run_in (set_of c.args.templates.now) c.args.start)
+          (subst (λ b. IsAtGroup set m.cursor c.args.node b (run_in (set_of c.args.templates.now) c.args.start)) w.if-optional.false
+          c.requires.next) w.self-is
     ] in
     group_some set c.args.limits m c.if-optional.self c.args.node c.args.optional (run_in set c.args.start) c.requires.turn c.requires.next begun
 
@@ -68,10 +98,16 @@ pub enter_group-begun-requires-clause-nested : goal.enter_group-begun-requires-c
 enter_group-begun-requires-clause-nested g c =
     let m = c.args.self.now in
     let set = set_of c.args.templates.now in
-    let begun : IsGroupBegun set c.args.limits m c.if-optional.self c.args.node (run_in (set_of c.args.templates.now) c.args.start) = elim c.if-optional.branch [
-      | then-optional+else-not-bit w ↦ group_present set c.args.limits m c.if-optional.self w.use_bit.new.self c.args.node (run_in (set_of c.args.templates.now) c.args.start)
-          (subst (λ b. IsAtGroup set m.cursor c.args.node b (run_in (set_of c.args.templates.now) c.args.start)) w.if-optional.true c.requires.next) (sym w.if-not-bit.ensures) w.use_bit.ensures.same w.use_bit.ensures.bits w.self-is
-      | else-optional w ↦ group_there set c.args.limits m c.if-optional.self c.args.node (run_in (set_of c.args.templates.now) c.args.start) (subst (λ b. IsAtGroup set m.cursor c.args.node b (run_in (set_of c.args.templates.now) c.args.start)) w.if-optional.false c.requires.next) w.self-is
+    let begun : IsGroupBegun set c.args.limits m c.if-optional.self c.args.node (run_in (set_of c.args.templates.now) c.args.start) =
+    elim c.if-optional.branch [
+      | then-optional+else-not-bit w ↦ group_present set c.args.limits m c.if-optional.self w.use_bit.new.self c.args.node
+          (run_in (set_of c.args.templates.now) c.args.start)
+          (subst (λ b. IsAtGroup set m.cursor c.args.node b (run_in (set_of c.args.templates.now) c.args.start)) w.if-optional.true
+          c.requires.next) (sym w.if-not-bit.ensures) w.use_bit.ensures.same w.use_bit.ensures.bits w.self-is
+      | else-optional w ↦ group_there set c.args.limits m c.if-optional.self c.args.node
+          (run_in (set_of c.args.templates.now) c.args.start)
+          (subst (λ b. IsAtGroup set m.cursor c.args.node b (run_in (set_of c.args.templates.now) c.args.start)) w.if-optional.false
+          c.requires.next) w.self-is
     ] in
     group_nests set c.args.limits m c.if-optional.self c.args.node c.args.optional (run_in set c.args.start) c.requires.turn c.requires.next begun
 
@@ -95,7 +131,8 @@ returns-then-not-bit-clause-turns g c way n h =
     let set = set_of c.args.templates.now in
     let m = c.args.self.now in
     let (at, number, some, next) = c.requires.next in
-    passed way set c.args.limits n m.turns.count m.turns.count m.counted m.counted m.cursor c.advance.new.self (group at c.args.optional (body_in set (run_in set c.args.start))) next refl refl
+    passed way set c.args.limits n m.turns.count m.turns.count m.counted m.counted m.cursor c.advance.new.self
+    (group at c.args.optional (body_in set (run_in set c.args.start))) next refl refl
     (ap (λ (x : CursorData). x.left) c.advance.ensures ∙ ap (λ (x : CursorData). drop 1 x.left) c.use_bit.ensures.same)
     (ap (λ (x : CursorData). x.frames) c.advance.ensures ∙ ap (λ (x : CursorData). x.frames) c.use_bit.ensures.same) h
 

@@ -18,7 +18,8 @@ returns-in_err-hand_end-clause-turn g c =
     let set = set_of c.args.templates.now in
     let outermost : m.cursor.frames ≡ [] = search rules in
     let r = err_from_is_err_and c.from_residual.result c.from_residual.ensures.1 in
-    rw (r.1, r.2) (turn_halt g.S.Sink.takes g.S.Sink.stops set c.args.limits (turning set c.args.limits m) (Done (slots_dictionary m.slots)) MessageEnd c.args.sink.now c.in_err-hand_end.field-0.0 c.hand_end.new.sink m
+    rw (r.1, r.2) (turn_halt g.S.Sink.takes g.S.Sink.stops set c.args.limits (turning set c.args.limits m)
+    (Done (slots_dictionary m.slots)) MessageEnd c.args.sink.now c.in_err-hand_end.field-0.0 c.hand_end.new.sink m
     (message_end set c.args.limits m c.requires.end outermost) c.in_err-hand_end.ensures c.requires.turn.supplied)
 
 pub returns-then-is_outermost-clause-turn : goal.returns-then-is_outermost-clause-turn
@@ -26,7 +27,9 @@ returns-then-is_outermost-clause-turn g c =
     let m = c.args.self.now in
     let set = set_of c.args.templates.now in
     let outermost : m.cursor.frames ≡ [] = search rules in
-    turn_end g.S.Sink.takes g.S.Sink.stops set c.args.limits (turning set c.args.limits m) c.args.sink.now c.hand_end.new.sink m c.clear_map.new.self c.requires.turn c.requires.end outermost c.clear_map.ensures
+    turn_end g.S.Sink.takes g.S.Sink.stops set c.args.limits
+    (turning set c.args.limits m) c.args.sink.now c.hand_end.new.sink m c.clear_map.new.self c.requires.turn c.requires.end outermost
+    c.clear_map.ensures
     (message_end set c.args.limits m c.requires.end outermost) c.in_ok-hand_end.ensures
 
 pub returns-clause-turn : goal.returns-clause-turn
@@ -35,7 +38,8 @@ returns-clause-turn g c =
     let set = set_of c.args.templates.now in
     let r = c.leave_segment-begun.result in
     rw (c.open_segment.ensures.turn, c.open_segment.ensures.waits)
-    (subst (λ (x : CursorData). IsTurn g.S.Sink.takes g.S.Sink.stops set c.args.limits (turning set c.args.limits (record m { cursor = x })) c.args.sink.now (opened_result r) c.leave_segment-begun.new.sink
+    (subst (λ (x : CursorData). IsTurn g.S.Sink.takes g.S.Sink.stops set c.args.limits
+    (turning set c.args.limits (record m { cursor = x })) c.args.sink.now (opened_result r) c.leave_segment-begun.new.sink
     (opened_by r c.leave_segment-begun.new.self)) c.place-place.ensures.same c.leave_segment-begun.ensures.turn)
 
 pub returns-clause-on : goal.returns-clause-on
@@ -48,7 +52,8 @@ returns-clause-turns g c way n h =
     (subst (λ (x : CursorData). HasTurns way (set_of c.args.templates.now) c.args.limits 1 n (record m { cursor = x })) (sym c.place-place.ensures.same) h))
 
 pub leave_segment-begun-requires-clause-turn : goal.leave_segment-begun-requires-clause-turn
-leave_segment-begun-requires-clause-turn g c = subst (λ (x : CursorData). CanTurn (set_of c.args.templates.now) c.args.limits (record c.args.self.now { cursor = x })) (sym c.place-place.ensures.same) c.requires.turn
+leave_segment-begun-requires-clause-turn g c = subst (λ (x : CursorData). CanTurn (set_of c.args.templates.now) c.args.limits
+    (record c.args.self.now { cursor = x })) (sym c.place-place.ensures.same) c.requires.turn
 
 pub returns-in_err-hand_end-clause-on : goal.returns-in_err-hand_end-clause-on
 returns-in_err-hand_end-clause-on g c i =
@@ -68,4 +73,5 @@ pub returns-then-is_outermost-clause-turns : goal.returns-then-is_outermost-clau
 returns-then-is_outermost-clause-turns g c way n h =
     let m = c.args.self.now in
     let set = set_of c.args.templates.now in
-    subst (λ (w : List ℕ). HasTurnsInMap w way set c.args.limits n m.turns.count) (sym (ap (λ (x : CursorData). x.map) c.clear_map.ensures)) (turns_taken way set c.args.limits n m.turns.count m.counted m.cursor h)
+    subst (λ (w : List ℕ). HasTurnsInMap w way set c.args.limits n m.turns.count)
+    (sym (ap (λ (x : CursorData). x.map) c.clear_map.ensures)) (turns_taken way set c.args.limits n m.turns.count m.counted m.cursor h)

@@ -21,10 +21,12 @@ returns-in_err-hand-in-None-clause-turn g c =
     let m = placed c.args.self.now c.args.place in
     let m' = record m { cursor = c.close.new.self } in
     let set = set_of c.args.templates.now in
-    let h = closed set c.args.limits m c.close.new.self (option_map (elements_data (set_of c.args.templates.now).program) c.close.result) c.requires.turn c.requires.end c.requires.inner
+    let h = closed set c.args.limits m c.close.new.self (option_map (elements_data (set_of c.args.templates.now).program) c.close.result)
+    c.requires.turn c.requires.end c.requires.inner
     (closed_in (set_of c.args.templates.now) c.args.limits m c.close.new.self c.close.result c.requires.turn.supplied c.close.ensures.left) in
     let r = err_from_is_err_and c.from_residual.result c.from_residual.ensures.1 in
-    rw (r.1, r.2) (turn_halt g.S.Sink.takes g.S.Sink.stops set c.args.limits (turning set c.args.limits m) (turning set c.args.limits m') GroupEnd c.args.sink.now c.in_err-hand-in-None.field-0.0 c.hand.new.sink m'
+    rw (r.1, r.2) (turn_halt g.S.Sink.takes g.S.Sink.stops set c.args.limits (turning set c.args.limits m)
+    (turning set c.args.limits m') GroupEnd c.args.sink.now c.in_err-hand-in-None.field-0.0 c.hand.new.sink m'
     (h.group (ap (option_map (elements_data (set_of c.args.templates.now).program)) c.in-None.is)) c.in_err-hand-in-None.ensures h.can.supplied)
 
 pub returns-in_err-hand-in-Some-clause-turn : goal.returns-in_err-hand-in-Some-clause-turn
@@ -32,7 +34,8 @@ returns-in_err-hand-in-Some-clause-turn g c =
     let m = placed c.args.self.now c.args.place in
     let e = elements_data (set_of c.args.templates.now).program c.in-Some.elements in
     let set = set_of c.args.templates.now in
-    let h = closed set c.args.limits m c.close.new.self (option_map (elements_data (set_of c.args.templates.now).program) c.close.result) c.requires.turn c.requires.end c.requires.inner
+    let h = closed set c.args.limits m c.close.new.self (option_map (elements_data (set_of c.args.templates.now).program) c.close.result)
+    c.requires.turn c.requires.end c.requires.inner
     (closed_in (set_of c.args.templates.now) c.args.limits m c.close.new.self c.close.result c.requires.turn.supplied c.close.ensures.left) in
     let r = err_from_is_err_and c.from_residual-in_err-hand-in-Some.result c.from_residual-in_err-hand-in-Some.ensures.1 in
     rw (r.1, r.2) (turn_halt g.S.Sink.takes g.S.Sink.stops set c.args.limits (turning set c.args.limits m)
@@ -43,37 +46,46 @@ returns-in_err-hand-in-Some-clause-turn g c =
 pub begin_element-requires-clause-turn : goal.begin_element-requires-clause-turn
 begin_element-requires-clause-turn g c =
     let m = placed c.args.self.now c.args.place in
-    (closed (set_of c.args.templates.now) c.args.limits m c.close.new.self (option_map (elements_data (set_of c.args.templates.now).program) c.close.result) c.requires.turn c.requires.end c.requires.inner
+    (closed (set_of c.args.templates.now) c.args.limits m c.close.new.self
+    (option_map (elements_data (set_of c.args.templates.now).program) c.close.result) c.requires.turn c.requires.end c.requires.inner
     (closed_in (set_of c.args.templates.now) c.args.limits m c.close.new.self c.close.result c.requires.turn.supplied c.close.ensures.left)).can
 
 pub begin_element-requires-clause-below : goal.begin_element-requires-clause-below
 begin_element-requires-clause-below g c =
     let m = placed c.args.self.now c.args.place in
-    let h = closed (set_of c.args.templates.now) c.args.limits m c.close.new.self (option_map (elements_data (set_of c.args.templates.now).program) c.close.result) c.requires.turn c.requires.end c.requires.inner
+    let h = closed (set_of c.args.templates.now) c.args.limits m c.close.new.self
+    (option_map (elements_data (set_of c.args.templates.now).program) c.close.result) c.requires.turn c.requires.end c.requires.inner
     (closed_in (set_of c.args.templates.now) c.args.limits m c.close.new.self c.close.result c.requires.turn.supplied c.close.ensures.left) in
-    (h.elements_fit (elements_data (set_of c.args.templates.now).program c.in-Some.elements) (ap (option_map (elements_data (set_of c.args.templates.now).program)) c.in-Some.is)).0
+    (h.elements_fit (elements_data (set_of c.args.templates.now).program c.in-Some.elements)
+    (ap (option_map (elements_data (set_of c.args.templates.now).program)) c.in-Some.is)).0
 
 pub begin_element-requires-clause-nested : goal.begin_element-requires-clause-nested
 begin_element-requires-clause-nested g c =
     let m = placed c.args.self.now c.args.place in
-    let h = closed (set_of c.args.templates.now) c.args.limits m c.close.new.self (option_map (elements_data (set_of c.args.templates.now).program) c.close.result) c.requires.turn c.requires.end c.requires.inner
+    let h = closed (set_of c.args.templates.now) c.args.limits m c.close.new.self
+    (option_map (elements_data (set_of c.args.templates.now).program) c.close.result) c.requires.turn c.requires.end c.requires.inner
     (closed_in (set_of c.args.templates.now) c.args.limits m c.close.new.self c.close.result c.requires.turn.supplied c.close.ensures.left) in
-    (h.elements_fit (elements_data (set_of c.args.templates.now).program c.in-Some.elements) (ap (option_map (elements_data (set_of c.args.templates.now).program)) c.in-Some.is)).1
+    (h.elements_fit (elements_data (set_of c.args.templates.now).program c.in-Some.elements)
+    (ap (option_map (elements_data (set_of c.args.templates.now).program)) c.in-Some.is)).1
 
 pub begin_element-requires-clause-width : goal.begin_element-requires-clause-width
 begin_element-requires-clause-width g c =
     let m = placed c.args.self.now c.args.place in
-    let h = closed (set_of c.args.templates.now) c.args.limits m c.close.new.self (option_map (elements_data (set_of c.args.templates.now).program) c.close.result) c.requires.turn c.requires.end c.requires.inner
+    let h = closed (set_of c.args.templates.now) c.args.limits m c.close.new.self
+    (option_map (elements_data (set_of c.args.templates.now).program) c.close.result) c.requires.turn c.requires.end c.requires.inner
     (closed_in (set_of c.args.templates.now) c.args.limits m c.close.new.self c.close.result c.requires.turn.supplied c.close.ensures.left) in
-    (h.elements_fit (elements_data (set_of c.args.templates.now).program c.in-Some.elements) (ap (option_map (elements_data (set_of c.args.templates.now).program)) c.in-Some.is)).2
+    (h.elements_fit (elements_data (set_of c.args.templates.now).program c.in-Some.elements)
+    (ap (option_map (elements_data (set_of c.args.templates.now).program)) c.in-Some.is)).2
 
 pub returns-in_ok-hand-in-None-clause-turn : goal.returns-in_ok-hand-in-None-clause-turn
 returns-in_ok-hand-in-None-clause-turn g c =
     let m = placed c.args.self.now c.args.place in
     let set = set_of c.args.templates.now in
-    let h = closed set c.args.limits m c.close.new.self (option_map (elements_data (set_of c.args.templates.now).program) c.close.result) c.requires.turn c.requires.end c.requires.inner
+    let h = closed set c.args.limits m c.close.new.self (option_map (elements_data (set_of c.args.templates.now).program) c.close.result)
+    c.requires.turn c.requires.end c.requires.inner
     (closed_in (set_of c.args.templates.now) c.args.limits m c.close.new.self c.close.result c.requires.turn.supplied c.close.ensures.left) in
-    turn_one g.S.Sink.takes g.S.Sink.stops set c.args.limits (turning set c.args.limits m) GroupEnd c.args.sink.now c.hand.new.sink (record m { cursor = c.close.new.self })
+    turn_one g.S.Sink.takes g.S.Sink.stops set c.args.limits (turning set c.args.limits m) GroupEnd c.args.sink.now c.hand.new.sink
+    (record m { cursor = c.close.new.self })
     (h.group (ap (option_map (elements_data (set_of c.args.templates.now).program)) c.in-None.is)) c.in_ok-hand-in-None.ensures h.can
 
 pub returns-in_ok-hand-in-Some-clause-turn : goal.returns-in_ok-hand-in-Some-clause-turn
@@ -81,12 +93,15 @@ returns-in_ok-hand-in-Some-clause-turn g c =
     let m = placed c.args.self.now c.args.place in
     let e = elements_data (set_of c.args.templates.now).program c.in-Some.elements in
     let set = set_of c.args.templates.now in
-    let h = closed set c.args.limits m c.close.new.self (option_map (elements_data (set_of c.args.templates.now).program) c.close.result) c.requires.turn c.requires.end c.requires.inner
+    let h = closed set c.args.limits m c.close.new.self (option_map (elements_data (set_of c.args.templates.now).program) c.close.result)
+    c.requires.turn c.requires.end c.requires.inner
     (closed_in (set_of c.args.templates.now) c.args.limits m c.close.new.self c.close.result c.requires.turn.supplied c.close.ensures.left) in
     turn_more g.S.Sink.takes g.S.Sink.stops set c.args.limits (turning set c.args.limits m)
     (reader_of c.args.limits.strict (elements_from set (bounds c.args.limits) e.more e.body (slots_dictionary m.slots) m.counted c.close.new.self))
-    ElementEnd c.args.sink.now c.hand-in-Some.new.sink (opened_result c.begin_element.result) c.begin_element.new.sink (opened_by c.begin_element.result c.begin_element.new.self)
-    (h.element e (ap (option_map (elements_data (set_of c.args.templates.now).program)) c.in-Some.is)) c.in_ok-hand-in-Some.ensures c.begin_element.ensures.turn (opened_not_silent c.begin_element.result)
+    ElementEnd c.args.sink.now c.hand-in-Some.new.sink (opened_result c.begin_element.result) c.begin_element.new.sink
+    (opened_by c.begin_element.result c.begin_element.new.self)
+    (h.element e (ap (option_map (elements_data (set_of c.args.templates.now).program)) c.in-Some.is)) c.in_ok-hand-in-Some.ensures
+    c.begin_element.ensures.turn (opened_not_silent c.begin_element.result)
 
 pub returns-in_err-hand-in-None-clause-turns : goal.returns-in_err-hand-in-None-clause-turns
 returns-in_err-hand-in-None-clause-turns g c way n h =
@@ -103,16 +118,22 @@ returns-in_err-hand-in-Some-clause-turns g c way n h =
 pub returns-in_ok-hand-in-None-clause-turns : goal.returns-in_ok-hand-in-None-clause-turns
 returns-in_ok-hand-in-None-clause-turns g c way n h =
     let m = placed c.args.self.now c.args.place in
-    group_left way (set_of c.args.templates.now) c.args.limits n m.turns.count m.counted m.cursor c.close.new.self (option_map (elements_data (set_of c.args.templates.now).program) c.close.result) c.requires.end c.requires.inner
-    (closed_in (set_of c.args.templates.now) c.args.limits m c.close.new.self c.close.result c.requires.turn.supplied c.close.ensures.left) (ap (option_map (elements_data (set_of c.args.templates.now).program)) c.in-None.is) h
+    group_left way (set_of c.args.templates.now) c.args.limits n m.turns.count m.counted m.cursor c.close.new.self
+    (option_map (elements_data (set_of c.args.templates.now).program) c.close.result) c.requires.end c.requires.inner
+    (closed_in (set_of c.args.templates.now) c.args.limits m c.close.new.self c.close.result c.requires.turn.supplied c.close.ensures.left)
+    (ap (option_map (elements_data (set_of c.args.templates.now).program)) c.in-None.is) h
 
 pub returns-in_ok-hand-in-Some-clause-turns : goal.returns-in_ok-hand-in-Some-clause-turns
 returns-in_ok-hand-in-Some-clause-turns g c way n h =
     let m = placed c.args.self.now c.args.place in
     c.begin_element.ensures.turns way n
-    (element_left way (set_of c.args.templates.now) c.args.limits n m.turns.count m.counted m.cursor c.close.new.self (option_map (elements_data (set_of c.args.templates.now).program) c.close.result) (elements_data (set_of c.args.templates.now).program c.in-Some.elements) c.requires.end c.requires.inner
-    (closed_in (set_of c.args.templates.now) c.args.limits m c.close.new.self c.close.result c.requires.turn.supplied c.close.ensures.left) (ap (option_map (elements_data (set_of c.args.templates.now).program)) c.in-Some.is) h)
+    (element_left way (set_of c.args.templates.now) c.args.limits n m.turns.count m.counted m.cursor c.close.new.self
+    (option_map (elements_data (set_of c.args.templates.now).program) c.close.result)
+    (elements_data (set_of c.args.templates.now).program c.in-Some.elements) c.requires.end c.requires.inner
+    (closed_in (set_of c.args.templates.now) c.args.limits m c.close.new.self c.close.result c.requires.turn.supplied c.close.ensures.left)
+    (ap (option_map (elements_data (set_of c.args.templates.now).program)) c.in-Some.is) h)
 
 pub begin_element-requires-clause-run : goal.begin_element-requires-clause-run
 begin_element-requires-clause-run g c =
-    subst (λ (ops : List Op). IsRun ops c.in-Some.elements.start) c.requires.turn.supplied.program (subst (IsRunOf c.args.self.now.cursor.ops) c.in-Some.is c.close.ensures.run)
+    subst (λ (ops : List Op). IsRun ops c.in-Some.elements.start) c.requires.turn.supplied.program
+    (subst (IsRunOf c.args.self.now.cursor.ops) c.in-Some.is c.close.ensures.run)

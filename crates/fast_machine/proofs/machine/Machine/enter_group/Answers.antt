@@ -28,11 +28,14 @@ returns-clause-turn g c =
     let behind : Machine = record m { cursor = c.open_group.new.self } in
     let width = width_from set c.args.node c.args.start w c.requires.node c.requires.body c.segment_bits-width.ensures in
     let can = can_turn_past set l m m1 c.requires.turn (like_at m past refl) c.requires.turn.supplied.counted refl (record { same = refl }) in
-    turn_in g.S.Sink.takes g.S.Sink.stops set l m1 (awaiting w behind) c.open_group.new.self (opened_turn w) w None (run_in (set_of c.args.templates.now) c.args.start)
-    (reader_of l.strict (group_from set (bounds l) c.args.node (run_in (set_of c.args.templates.now) c.args.start) (slots_dictionary m.slots) m.counted m.cursor))
+    turn_in g.S.Sink.takes g.S.Sink.stops set l m1 (awaiting w behind) c.open_group.new.self (opened_turn w) w None
+    (run_in (set_of c.args.templates.now) c.args.start)
+    (reader_of l.strict (group_from set (bounds l) c.args.node (run_in (set_of c.args.templates.now) c.args.start)
+    (slots_dictionary m.slots) m.counted m.cursor))
     (GroupStart c.args.node) c.args.sink.now c.hand.new.sink
     (opened_waits w behind) (opened_goes w behind) (c.open_group.ensures
-    ∙ ap (λ (ops : List Op). entered c.advance.new.self None (run_at ops c.args.start)) (ap (λ (x : CursorData). x.ops) c.advance.ensures ∙ c.requires.turn.supplied.program)
+    ∙ ap (λ (ops : List Op). entered c.advance.new.self None (run_at ops c.args.start))
+    (ap (λ (x : CursorData). x.ops) c.advance.ensures ∙ c.requires.turn.supplied.program)
     ∙ ap (λ x. entered x None (run_in (set_of c.args.templates.now) c.args.start)) c.advance.ensures)
     can width c.requires.below c.requires.nested tt refl c.in_ok-hand.ensures
 
@@ -41,8 +44,10 @@ returns-clause-turns g c way n optional (at, number, some, next) h =
     let m = c.args.self.now in
     let set = set_of c.args.templates.now in
     awaiting_turns way set c.args.limits n (record m { cursor = c.open_group.new.self }) c.segment_bits-width.result
-    (group_opened way set c.args.limits n m.turns.count m.counted m.cursor c.open_group.new.self at optional (run_in (set_of c.args.templates.now) c.args.start) next (c.open_group.ensures
-    ∙ ap (λ (ops : List Op). entered c.advance.new.self None (run_at ops c.args.start)) (ap (λ (x : CursorData). x.ops) c.advance.ensures ∙ c.requires.turn.supplied.program)
+    (group_opened way set c.args.limits n m.turns.count m.counted m.cursor c.open_group.new.self at optional
+    (run_in (set_of c.args.templates.now) c.args.start) next (c.open_group.ensures
+    ∙ ap (λ (ops : List Op). entered c.advance.new.self None (run_at ops c.args.start))
+    (ap (λ (x : CursorData). x.ops) c.advance.ensures ∙ c.requires.turn.supplied.program)
     ∙ ap (λ x. entered x None (run_in (set_of c.args.templates.now) c.args.start)) c.advance.ensures) h)
 
 pub open_group-requires-clause-run : goal.open_group-requires-clause-run

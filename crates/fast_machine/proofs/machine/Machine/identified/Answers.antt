@@ -18,7 +18,10 @@ use Rattle.fast_machine.proofs.fields.Identifiers.{id_of, named_none, named_firs
 use Rattle.fast_machine.proofs.machine.Machine.identified.Goals as goal
 
 pub value_at-value-requires : goal.value_at-value-requires
-value_at-value-requires g c = record { within = (identifier_served (set_of c.args.templates.now) c.args.limits c.args.self.now c.requires.behind.supplied).within }
+value_at-value-requires g c = record {
+  within = (identifier_served
+      (set_of c.args.templates.now) c.args.limits c.args.self.now c.requires.behind.supplied).within;
+}
 
 pub returns-in_default-clause-turn : goal.returns-in_default-clause-turn
 returns-in_default-clause-turn g c =
@@ -26,7 +29,8 @@ returns-in_default-clause-turn g c =
     let d = slots_dictionary c.args.self.now.slots in
     let v : Option ScalarData = value_at c.args.source identifier d c.args.self.now.text.text c.args.piece.now in
     let is : c.id_of.result ≡ id_of v =
-    c.id_of.ensures ∙ ap id_of c.value_at-value.ensures ∙ ap (λ f. id_of (value_at c.args.source f d c.as_slice-text.result.now c.args.piece.now)) c.requires.behind.supplied.identifier
+    c.id_of.ensures ∙ ap id_of c.value_at-value.ensures ∙ ap
+    (λ f. id_of (value_at c.args.source f d c.as_slice-text.result.now c.args.piece.now)) c.requires.behind.supplied.identifier
     ∙ ap (λ w. id_of (value_at c.args.source identifier d w c.args.piece.now)) c.as_slice-text.ensures in
     turn_fault g.S.Sink.takes g.S.Sink.stops set c.args.limits _ c.args.sink.now D9 c.args.self.now
     (behind_unknown set c.args.limits.strict (bounds c.args.limits) c.args.self.now.cursor.map v (state_past identifier d 0 c.args.self.now.cursor)
@@ -51,13 +55,17 @@ returns-then-is_too_wide-clause-turn g c =
     let named = template_data (instructions_from 0 set.nodes) t in
     let v : Option ScalarData = value_at c.args.source identifier d c.args.self.now.text.text c.args.piece.now in
     let same : c.id_of.result ≡ id_of v =
-    c.id_of.ensures ∙ ap id_of c.value_at-value.ensures ∙ ap (λ f. id_of (value_at c.args.source f d c.as_slice-text.result.now c.args.piece.now)) c.requires.behind.supplied.identifier
+    c.id_of.ensures ∙ ap id_of c.value_at-value.ensures ∙ ap
+    (λ f. id_of (value_at c.args.source f d c.as_slice-text.result.now c.args.piece.now)) c.requires.behind.supplied.identifier
     ∙ ap (λ w. id_of (value_at c.args.source identifier d w c.args.piece.now)) c.as_slice-text.ensures in
     let width : c.message_bits-width.result ≡ message_bits named = c.message_bits-width.ensures t found in
     let wide : (strict && not (nat_le (length m) (bytes_for (message_bits named)))) ≡ true =
-    ap (λ n. strict && not (nat_le (length m) (bytes_for n))) (sym width) ∙ ap (λ n. strict && not (nat_le n (bytes_for c.message_bits-width.result))) (sym c.map_len.ensures) ∙ sym c.is_too_wide.ensures ∙ c.if-is_too_wide.true in
+    ap (λ n. strict && not (nat_le (length m) (bytes_for n))) (sym width)
+    ∙ ap (λ n. strict && not (nat_le n (bytes_for c.message_bits-width.result))) (sym c.map_len.ensures) ∙ sym c.is_too_wide.ensures
+    ∙ c.if-is_too_wide.true in
     turn_fault g.S.Sink.takes g.S.Sink.stops set c.args.limits _ c.args.sink.now R8 c.args.self.now
-    (behind_known set strict (bounds c.args.limits) m v st c.in-Some.start.now.number t (named_first set v id c.in-Some.start.now.number t (sym same ∙ is) found w.own w.first)
+    (behind_known set strict (bounds c.args.limits) m v st c.in-Some.start.now.number t
+    (named_first set v id c.in-Some.start.now.number t (sym same ∙ is) found w.own w.first)
     ∙ narrow-wide strict (message_bits named) m (message_of_then (bounds c.args.limits) c.in-Some.start.now.number named st) wide)
     c.requires.behind.supplied
 
@@ -79,12 +87,16 @@ returns-clause-turn g c =
     let named = template_data (instructions_from 0 set.nodes) t in
     let v : Option ScalarData = value_at c.args.source identifier d c.args.self.now.text.text c.args.piece.now in
     let same : c.id_of.result ≡ id_of v =
-    c.id_of.ensures ∙ ap id_of c.value_at-value.ensures ∙ ap (λ f. id_of (value_at c.args.source f d c.as_slice-text.result.now c.args.piece.now)) c.requires.behind.supplied.identifier
+    c.id_of.ensures ∙ ap id_of c.value_at-value.ensures ∙ ap
+    (λ f. id_of (value_at c.args.source f d c.as_slice-text.result.now c.args.piece.now)) c.requires.behind.supplied.identifier
     ∙ ap (λ w. id_of (value_at c.args.source identifier d w c.args.piece.now)) c.as_slice-text.ensures in
     let width : c.message_bits-width.result ≡ message_bits named = c.message_bits-width.ensures t found in
     let fits : (strict && not (nat_le (length m) (bytes_for (message_bits named)))) ≡ false =
-    ap (λ n. strict && not (nat_le (length m) (bytes_for n))) (sym width) ∙ ap (λ n. strict && not (nat_le n (bytes_for c.message_bits-width.result))) (sym c.map_len.ensures) ∙ sym c.is_too_wide.ensures ∙ c.if-is_too_wide.false in
+    ap (λ n. strict && not (nat_le (length m) (bytes_for n))) (sym width)
+    ∙ ap (λ n. strict && not (nat_le n (bytes_for c.message_bits-width.result))) (sym c.map_len.ensures) ∙ sym c.is_too_wide.ensures
+    ∙ c.if-is_too_wide.false in
     turn_as g.S.Sink.takes g.S.Sink.stops set c.args.limits _ _ c.args.sink.now c.start_message.result c.start_message.new.sink c.start_message.new.self
-    (behind_known set strict (bounds c.args.limits) m v st c.in-Some.start.now.number t (named_first set v id c.in-Some.start.now.number t (sym same ∙ is) found w.own w.first)
+    (behind_known set strict (bounds c.args.limits) m v st c.in-Some.start.now.number t
+    (named_first set v id c.in-Some.start.now.number t (sym same ∙ is) found w.own w.first)
     ∙ narrow-fits strict (message_bits named) m (message_of_then (bounds c.args.limits) c.in-Some.start.now.number named st) fits)
     (c.start_message.ensures.turn t found)

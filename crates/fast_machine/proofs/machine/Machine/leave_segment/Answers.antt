@@ -17,7 +17,8 @@ returns-in_err-hand_next-clause-turn g c =
     let m = placed c.args.self.now c.args.place in
     let set = set_of c.args.templates.now in
     let d = c.next_element.new.self in
-    let b = next_begun c.args.self.now c.args.place d c.next_element.result c.in-Some.width c.in-Some.is c.requires.inner c.next_element.ensures.next c.next_element.ensures.width in
+    let b = next_begun c.args.self.now c.args.place d c.next_element.result c.in-Some.width c.in-Some.is c.requires.inner
+    c.next_element.ensures.next c.next_element.ensures.width in
     let r = err_from_is_err_and c.from_residual.result c.from_residual.ensures.1 in
     let code : FaultCode = c.in_err-hand_next.field-0.0 in
     let s = c.args.sink.now in
@@ -25,7 +26,8 @@ returns-in_err-hand_next-clause-turn g c =
     let (is, why) = c.in_err-hand_next.ensures in
     rw (r.1, r.2) (elim why [
       | inl stopped ↦ next_stops set c.args.limits m d c.in-Some.width b c.requires.end takes stops c.requires.turn s s' code is stopped
-      | inr later ↦ let (mid, taken, stopped) = later in next_halts set c.args.limits m d c.in-Some.width b c.requires.end takes stops c.requires.turn s mid s' code is taken stopped
+      | inr later ↦ let (mid, taken, stopped) = later in next_halts set c.args.limits m d c.in-Some.width b c.requires.end takes stops
+          c.requires.turn s mid s' code is taken stopped
     ])
 
 pub returns-in_err-hand_next-clause-turns : goal.returns-in_err-hand_next-clause-turns
@@ -38,21 +40,25 @@ pub returns-clause-turn : goal.returns-clause-turn
 returns-clause-turn g c =
     let m = placed c.args.self.now c.args.place in
     let d = c.next_element.new.self in
-    let b = next_begun c.args.self.now c.args.place d c.next_element.result c.in-Some.width c.in-Some.is c.requires.inner c.next_element.ensures.next c.next_element.ensures.width in
+    let b = next_begun c.args.self.now c.args.place d c.next_element.result c.in-Some.width c.in-Some.is c.requires.inner
+    c.next_element.ensures.next c.next_element.ensures.width in
     let (mid, taken, started) = c.in_ok-hand_next.ensures in
-    next_begins (set_of c.args.templates.now) c.args.limits m d c.in-Some.width b c.requires.end g.S.Sink.takes g.S.Sink.stops c.requires.turn c.after-self.result c.args.sink.now mid c.hand_next.new.sink taken started
+    next_begins (set_of c.args.templates.now) c.args.limits m d c.in-Some.width b c.requires.end g.S.Sink.takes g.S.Sink.stops
+    c.requires.turn c.after-self.result c.args.sink.now mid c.hand_next.new.sink taken started
 
 pub returns-clause-turns : goal.returns-clause-turns
 returns-clause-turns g c way n h =
     let m = placed c.args.self.now c.args.place in
     let d = c.next_element.new.self in
-    let b = next_begun c.args.self.now c.args.place d c.next_element.result c.in-Some.width c.in-Some.is c.requires.inner c.next_element.ensures.next c.next_element.ensures.width in
+    let b = next_begun c.args.self.now c.args.place d c.next_element.result c.in-Some.width c.in-Some.is c.requires.inner
+    c.next_element.ensures.next c.next_element.ensures.width in
     next_counts (set_of c.args.templates.now) c.args.limits m d c.in-Some.width b c.requires.end c.after-self.result c.after-self.ensures way n h
 
 pub close_segment-requires-clause-turn : goal.close_segment-requires-clause-turn
 close_segment-requires-clause-turn g c =
     let same : c.next_element.new.self ≡ c.args.self.now.cursor = c.next_element.ensures.none c.in_default.is in
-    subst (λ (x : CursorData). CanTurn (set_of c.args.templates.now) c.args.limits (placed (record c.args.self.now { cursor = x }) c.args.place)) (sym same) c.requires.turn
+    subst (λ (x : CursorData). CanTurn (set_of c.args.templates.now) c.args.limits
+    (placed (record c.args.self.now { cursor = x }) c.args.place)) (sym same) c.requires.turn
 
 pub returns-in_default-clause-turn : goal.returns-in_default-clause-turn
 returns-in_default-clause-turn g c =
@@ -60,9 +66,12 @@ returns-in_default-clause-turn g c =
     let l = c.args.limits in
     let same : c.next_element.new.self ≡ c.args.self.now.cursor = c.next_element.ensures.none c.in_default.is in
     let r = c.close_segment.result in
-    subst (λ (x : CursorData). IsTurn g.S.Sink.takes g.S.Sink.stops set l (turning set l (placed (record c.args.self.now { cursor = x }) c.args.place)) c.args.sink.now (opened_result r) c.close_segment.new.sink (opened_by r c.close_segment.new.self)) same c.close_segment.ensures.turn
+    subst (λ (x : CursorData). IsTurn g.S.Sink.takes g.S.Sink.stops set l
+    (turning set l (placed (record c.args.self.now { cursor = x }) c.args.place)) c.args.sink.now
+    (opened_result r) c.close_segment.new.sink (opened_by r c.close_segment.new.self)) same c.close_segment.ensures.turn
 
 pub returns-in_default-clause-turns : goal.returns-in_default-clause-turns
 returns-in_default-clause-turns g c way n h =
     let same : c.next_element.new.self ≡ c.args.self.now.cursor = c.next_element.ensures.none c.in_default.is in
-    c.close_segment.ensures.turns way n (subst (λ (x : CursorData). HasTurns way (set_of c.args.templates.now) c.args.limits 1 n (placed (record c.args.self.now { cursor = x }) c.args.place)) (sym same) h)
+    c.close_segment.ensures.turns way n (subst (λ (x : CursorData). HasTurns way (set_of c.args.templates.now) c.args.limits 1 n
+    (placed (record c.args.self.now { cursor = x }) c.args.place)) (sym same) h)

@@ -9,7 +9,8 @@ use Rattle.fast_machine.proofs.machine.Machine.new.Goals as goal
 pub returns-clause-supplied : goal.returns-clause-supplied
 returns-clause-supplied c =
     record {
-      entries = sym (slots_sized c.in_ok-make_slots.field-0) ∙ ap length c.in_ok-make_slots.ensures.fresh ∙ length-replicate (tree_of c.args.templates.now).entries undefined;
+      entries = sym (slots_sized c.in_ok-make_slots.field-0) ∙ ap length c.in_ok-make_slots.ensures.fresh
+          ∙ length-replicate (tree_of c.args.templates.now).entries undefined;
       serves = c.in_ok-make_slots.ensures.serves;
       some_entry = c.args.templates.now.has_identifier;
       max_text = c.in_ok-make_slots.ensures.max_text;

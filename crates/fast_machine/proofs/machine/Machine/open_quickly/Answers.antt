@@ -28,7 +28,8 @@ returns-clause-taken g c =
     let from : Reader Dictionary = reader_of l.strict (segment_behind set (bounds l) (slots_dictionary m.slots) m.counted m.cursor width) in
     let a : Machine = record m { cursor = c.take_byte.new.self; turns = c.after-self.result } in
     let on : Reader Dictionary = turning set l a in
-    let can = segment_turns set l m width c.take_byte.new.self c.after-self.result rest c.requires.waits.1 c.requires.ready none taken c.take_byte.ensures.same in
+    let can = segment_turns set l m width c.take_byte.new.self c.after-self.result rest c.requires.waits.1 c.requires.ready none taken
+    c.take_byte.ensures.same in
     subst (λ (w : Waiting). IsTakenTo g.S.Sink.takes g.S.Sink.stops set l (meaning_at w set l m) rest s 1 (Ok Turn.Silent) s a) (sym c.requires.waits.1)
     (taken_to g.S.Sink.takes g.S.Sink.stops set l from m.cursor.map rest 1 on s (Ok Turn.Silent) s a taken.0 taken.1
     (segment_short set l m width c.take_byte.new.self c.after-self.result rest c.requires.waits.1 c.requires.ready none taken c.take_byte.ensures.same)

@@ -27,9 +27,11 @@ returns-in-Wrong-clause-taken g c m ready of some h =
     let a = c.args.self.now in
     let f = field_data c.args.field.now in
     let unit = subst (λ (p : Progress FieldStep). IsScalarUnit l m a f c.args.rest.now p) c.in-Wrong.is h in
-    wrong_to g.S.Sink.takes g.S.Sink.stops set l (meaning set l m) c.args.rest.now c.args.sink.now a (Why.Stream c.in-Wrong.code) c.wrong.ensures.bytes c.wrong.ensures.turn
+    wrong_to g.S.Sink.takes g.S.Sink.stops set l (meaning set l m) c.args.rest.now c.args.sink.now a
+    (Why.Stream c.in-Wrong.code) c.wrong.ensures.bytes c.wrong.ensures.turn
     (subst (λ (p : Progress FieldStep). CanProgress set l a f p) c.in-Wrong.is c.requires.progress)
-    (scalar_wrong g.S.Sink.takes g.S.Sink.stops set l m a f c.args.node c.args.rest.now ready of c.requires.next c.in-Wrong.code c.in-Wrong.bytes unit c.args.sink.now)
+    (scalar_wrong g.S.Sink.takes g.S.Sink.stops set l m a f c.args.node c.args.rest.now ready of c.requires.next c.in-Wrong.code
+    c.in-Wrong.bytes unit c.args.sink.now)
 
 pub returns-in-Whole-clause-taken : goal.returns-in-Whole-clause-taken
 returns-in-Whole-clause-taken g c m ready of some h =
@@ -38,5 +40,6 @@ returns-in-Whole-clause-taken g c m ready of some h =
     let a = c.args.self.now in
     let f = field_data c.args.field.now in
     let unit = subst (λ (p : Progress FieldStep). IsScalarUnit l m a f c.args.rest.now p) c.in-Whole.is h in
-    scalar_whole g.S.Sink.takes g.S.Sink.stops set l m a f c.args.node c.args.rest.now ready of c.requires.next c.in-Whole.step c.in-Whole.bytes unit c.args.sink.now c.step_on-turn.result c.step_on-turn.new.sink c.step_on-turn.new.self
+    scalar_whole g.S.Sink.takes g.S.Sink.stops set l m a f c.args.node c.args.rest.now ready of c.requires.next c.in-Whole.step
+    c.in-Whole.bytes unit c.args.sink.now c.step_on-turn.result c.step_on-turn.new.sink c.step_on-turn.new.self
     c.step_on-turn.ensures.turn

@@ -31,10 +31,13 @@ returns-clause-ahead c =
     let behind : take (length rest - 1) (drop 1 rest) ≡ drop 1 rest = take_all (length rest - 1) (drop 1 rest) (omega (arith, len)) in
     let whole : IsFirstInt (λ (y : ℕ). Some (pos y)) l.strict (unsigned_up_to 4294967295) false (Whole id n) (drop 1 rest) =
     subst (λ w. IsFirstInt (λ (y : ℕ). Some (pos y)) l.strict (unsigned_up_to 4294967295) false (Whole id n) w) behind
-    (subst (λ (r : Option ℕ). IsFirstInt (λ (y : Option ℕ). option_map pos y) l.strict (unsigned_up_to 4294967295) false (Whole r n) (take (length rest - 1) (drop 1 rest))) c.in_ok-id.was c.in_ok-claimed.ensures) in
+    (subst (λ (r : Option ℕ). IsFirstInt (λ (y : Option ℕ). option_map pos y) l.strict (unsigned_up_to 4294967295) false (Whole r n)
+    (take (length rest - 1) (drop 1 rest))) c.in_ok-id.was c.in_ok-claimed.ensures) in
     let high : 192 ≤ get_or rest 0 0 = search (rules, c.requires.first) in
     let stop : 128 ≤ get_or rest 0 0 = omega (arith, high) in
-    ahead_sent set l c.args.self.now rest c.requires.supplied c.requires.unused c.requires.some stop id c.in_ok-start.start.now.number start.template start.found start.own start.first n (slots_dictionary c.set_number.new.self) whole c.set_number.ensures.entry high (c.type_inv.rest 0).fits
+    ahead_sent set l c.args.self.now rest c.requires.supplied c.requires.unused c.requires.some stop id c.in_ok-start.start.now.number
+    start.template start.found start.own start.first n (slots_dictionary c.set_number.new.self) whole c.set_number.ensures.entry high
+    (c.type_inv.rest 0).fits
 
 pub returns-clause-start : goal.returns-clause-start
 returns-clause-start c = start_in (set_of c.args.templates.now) c.in_ok-id.id c.in_ok-start.start.now c.in_ok-start.ensures.some
@@ -45,6 +48,7 @@ returns-clause-supplied c =
     let l = c.args.limits in
     let m : Machine = c.args.self.now in
     let known : Machine = record m { latest = Some c.in_ok-start.start } in
-    let supplied = supplied_latest set l m (Some c.in_ok-start.start) c.requires.supplied (start_in set c.in_ok-id.id c.in_ok-start.start.now c.in_ok-start.ensures.some) in
+    let supplied = supplied_latest set l m (Some c.in_ok-start.start) c.requires.supplied
+    (start_in set c.in_ok-id.id c.in_ok-start.start.now c.in_ok-start.ensures.some) in
     supplied_like set l known (record known { slots = c.set_number.new.self }) supplied
     (record { terms = c.set_number.ensures.same; text = refl; joined = refl; identifier = refl; rests = refl; latest = refl }) c.requires.supplied.counted

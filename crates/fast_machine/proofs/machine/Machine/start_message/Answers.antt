@@ -27,8 +27,11 @@ returns-in_err-hand-clause-turn g c t found =
     let set = set_of c.args.templates.now in
     let (code, is, same) = err_from_is_err_and c.from_residual.result c.from_residual.ensures.1 in
     rw (is, same) (record {
-      moves = moves_halt g.S.Sink.takes g.S.Sink.stops (turning set c.args.limits c.args.self.now) (meaning set c.args.limits c.args.self.now) c.args.sink.now c.in_err-hand.field-0.0 c.hand.new.sink
-          (ap (reader_of c.args.limits.strict) (begin_message (bounds c.args.limits) c.args.start.now.number (template_data (instructions_from 0 set.nodes) t) (state_past identifier (slots_dictionary c.args.self.now.slots) 0 c.args.self.now.cursor)))
+      moves = moves_halt g.S.Sink.takes g.S.Sink.stops (turning set c.args.limits c.args.self.now)
+          (meaning set c.args.limits c.args.self.now) c.args.sink.now c.in_err-hand.field-0.0 c.hand.new.sink
+          (ap (reader_of c.args.limits.strict) (begin_message (bounds c.args.limits) c.args.start.now.number
+          (template_data (instructions_from 0 set.nodes) t) (state_past identifier
+          (slots_dictionary c.args.self.now.slots) 0 c.args.self.now.cursor)))
           c.in_err-hand.ensures;
       supplied = c.requires.behind.supplied;
       goes_on = tt;
@@ -53,20 +56,40 @@ returns-clause-turn g c t found =
     let l = bounds c.args.limits in
     let both : Some c.requires.start.0 ≡ Some t = sym c.requires.start.1 ∙ found in
     let same : c.requires.start.0 ≡ t = cc both in
-    let turns = begun_turns (set_of c.args.templates.now) c.args.limits c.args.self.now c.args.start.now.number c.requires.start.0 c.begin.new.self c.reset_if.new.slots c.after-self.result (Some c.args.start) c.requires.start c.requires.behind c.requires.start.1 (c.args.templates.now.templates_name_nodes c.args.start.now.number c.requires.start.0 c.requires.start.1)
+    let turns = begun_turns (set_of c.args.templates.now) c.args.limits c.args.self.now c.args.start.now.number c.requires.start.0
+    c.begin.new.self c.reset_if.new.slots c.after-self.result (Some c.args.start) c.requires.start c.requires.behind c.requires.start.1
+    (c.args.templates.now.templates_name_nodes c.args.start.now.number c.requires.start.0 c.requires.start.1)
     c.reset_if.ensures.terms
-    (ap (λ (x : CursorData). x.frames) c.begin.ensures ∙ ap (λ (x : CursorData). x.frames) c.use_bit.ensures.same ∙ ap (λ (x : CursorData). x.frames) c.requires.behind.outermost)
+    (ap (λ (x : CursorData). x.frames) c.begin.ensures ∙ ap (λ (x : CursorData). x.frames) c.use_bit.ensures.same
+    ∙ ap (λ (x : CursorData). x.frames) c.requires.behind.outermost)
     (ap (λ (x : CursorData). x.left) c.begin.ensures
     ∙ ap (λ (ops : List Op). run_at ops c.args.start.now.at) (ap (λ (x : CursorData). x.ops) c.use_bit.ensures.same ∙ c.requires.behind.supplied.program)
     ∙ c.requires.start.2.body.nodes)
     (ap (λ (x : CursorData). x.map) c.begin.ensures ∙ ap (λ (x : CursorData). x.map) c.use_bit.ensures.same)
     (ap resting c.begin.ensures ∙ ap resting c.use_bit.ensures.same) in
-    subst (λ (u : Template). IsTurn g.S.Sink.takes g.S.Sink.stops set c.args.limits (reader_of strict (message_of_then l c.args.start.now.number (template_data (instructions_from 0 set.nodes) u) (state_past identifier d 0 c.args.self.now.cursor))) c.args.sink.now (Ok Handed) c.hand.new.sink
-    (record c.args.self.now { cursor = c.begin.new.self; slots = c.reset_if.new.slots; counted = 0; turns = c.after-self.result; latest = Some c.args.start })) same
+    subst (λ (u : Template). IsTurn g.S.Sink.takes g.S.Sink.stops set c.args.limits
+    (reader_of strict (message_of_then l c.args.start.now.number (template_data (instructions_from 0 set.nodes) u)
+    (state_past identifier d 0 c.args.self.now.cursor))) c.args.sink.now (Ok Handed) c.hand.new.sink
+    (record c.args.self.now {
+      cursor = c.begin.new.self;
+      slots = c.reset_if.new.slots;
+      counted = 0;
+      turns = c.after-self.result;
+      latest = Some c.args.start;
+    })) same
     (record {
-      moves = moves_one g.S.Sink.takes g.S.Sink.stops (meaning set c.args.limits (record c.args.self.now { cursor = c.begin.new.self; slots = c.reset_if.new.slots; counted = 0; turns = c.after-self.result; latest = Some c.args.start })) c.args.sink.now c.hand.new.sink
-          (begun set strict l c.args.start.now.number c.requires.start.0 d (slots_dictionary c.reset_if.new.slots) c.args.self.now.cursor c.begin.new.self (c.reset_if.ensures.entries ∙ ap (λ (r : Bool). if r then reset d else d) c.requires.start.2.reset)
-          (ap (λ (x : CursorData). x.frames) c.begin.ensures ∙ ap (λ (x : CursorData). x.frames) c.use_bit.ensures.same ∙ ap (λ (x : CursorData). x.frames) c.requires.behind.outermost)
+      moves = moves_one g.S.Sink.takes g.S.Sink.stops (meaning set c.args.limits (record c.args.self.now {
+        cursor = c.begin.new.self;
+        slots = c.reset_if.new.slots;
+        counted = 0;
+        turns = c.after-self.result;
+        latest = Some c.args.start;
+      })) c.args.sink.now c.hand.new.sink
+          (begun set strict l c.args.start.now.number c.requires.start.0 d
+          (slots_dictionary c.reset_if.new.slots) c.args.self.now.cursor c.begin.new.self
+          (c.reset_if.ensures.entries ∙ ap (λ (r : Bool). if r then reset d else d) c.requires.start.2.reset)
+          (ap (λ (x : CursorData). x.frames) c.begin.ensures ∙ ap (λ (x : CursorData). x.frames) c.use_bit.ensures.same
+          ∙ ap (λ (x : CursorData). x.frames) c.requires.behind.outermost)
           (ap (λ (x : CursorData). x.left) c.begin.ensures
           ∙ ap (λ (ops : List Op). run_at ops c.args.start.now.at) (ap (λ (x : CursorData). x.ops) c.use_bit.ensures.same ∙ c.requires.behind.supplied.program)
           ∙ c.requires.start.2.body.nodes)
@@ -77,9 +100,13 @@ returns-clause-turn g c t found =
     })
 
 pub returns-clause-goes_on : goal.returns-clause-goes_on
-returns-clause-goes_on g c = begun_turns (set_of c.args.templates.now) c.args.limits c.args.self.now c.args.start.now.number c.requires.start.0 c.begin.new.self c.reset_if.new.slots c.after-self.result (Some c.args.start) c.requires.start c.requires.behind c.requires.start.1 (c.args.templates.now.templates_name_nodes c.args.start.now.number c.requires.start.0 c.requires.start.1)
+returns-clause-goes_on g c = begun_turns (set_of c.args.templates.now) c.args.limits c.args.self.now c.args.start.now.number
+    c.requires.start.0 c.begin.new.self c.reset_if.new.slots c.after-self.result
+    (Some c.args.start) c.requires.start c.requires.behind c.requires.start.1
+    (c.args.templates.now.templates_name_nodes c.args.start.now.number c.requires.start.0 c.requires.start.1)
     c.reset_if.ensures.terms
-    (ap (λ (x : CursorData). x.frames) c.begin.ensures ∙ ap (λ (x : CursorData). x.frames) c.use_bit.ensures.same ∙ ap (λ (x : CursorData). x.frames) c.requires.behind.outermost)
+    (ap (λ (x : CursorData). x.frames) c.begin.ensures ∙ ap (λ (x : CursorData). x.frames) c.use_bit.ensures.same
+    ∙ ap (λ (x : CursorData). x.frames) c.requires.behind.outermost)
     (ap (λ (x : CursorData). x.left) c.begin.ensures
     ∙ ap (λ (ops : List Op). run_at ops c.args.start.now.at) (ap (λ (x : CursorData). x.ops) c.use_bit.ensures.same ∙ c.requires.behind.supplied.program)
     ∙ c.requires.start.2.body.nodes)
@@ -87,9 +114,13 @@ returns-clause-goes_on g c = begun_turns (set_of c.args.templates.now) c.args.li
     (ap resting c.begin.ensures ∙ ap resting c.use_bit.ensures.same)
 
 pub returns-clause-supplied : goal.returns-clause-supplied
-returns-clause-supplied g c = (begun_turns (set_of c.args.templates.now) c.args.limits c.args.self.now c.args.start.now.number c.requires.start.0 c.begin.new.self c.reset_if.new.slots c.after-self.result (Some c.args.start) c.requires.start c.requires.behind c.requires.start.1 (c.args.templates.now.templates_name_nodes c.args.start.now.number c.requires.start.0 c.requires.start.1)
+returns-clause-supplied g c = (begun_turns (set_of c.args.templates.now) c.args.limits c.args.self.now c.args.start.now.number
+    c.requires.start.0 c.begin.new.self c.reset_if.new.slots c.after-self.result
+    (Some c.args.start) c.requires.start c.requires.behind c.requires.start.1
+    (c.args.templates.now.templates_name_nodes c.args.start.now.number c.requires.start.0 c.requires.start.1)
     c.reset_if.ensures.terms
-    (ap (λ (x : CursorData). x.frames) c.begin.ensures ∙ ap (λ (x : CursorData). x.frames) c.use_bit.ensures.same ∙ ap (λ (x : CursorData). x.frames) c.requires.behind.outermost)
+    (ap (λ (x : CursorData). x.frames) c.begin.ensures ∙ ap (λ (x : CursorData). x.frames) c.use_bit.ensures.same
+    ∙ ap (λ (x : CursorData). x.frames) c.requires.behind.outermost)
     (ap (λ (x : CursorData). x.left) c.begin.ensures
     ∙ ap (λ (ops : List Op). run_at ops c.args.start.now.at) (ap (λ (x : CursorData). x.ops) c.use_bit.ensures.same ∙ c.requires.behind.supplied.program)
     ∙ c.requires.start.2.body.nodes)
@@ -99,15 +130,18 @@ returns-clause-supplied g c = (begun_turns (set_of c.args.templates.now) c.args.
 pub returns-clause-turns : goal.returns-clause-turns
 returns-clause-turns g c way n h =
     let m = c.args.self.now in
-    message_begun way (set_of c.args.templates.now) c.args.limits n m.turns.count c.after-self.result.count c.args.start.now.number c.requires.start.0 c.begin.new.self h c.requires.start.1 c.after-self.ensures
+    message_begun way (set_of c.args.templates.now) c.args.limits n m.turns.count c.after-self.result.count c.args.start.now.number
+    c.requires.start.0 c.begin.new.self h c.requires.start.1 c.after-self.ensures
     (ap (λ (x : CursorData). x.left) c.begin.ensures
     ∙ ap (λ (ops : List Op). run_at ops c.args.start.now.at) (ap (λ (x : CursorData). x.ops) c.use_bit.ensures.same ∙ c.requires.behind.supplied.program)
     ∙ c.requires.start.2.body.nodes)
-    (ap (λ (x : CursorData). x.frames) c.begin.ensures ∙ ap (λ (x : CursorData). x.frames) c.use_bit.ensures.same ∙ ap (λ (x : CursorData). x.frames) c.requires.behind.outermost)
+    (ap (λ (x : CursorData). x.frames) c.begin.ensures ∙ ap (λ (x : CursorData). x.frames) c.use_bit.ensures.same
+    ∙ ap (λ (x : CursorData). x.frames) c.requires.behind.outermost)
 
 pub begin-requires : goal.begin-requires
 begin-requires g c = record {
   run =
-      subst (λ (ops : List Op). IsRun ops c.args.start.now.at) (sym (ap (λ (x : CursorData). x.ops) c.use_bit.ensures.same ∙ c.requires.behind.supplied.program))
+      subst (λ (ops : List Op). IsRun ops c.args.start.now.at)
+      (sym (ap (λ (x : CursorData). x.ops) c.use_bit.ensures.same ∙ c.requires.behind.supplied.program))
       c.requires.start.2.body.run;
 }

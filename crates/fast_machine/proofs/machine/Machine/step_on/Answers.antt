@@ -35,14 +35,18 @@ returns-in-Settled-clause-turn g c =
     let a = c.finish.new.self in
     let ends = c.finish.ensures in
     let can = subst (λ (step : FieldStep). CanStep set l m f step) c.in-Settled.is c.requires.step in
-    let r : Reader Dictionary = reader_of l.strict (value_then set (bounds l) c.args.node (value_at c.in-Settled.source f (slots_dictionary m.slots) m.text.text piece) f (slots_dictionary m.slots) m.counted m.cursor) in
-    subst (λ (step : FieldStep). IsTurn g.S.Sink.takes g.S.Sink.stops set l (reader_of l.strict (step_then set l c.args.node f m piece step)) c.args.sink.now c.finish.result c.finish.new.sink a)
+    let r : Reader Dictionary = reader_of l.strict (value_then set (bounds l) c.args.node
+    (value_at c.in-Settled.source f (slots_dictionary m.slots) m.text.text piece) f (slots_dictionary m.slots) m.counted m.cursor) in
+    subst (λ (step : FieldStep). IsTurn g.S.Sink.takes g.S.Sink.stops set l
+    (reader_of l.strict (step_then set l c.args.node f m piece step)) c.args.sink.now c.finish.result c.finish.new.sink a)
     (sym c.in-Settled.is)
-    (turn_moved g.S.Sink.takes g.S.Sink.stops set l r r c.args.sink.now c.finish.result c.finish.new.sink m a refl (ends.moves set (bounds l) l.strict (meaning set l a)) can ends.same ends.rests ends.past ends.on)
+    (turn_moved g.S.Sink.takes g.S.Sink.stops set l r r c.args.sink.now c.finish.result c.finish.new.sink m a refl
+    (ends.moves set (bounds l) l.strict (meaning set l a)) can ends.same ends.rests ends.past ends.on)
 
 pub returns-in-Settled-clause-turns : goal.returns-in-Settled-clause-turns
 returns-in-Settled-clause-turns g c way n h =
-    finished way (set_of c.args.templates.now) c.args.limits n c.args.self.now c.finish.new.self _ c.finish.result c.requires.next.3 c.finish.ensures.same c.finish.ensures.past c.finish.ensures.on h
+    finished way (set_of c.args.templates.now) c.args.limits n c.args.self.now c.finish.new.self _ c.finish.result c.requires.next.3
+    c.finish.ensures.same c.finish.ensures.past c.finish.ensures.on h
 
 pub returns-in-Next-clause-turn : goal.returns-in-Next-clause-turn
 returns-in-Next-clause-turn g c =
@@ -51,6 +55,9 @@ returns-in-Next-clause-turn g c =
     let m = c.args.self.now in
     let f = field_data c.args.field.now in
     let can = subst (λ (step : FieldStep). CanStep set l m f step) c.in-Next.is c.requires.step in
-    subst (λ (step : FieldStep). IsTurn g.S.Sink.takes g.S.Sink.stops set l (reader_of l.strict (step_then set l c.args.node f m c.args.piece.now step)) c.args.sink.now (Ok Turn.Waits) c.args.sink.now c.wait_behind.new.self)
+    subst (λ (step : FieldStep). IsTurn g.S.Sink.takes g.S.Sink.stops set l
+    (reader_of l.strict (step_then set l c.args.node f m c.args.piece.now step)) c.args.sink.now
+    (Ok Turn.Waits) c.args.sink.now c.wait_behind.new.self)
     (sym c.in-Next.is)
-    (stage_waits_on set l m f c.args.node c.in-Next.stage c.requires.next can c.wait_behind.new.self c.wait_behind.ensures.same c.wait_behind.ensures.capacity c.wait_behind.ensures.waits g.S.Sink.takes g.S.Sink.stops c.args.sink.now)
+    (stage_waits_on set l m f c.args.node c.in-Next.stage c.requires.next can c.wait_behind.new.self c.wait_behind.ensures.same
+    c.wait_behind.ensures.capacity c.wait_behind.ensures.waits g.S.Sink.takes g.S.Sink.stops c.args.sink.now)

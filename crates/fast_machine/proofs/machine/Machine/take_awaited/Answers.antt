@@ -21,7 +21,9 @@ pub returns-in-Field-clause-taken : goal.returns-in-Field-clause-taken
 returns-in-Field-clause-taken g c = c.take_first_integer.ensures.taken
 
 pub returns-in-Field-clause-turns : goal.returns-in-Field-clause-turns
-returns-in-Field-clause-turns g c way n h = paid_awaited way (set_of c.args.templates.now) c.args.limits n c.args.self.now c.take_first_integer.new.self c.take_first_integer.result.turn Field c.in-Field.is refl (c.take_first_integer.ensures.turns way n) h
+returns-in-Field-clause-turns g c way n h = paid_awaited way
+    (set_of c.args.templates.now) c.args.limits n c.args.self.now c.take_first_integer.new.self c.take_first_integer.result.turn Field
+    c.in-Field.is refl (c.take_first_integer.ensures.turns way n) h
 
 pub take_map-requires-clause-waits : goal.take_map-requires-clause-waits
 take_map-requires-clause-waits g c = c.in-Map.is
@@ -60,7 +62,9 @@ pub returns-in-SegmentMap-clause-taken : goal.returns-in-SegmentMap-clause-taken
 returns-in-SegmentMap-clause-taken g c = c.take_segment_map.ensures.taken
 
 pub returns-in-SegmentMap-clause-turns : goal.returns-in-SegmentMap-clause-turns
-returns-in-SegmentMap-clause-turns g c way n h = paid_awaited way (set_of c.args.templates.now) c.args.limits n c.args.self.now c.take_segment_map.new.self c.take_segment_map.result.turn (SegmentMap c.in-SegmentMap.width) c.in-SegmentMap.is refl (c.take_segment_map.ensures.turns way n) h
+returns-in-SegmentMap-clause-turns g c way n h = paid_awaited way
+    (set_of c.args.templates.now) c.args.limits n c.args.self.now c.take_segment_map.new.self c.take_segment_map.result.turn
+    (SegmentMap c.in-SegmentMap.width) c.in-SegmentMap.is refl (c.take_segment_map.ensures.turns way n) h
 
 pub take_later_unit-requires-clause-waits : goal.take_later_unit-requires-clause-waits
 take_later_unit-requires-clause-waits g c = is_later c.args.self.now.waiting c.in-Text.is
@@ -75,7 +79,9 @@ pub returns-in-Text-clause-taken : goal.returns-in-Text-clause-taken
 returns-in-Text-clause-taken g c = c.take_later_unit.ensures.taken
 
 pub returns-in-Text-clause-turns : goal.returns-in-Text-clause-turns
-returns-in-Text-clause-turns g c way n h = paid_later way (set_of c.args.templates.now) c.args.limits n c.args.self.now c.take_later_unit.new.self c.take_later_unit.result.turn c.in-Text.is (c.take_later_unit.ensures.turns way n) h
+returns-in-Text-clause-turns g c way n h = paid_later way
+    (set_of c.args.templates.now) c.args.limits n c.args.self.now c.take_later_unit.new.self c.take_later_unit.result.turn c.in-Text.is
+    (c.take_later_unit.ensures.turns way n) h
 
 pub take_mantissa-requires-clause-waits : goal.take_mantissa-requires-clause-waits
 take_mantissa-requires-clause-waits g c = c.in-Mantissa.is ∙ sym (ap Mantissa (to_z-of_z w32 c.in-Mantissa.exponent (search rules)))
@@ -90,4 +96,6 @@ pub returns-in-Mantissa-clause-taken : goal.returns-in-Mantissa-clause-taken
 returns-in-Mantissa-clause-taken g c = c.take_mantissa.ensures.taken
 
 pub returns-in-Mantissa-clause-turns : goal.returns-in-Mantissa-clause-turns
-returns-in-Mantissa-clause-turns g c way n h = paid_awaited way (set_of c.args.templates.now) c.args.limits n c.args.self.now c.take_mantissa.new.self c.take_mantissa.result.turn (Mantissa c.in-Mantissa.exponent) c.in-Mantissa.is refl (c.take_mantissa.ensures.turns way n) h
+returns-in-Mantissa-clause-turns g c way n h = paid_awaited way
+    (set_of c.args.templates.now) c.args.limits n c.args.self.now c.take_mantissa.new.self c.take_mantissa.result.turn
+    (Mantissa c.in-Mantissa.exponent) c.in-Mantissa.is refl (c.take_mantissa.ensures.turns way n) h

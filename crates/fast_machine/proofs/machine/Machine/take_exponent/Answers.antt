@@ -7,14 +7,16 @@ use Rattle.fast_machine.specs.device.Positions.{set_of, turning, meaning}
 use Rattle.fast_machine.specs.device.TurnsLeft.{HasTurnsAt}
 use Rattle.fast_machine.specs.declared.machine.Waiting.{Waiting}
 use Rattle.fast_stream.specs.declared.faults.FaultCode.TheVariants as Why
-use Rattle.fast_machine.proofs.machines.PartTakes.{integer_whole, integer_wrong, integer_cut, exponent_sees, exponent_sent, meaning_first, first_cut, first_ready, part_supplied}
+use Rattle.fast_machine.proofs.machines.PartTakes.{integer_whole, integer_wrong, integer_cut, exponent_sees, exponent_sent, meaning_first}
+use Rattle.fast_machine.proofs.machines.PartTakes.{first_cut, first_ready, part_supplied}
 use Rattle.fast_machine.proofs.machines.UnitTaken.{cut_to, wrong_to}
 use Rattle.fast_machine.proofs.steps.FieldTurns.{serves_here, behind, parts_next}
 use Rattle.fast_machine.proofs.steps.TurnCounts.{fault_turns}
 use Rattle.fast_machine.proofs.machine.Machine.take_exponent.Goals as goal
 
 pub take_integer-requires-clause-serves : goal.take_integer-requires-clause-serves
-take_integer-requires-clause-serves g c = serves_here (set_of c.args.templates.now) c.args.limits c.args.self.now (field_data c.args.exponent.now) c.requires.ready.supplied c.requires.exponent
+take_integer-requires-clause-serves g c = serves_here (set_of c.args.templates.now) c.args.limits c.args.self.now
+    (field_data c.args.exponent.now) c.requires.ready.supplied c.requires.exponent
 
 pub returns-in-Cut-clause-taken : goal.returns-in-Cut-clause-taken
 returns-in-Cut-clause-taken g c =
@@ -33,7 +35,9 @@ returns-in-Cut-clause-taken g c =
     let (stays, same) = c.in-Cut.ensures.unit (bounds l) [] in
     cut_to takes stops set l (meaning set l m) c.args.rest.now c.args.sink.now a c.cut.ensures.bytes c.cut.ensures.turn
     (first_ready set l m c.take_integer.new.slots c.take_integer.new.pending c.requires.ready c.take_integer.ensures.terms c.requires.waits same)
-    (integer_cut takes stops set l m f k (turning set l m) c.args.rest.now sent next is a c.take_integer.new.pending (first_cut set l m c.take_integer.new.slots c.take_integer.new.pending c.requires.waits same) (c.in-Cut.ensures.cut refl) c.requires.some stays c.args.sink.now)
+    (integer_cut takes stops set l m f k (turning set l m) c.args.rest.now sent next is a c.take_integer.new.pending
+    (first_cut set l m c.take_integer.new.slots c.take_integer.new.pending c.requires.waits same)
+    (c.in-Cut.ensures.cut refl) c.requires.some stays c.args.sink.now)
 
 pub returns-in-Wrong-clause-taken : goal.returns-in-Wrong-clause-taken
 returns-in-Wrong-clause-taken g c =
@@ -51,7 +55,8 @@ returns-in-Wrong-clause-taken g c =
     let a = record m { slots = c.take_integer.new.slots; entity = c.take_integer.new.pending } in
     wrong_to takes stops set l (meaning set l m) c.args.rest.now c.args.sink.now a (Why.Stream c.in-Wrong.code) c.wrong.ensures.bytes c.wrong.ensures.turn
     (part_supplied set l m c.take_integer.new.slots c.take_integer.new.pending c.requires.ready c.take_integer.ensures.terms)
-    (integer_wrong takes stops set l m f k (turning set l m) c.args.rest.now sent next is (slots_dictionary c.take_integer.new.slots) [] c.in-Wrong.code c.in-Wrong.bytes (c.in-Wrong.ensures.unit (bounds l) []) c.args.sink.now)
+    (integer_wrong takes stops set l m f k (turning set l m) c.args.rest.now sent next is (slots_dictionary c.take_integer.new.slots)
+    [] c.in-Wrong.code c.in-Wrong.bytes (c.in-Wrong.ensures.unit (bounds l) []) c.args.sink.now)
 
 pub returns-in-Whole-clause-taken : goal.returns-in-Whole-clause-taken
 returns-in-Whole-clause-taken g c =
@@ -66,7 +71,9 @@ returns-in-Whole-clause-taken g c =
     let sent = exponent_sent set l m n f (field_data c.args.mantissa.now) c.requires.ready c.requires.waits c.requires.next in
     let next = parts_next set l m n f (field_data c.args.mantissa.now) c.requires.next in
     let is = meaning_first set l m c.requires.waits in
-    integer_whole takes stops set l m f k (turning set l m) c.args.rest.now sent next is (exponent_sees (bounds l) n (field_data c.args.mantissa.now) (behind set l m)) c.take_integer.new.slots m.text.text c.in-Whole.source c.in-Whole.bytes (c.in-Whole.ensures.unit (bounds l) m.text.text)
+    integer_whole takes stops set l m f k (turning set l m) c.args.rest.now sent next is
+    (exponent_sees (bounds l) n (field_data c.args.mantissa.now) (behind set l m)) c.take_integer.new.slots m.text.text
+    c.in-Whole.source c.in-Whole.bytes (c.in-Whole.ensures.unit (bounds l) m.text.text)
     c.args.sink.now c.exponent_known-turn.result c.exponent_known-turn.new.sink c.exponent_known-turn.new.self c.exponent_known-turn.ensures.turn
 
 pub returns-in-Cut-clause-turns : goal.returns-in-Cut-clause-turns
@@ -78,7 +85,10 @@ returns-in-Cut-clause-turns g c way n h =
 pub returns-in-Wrong-clause-turns : goal.returns-in-Wrong-clause-turns
 returns-in-Wrong-clause-turns g c way n h =
     let m = c.args.self.now in
-    fault_turns way (set_of c.args.templates.now) c.args.limits n m (record m { slots = c.take_integer.new.slots; entity = c.take_integer.new.pending }) c.wrong.result.turn (Why.Stream c.in-Wrong.code) c.wrong.ensures.turn refl h
+    fault_turns way (set_of c.args.templates.now) c.args.limits n m (record m {
+      slots = c.take_integer.new.slots;
+      entity = c.take_integer.new.pending;
+    }) c.wrong.result.turn (Why.Stream c.in-Wrong.code) c.wrong.ensures.turn refl h
 
 pub returns-in-Whole-clause-turns : goal.returns-in-Whole-clause-turns
 returns-in-Whole-clause-turns g c = c.exponent_known-turn.ensures.turns

@@ -30,13 +30,15 @@ pub returns-in_default-clause-taken : goal.returns-in_default-clause-taken
 returns-in_default-clause-taken g c =
     let m = c.args.self.now in
     let can = can_take (set_of c.args.templates.now) c.args.limits m m.turns Field c.requires.waits c.requires.ready in
-    absurd (none_begins (set_of c.args.templates.now).nodes m.cursor.left (state_in (slots_dictionary m.slots) m.counted m.cursor) (sym c.next.ensures ∙ c.in_default.is) can.2)
+    absurd (none_begins (set_of c.args.templates.now).nodes m.cursor.left (state_in (slots_dictionary m.slots) m.counted m.cursor)
+    (sym c.next.ensures ∙ c.in_default.is) can.2)
 
 pub returns-in_default-clause-turns : goal.returns-in_default-clause-turns
 returns-in_default-clause-turns g c =
     let m = c.args.self.now in
     let can = can_take (set_of c.args.templates.now) c.args.limits m m.turns Field c.requires.waits c.requires.ready in
-    absurd (none_begins (set_of c.args.templates.now).nodes m.cursor.left (state_in (slots_dictionary m.slots) m.counted m.cursor) (sym c.next.ensures ∙ c.in_default.is) can.2)
+    absurd (none_begins (set_of c.args.templates.now).nodes m.cursor.left (state_in (slots_dictionary m.slots) m.counted m.cursor)
+    (sym c.next.ensures ∙ c.in_default.is) can.2)
 
 pub take_first-progress-requires-clause-serves : goal.take_first-progress-requires-clause-serves
 take_first-progress-requires-clause-serves g c =
@@ -47,7 +49,8 @@ take_first-progress-requires-clause-serves g c =
     let v = c.node.result.now in
     let later = c.args.templates.now.nodes_name_later_nodes in
     let first = sym c.next.ensures ∙ c.in-Some.is in
-    serves_here set l m (field_data c.in-Field.field) c.requires.ready.supplied (served_node set l m n v (Field c.in-Field.field) c.requires.ready.supplied c.node.ensures.found c.in-Field.is)
+    serves_here set l m (field_data c.in-Field.field) c.requires.ready.supplied
+    (served_node set l m n v (Field c.in-Field.field) c.requires.ready.supplied c.node.ensures.found c.in-Field.is)
 
 pub take_first-progress-requires-clause-number : goal.take_first-progress-requires-clause-number
 take_first-progress-requires-clause-number g c =
@@ -97,9 +100,11 @@ scalar_taken-requires-clause-progress g c =
     let first = sym c.next.ensures ∙ c.in-Some.is in
     let f = field_data c.in-Field.field in
     let at = at_field_node set m.cursor n v later first c.node.ensures.found c.in-Field.field c.in-Field.is in
-    let supplied = still_supplied set l m c.take_first-progress.new.slots c.take_first-progress.new.pending c.take_first-progress.new.scratch c.take_first-progress.new.joined c.take_first-progress.ensures.terms
+    let supplied = still_supplied set l m c.take_first-progress.new.slots c.take_first-progress.new.pending
+    c.take_first-progress.new.scratch c.take_first-progress.new.joined c.take_first-progress.ensures.terms
     c.take_first-progress.ensures.capacity.0 c.take_first-progress.ensures.capacity.1 c.requires.ready.supplied in
-    let took = first_taken set l m f n c.args.rest.now c.take_first-progress.new.slots c.take_first-progress.new.pending c.take_first-progress.new.scratch c.take_first-progress.new.joined c.requires.ready at supplied c.take_first-progress.result
+    let took = first_taken set l m f n c.args.rest.now c.take_first-progress.new.slots c.take_first-progress.new.pending
+    c.take_first-progress.new.scratch c.take_first-progress.new.joined c.requires.ready at supplied c.take_first-progress.result
     c.requires.waits c.take_first-progress.ensures.unit c.take_first-progress.ensures.next c.take_first-progress.ensures.pending in
     took.1
 
@@ -114,9 +119,11 @@ returns-in-Field-clause-taken g c =
     let first = sym c.next.ensures ∙ c.in-Some.is in
     let f = field_data c.in-Field.field in
     let at = at_field_node set m.cursor n v later first c.node.ensures.found c.in-Field.field c.in-Field.is in
-    let supplied = still_supplied set l m c.take_first-progress.new.slots c.take_first-progress.new.pending c.take_first-progress.new.scratch c.take_first-progress.new.joined c.take_first-progress.ensures.terms
+    let supplied = still_supplied set l m c.take_first-progress.new.slots c.take_first-progress.new.pending
+    c.take_first-progress.new.scratch c.take_first-progress.new.joined c.take_first-progress.ensures.terms
     c.take_first-progress.ensures.capacity.0 c.take_first-progress.ensures.capacity.1 c.requires.ready.supplied in
-    let took = first_taken set l m f n c.args.rest.now c.take_first-progress.new.slots c.take_first-progress.new.pending c.take_first-progress.new.scratch c.take_first-progress.new.joined c.requires.ready at supplied c.take_first-progress.result
+    let took = first_taken set l m f n c.args.rest.now c.take_first-progress.new.slots c.take_first-progress.new.pending
+    c.take_first-progress.new.scratch c.take_first-progress.new.joined c.requires.ready at supplied c.take_first-progress.result
     c.requires.waits c.take_first-progress.ensures.unit c.take_first-progress.ensures.next c.take_first-progress.ensures.pending in
     c.scalar_taken.ensures.taken m c.requires.ready (subst IsOfField (sym c.requires.waits) tt) c.requires.some took.0
 
@@ -165,7 +172,8 @@ returns-in-Group-clause-taken g c =
     let later = c.args.templates.now.nodes_name_later_nodes in
     let first = sym c.next.ensures ∙ c.in-Some.is in
     let can = subst (λ (w : Waiting). CanTake w set l m) c.requires.waits c.requires.ready.takes in
-    absurd (no_group set m.cursor n v later first c.node.ensures.found (state_in (slots_dictionary m.slots) m.counted m.cursor) c.in-Group.optional c.in-Group.body c.in-Group.is can.2)
+    absurd (no_group set m.cursor n v later first c.node.ensures.found
+    (state_in (slots_dictionary m.slots) m.counted m.cursor) c.in-Group.optional c.in-Group.body c.in-Group.is can.2)
 
 pub returns-in-Decimal-clause-taken : goal.returns-in-Decimal-clause-taken
 returns-in-Decimal-clause-taken g c = c.take_exponent.ensures.taken
@@ -200,7 +208,8 @@ scalar_taken-requires-clause-serves g c =
 
 pub scalar_taken-requires-clause-within : goal.scalar_taken-requires-clause-within
 scalar_taken-requires-clause-within g c =
-    unit_within c.args.limits _ (field_data c.in-Field.field) c.args.self.now.entity.bytes c.args.rest.now _ _ _ c.take_first-progress.result c.take_first-progress.ensures.unit
+    unit_within c.args.limits _ (field_data c.in-Field.field) c.args.self.now.entity.bytes c.args.rest.now _ _ _
+    c.take_first-progress.result c.take_first-progress.ensures.unit
 
 pub take_exponent-requires-clause-waits : goal.take_exponent-requires-clause-waits
 take_exponent-requires-clause-waits g c = c.requires.waits
@@ -213,14 +222,17 @@ take_exponent-requires-clause-some g c = c.requires.some
 
 pub take_exponent-requires-clause-exponent : goal.take_exponent-requires-clause-exponent
 take_exponent-requires-clause-exponent g c =
-    (served_node (set_of c.args.templates.now) c.args.limits c.args.self.now c.in-Some.number c.node.result.now (Decimal c.in-Decimal.exponent c.in-Decimal.mantissa) c.requires.ready.supplied c.node.ensures.found c.in-Decimal.is).0
+    (served_node (set_of c.args.templates.now) c.args.limits c.args.self.now c.in-Some.number c.node.result.now
+    (Decimal c.in-Decimal.exponent c.in-Decimal.mantissa) c.requires.ready.supplied c.node.ensures.found c.in-Decimal.is).0
 
 pub take_exponent-requires-clause-mantissa : goal.take_exponent-requires-clause-mantissa
 take_exponent-requires-clause-mantissa g c =
-    (served_node (set_of c.args.templates.now) c.args.limits c.args.self.now c.in-Some.number c.node.result.now (Decimal c.in-Decimal.exponent c.in-Decimal.mantissa) c.requires.ready.supplied c.node.ensures.found c.in-Decimal.is).1
+    (served_node (set_of c.args.templates.now) c.args.limits c.args.self.now c.in-Some.number c.node.result.now
+    (Decimal c.in-Decimal.exponent c.in-Decimal.mantissa) c.requires.ready.supplied c.node.ensures.found c.in-Decimal.is).1
 
 pub take_exponent-requires-clause-kind : goal.take_exponent-requires-clause-kind
-take_exponent-requires-clause-kind g c = (subst (λ (s : Shape). IsUsableShape (tree_of c.args.templates.now).entries (shape_data s)) c.in-Decimal.is c.node.ensures.usable).2
+take_exponent-requires-clause-kind g c = (subst (λ (s : Shape). IsUsableShape (tree_of c.args.templates.now).entries (shape_data s))
+    c.in-Decimal.is c.node.ensures.usable).2
 
 pub body_start-start-requires : goal.body_start-start-requires
 body_start-start-requires g c =
@@ -242,14 +254,17 @@ take_length-requires-clause-run g c = (c.body_start-start.ensures c.node.result.
 
 pub take_length-requires-clause-serves : goal.take_length-requires-clause-serves
 take_length-requires-clause-serves g c =
-    (served_node (set_of c.args.templates.now) c.args.limits c.args.self.now c.in-Some.number c.node.result.now (Sequence c.in-Sequence.length c.in-Sequence.body) c.requires.ready.supplied c.node.ensures.found c.in-Sequence.is).0
+    (served_node (set_of c.args.templates.now) c.args.limits c.args.self.now c.in-Some.number c.node.result.now
+    (Sequence c.in-Sequence.length c.in-Sequence.body) c.requires.ready.supplied c.node.ensures.found c.in-Sequence.is).0
 
 pub take_length-requires-clause-kind : goal.take_length-requires-clause-kind
-take_length-requires-clause-kind g c = (subst (λ (s : Shape). IsUsableShape (tree_of c.args.templates.now).entries (shape_data s)) c.in-Sequence.is c.node.ensures.usable).1
+take_length-requires-clause-kind g c = (subst (λ (s : Shape). IsUsableShape (tree_of c.args.templates.now).entries (shape_data s))
+    c.in-Sequence.is c.node.ensures.usable).1
 
 pub take_length-requires-clause-below : goal.take_length-requires-clause-below
 take_length-requires-clause-below g c =
-    subst (AreBelow (length (set_of c.args.templates.now).nodes)) (sym (c.body_start-start.ensures c.node.result.now c.node.ensures.found).nodes) (λ k within. (c.node.ensures.body k within).1)
+    subst (AreBelow (length (set_of c.args.templates.now).nodes))
+    (sym (c.body_start-start.ensures c.node.result.now c.node.ensures.found).nodes) (λ k within. (c.node.ensures.body k within).1)
 
 pub take_length-requires-clause-body : goal.take_length-requires-clause-body
 take_length-requires-clause-body g c = λ x found. (c.body_start-start.ensures x found).nodes
@@ -263,4 +278,5 @@ returns-in-Group-clause-turns g c =
     let m = c.args.self.now in
     let first = sym c.next.ensures ∙ c.in-Some.is in
     let can = can_take set c.args.limits m m.turns Field c.requires.waits c.requires.ready in
-    absurd (no_group set m.cursor c.in-Some.number c.node.result.now c.args.templates.now.nodes_name_later_nodes first c.node.ensures.found (state_in (slots_dictionary m.slots) m.counted m.cursor) c.in-Group.optional c.in-Group.body c.in-Group.is can.2)
+    absurd (no_group set m.cursor c.in-Some.number c.node.result.now c.args.templates.now.nodes_name_later_nodes first c.node.ensures.found
+    (state_in (slots_dictionary m.slots) m.counted m.cursor) c.in-Group.optional c.in-Group.body c.in-Group.is can.2)

@@ -28,7 +28,8 @@ held_ascii-requires-clause-kind g c =
     let set = set_of c.args.templates.now in
     let l = c.args.limits in
     let m = c.args.self.now in
-    let at = at_field_node set m.cursor c.in_ok-number.number c.node.result.now c.args.templates.now.nodes_name_later_nodes (sym c.next.ensures ∙ c.in_ok-number.was) c.node.ensures.found c.in-Field.field c.in-Field.is in
+    let at = at_field_node set m.cursor c.in_ok-number.number c.node.result.now c.args.templates.now.nodes_name_later_nodes
+    (sym c.next.ensures ∙ c.in_ok-number.was) c.node.ensures.found c.in-Field.field c.in-Field.is in
     let can = can_take set l m m.turns Text c.requires.waits c.requires.ready in
     let (sent, first, front) = subst (λ (b : Body). BeginsWithText l b (state_of m) m.text.text) at.3 can.3 in
     first.0
@@ -38,14 +39,17 @@ held_ascii-requires-clause-open g c =
     let set = set_of c.args.templates.now in
     let l = c.args.limits in
     let m = c.args.self.now in
-    let at = at_field_node set m.cursor c.in_ok-number.number c.node.result.now c.args.templates.now.nodes_name_later_nodes (sym c.next.ensures ∙ c.in_ok-number.was) c.node.ensures.found c.in-Field.field c.in-Field.is in
+    let at = at_field_node set m.cursor c.in_ok-number.number c.node.result.now c.args.templates.now.nodes_name_later_nodes
+    (sym c.next.ensures ∙ c.in_ok-number.was) c.node.ensures.found c.in-Field.field c.in-Field.is in
     let can = can_take set l m m.turns Text c.requires.waits c.requires.ready in
     let (sent, first, front) = subst (λ (b : Body). BeginsWithText l b (state_of m) m.text.text) at.3 can.3 in
     front
 
 pub scalar_taken-requires-clause-next : goal.scalar_taken-requires-clause-next
 scalar_taken-requires-clause-next g c =
-    at_field_node (set_of c.args.templates.now) c.args.self.now.cursor c.in_ok-number.number c.node.result.now c.args.templates.now.nodes_name_later_nodes (sym c.next.ensures ∙ c.in_ok-number.was) c.node.ensures.found c.in-Field.field c.in-Field.is
+    at_field_node (set_of c.args.templates.now) c.args.self.now.cursor c.in_ok-number.number c.node.result.now
+    c.args.templates.now.nodes_name_later_nodes (sym c.next.ensures ∙ c.in_ok-number.was) c.node.ensures.found c.in-Field.field
+    c.in-Field.is
 
 pub scalar_taken-requires-clause-within : goal.scalar_taken-requires-clause-within
 scalar_taken-requires-clause-within g c step n e =
@@ -65,18 +69,23 @@ returns-clause-taken g c =
     let w = Text in
     let waits = c.requires.waits in
     let turns = c.after-self.result in
-    let at = at_field_node set m.cursor c.in_ok-number.number c.node.result.now c.args.templates.now.nodes_name_later_nodes (sym c.next.ensures ∙ c.in_ok-number.was) c.node.ensures.found c.in-Field.field c.in-Field.is in
+    let at = at_field_node set m.cursor c.in_ok-number.number c.node.result.now c.args.templates.now.nodes_name_later_nodes
+    (sym c.next.ensures ∙ c.in_ok-number.was) c.node.ensures.found c.in-Field.field c.in-Field.is in
     let a : Machine = counted set l m turns w waits in
     let ready : IsReady set l a = counted_ready set l m turns w waits c.requires.ready (can_take set l m turns w waits c.requires.ready) in
     let (some, within, gives) = c.in_ok-bytes.ensures.unit l m.slots refl in
     let unit : IsScalarUnit l a (record a { text = t }) f rest (Whole (Settled From.Scratch) n) =
-    (text_taken set l a f c.in_ok-number.number rest m.slots m.entity t m.joined ready at (still_supplied set l a m.slots m.entity t m.joined refl c.in_ok-bytes.ensures.capacity refl ready.supplied) (Whole (Settled From.Scratch) n) refl waits
+    (text_taken set l a f c.in_ok-number.number rest m.slots m.entity t m.joined ready at
+    (still_supplied set l a m.slots m.entity t m.joined refl c.in_ok-bytes.ensures.capacity refl ready.supplied)
+    (Whole (Settled From.Scratch) n) refl waits
     (some, within, gives) tt (λ e. absurd (cc e))).0 in
-    subst (λ (r : Reader Dictionary). IsTakenTo g.S.Sink.takes g.S.Sink.stops set l r rest c.args.sink.now c.scalar_taken.result.bytes c.scalar_taken.result.turn c.scalar_taken.new.sink c.scalar_taken.new.self) (counted_reads set l m turns w waits refl)
+    subst (λ (r : Reader Dictionary). IsTakenTo g.S.Sink.takes g.S.Sink.stops set l r rest c.args.sink.now c.scalar_taken.result.bytes
+    c.scalar_taken.result.turn c.scalar_taken.new.sink c.scalar_taken.new.self) (counted_reads set l m turns w waits refl)
     (c.scalar_taken.ensures.taken a ready (subst IsOfField (sym waits) tt) (omega (arith, some, within)) unit)
 
 pub scalar_taken-requires-clause-serves : goal.scalar_taken-requires-clause-serves
-scalar_taken-requires-clause-serves g c = served_node (set_of c.args.templates.now) c.args.limits c.args.self.now c.in_ok-number.number c.node.result.now (Field c.in-Field.field) c.requires.ready.supplied c.node.ensures.found c.in-Field.is
+scalar_taken-requires-clause-serves g c = served_node (set_of c.args.templates.now) c.args.limits c.args.self.now c.in_ok-number.number
+    c.node.result.now (Field c.in-Field.field) c.requires.ready.supplied c.node.ensures.found c.in-Field.is
 
 pub scalar_taken-requires-clause-progress : goal.scalar_taken-requires-clause-progress
 scalar_taken-requires-clause-progress g c =
@@ -116,7 +125,8 @@ pub returns-in_err-number-clause-turns : goal.returns-in_err-number-clause-turns
 returns-in_err-number-clause-turns g c way n h = rw c.from_residual.ensures tt
 
 pub returns-in_err-bytes-clause-none : goal.returns-in_err-bytes-clause-none
-returns-in_err-bytes-clause-none g c = rw c.from_residual-in_err-bytes.ensures (ap (λ (t : Scratch). record c.args.self.now { text = t }) c.in_err-bytes.ensures.none, refl)
+returns-in_err-bytes-clause-none g c = rw c.from_residual-in_err-bytes.ensures
+    (ap (λ (t : Scratch). record c.args.self.now { text = t }) c.in_err-bytes.ensures.none, refl)
 
 pub returns-in_err-bytes-clause-taken : goal.returns-in_err-bytes-clause-taken
 returns-in_err-bytes-clause-taken g c = rw c.from_residual-in_err-bytes.ensures tt

@@ -18,12 +18,15 @@ use Rattle.fast_machine.proofs.machine.Machine.take_held_number.Goals as goal
 pub integer_item-requires-clause-serves : goal.integer_item-requires-clause-serves
 integer_item-requires-clause-serves g c =
     serves_here (set_of c.args.templates.now) c.args.limits c.args.self.now (field_data c.in-Field.field) c.requires.ready.supplied
-    (served_node (set_of c.args.templates.now) c.args.limits c.args.self.now c.in_ok-number.number c.node.result.now (Field c.in-Field.field) c.requires.ready.supplied c.node.ensures.found c.in-Field.is)
+    (served_node (set_of c.args.templates.now) c.args.limits c.args.self.now c.in_ok-number.number c.node.result.now
+    (Field c.in-Field.field) c.requires.ready.supplied c.node.ensures.found c.in-Field.is)
 
 pub integer_item-requires-clause-varies : goal.integer_item-requires-clause-varies
 integer_item-requires-clause-varies g c =
-    (first_begins (set_of c.args.templates.now) c.args.limits c.args.self.now c.in_ok-number.number (field_data c.in-Field.field) c.requires.ready c.requires.waits
-    (field_head c.args.templates.now c.args.self.now.cursor c.in_ok-number.number c.node.result.now (sym c.next.ensures ∙ c.in_ok-number.was) c.node.ensures.found c.in-Field.field c.in-Field.is)).0.varies
+    (first_begins (set_of c.args.templates.now) c.args.limits c.args.self.now c.in_ok-number.number
+    (field_data c.in-Field.field) c.requires.ready c.requires.waits
+    (field_head c.args.templates.now c.args.self.now.cursor c.in_ok-number.number c.node.result.now
+    (sym c.next.ensures ∙ c.in_ok-number.was) c.node.ensures.found c.in-Field.field c.in-Field.is)).0.varies
 
 pub returns-clause-taken : goal.returns-clause-taken
 returns-clause-taken g c =
@@ -37,9 +40,14 @@ returns-clause-taken g c =
     let fits = c.if-entity-held-2.false in
     let behind : length m.entity.bytes < c.in_ok-entity.entity.len = omega (arith, size, more) in
     let among : c.in_ok-entity.entity.len ≤ length m.entity.bytes + c.in_ok-bytes.count = omega (arith, size, fits) in
-    let item = held_item c.args.templates.now l m c.integer_item.new.slots c.in_ok-number.number c.node.result.now field c.requires.waits c.requires.ready (sym c.next.ensures ∙ c.in_ok-number.was) c.node.ensures.found c.in-Field.is c.integer_item.ensures.terms
-    c.clear.new.self c.args.rest.now c.in_ok-bytes.bytes c.in_ok-item.item c.in_ok-entity.entity.len c.in_ok-bytes.count c.clear.ensures whole.within whole.joined behind among (c.in_ok-item.ensures.unit (bounds l)) in
-    let sent = subst (λ (k : ℕ). IsSentItem set l m (record m { slots = c.integer_item.new.slots; entity = c.clear.new.self }) c.in_ok-number.number (field_data field) c.args.rest.now c.in_ok-item.item (c.in_ok-entity.entity.len - k)) (sym size) item in
+    let item = held_item c.args.templates.now l m c.integer_item.new.slots c.in_ok-number.number c.node.result.now field c.requires.waits
+    c.requires.ready (sym c.next.ensures ∙ c.in_ok-number.was) c.node.ensures.found c.in-Field.is c.integer_item.ensures.terms
+    c.clear.new.self c.args.rest.now c.in_ok-bytes.bytes c.in_ok-item.item c.in_ok-entity.entity.len c.in_ok-bytes.count c.clear.ensures
+    whole.within whole.joined behind among (c.in_ok-item.ensures.unit (bounds l)) in
+    let sent = subst (λ (k : ℕ). IsSentItem set l m (record m {
+      slots = c.integer_item.new.slots;
+      entity = c.clear.new.self;
+    }) c.in_ok-number.number (field_data field) c.args.rest.now c.in_ok-item.item (c.in_ok-entity.entity.len - k)) (sym size) item in
     c.sent.ensures.taken set l m c.args.rest.now (field_data field) c.uses_bit.ensures sent
 
 pub returns-clause-turns : goal.returns-clause-turns
@@ -54,9 +62,14 @@ returns-clause-turns g c way n h =
     let fits = c.if-entity-held-2.false in
     let behind : length m.entity.bytes < c.in_ok-entity.entity.len = omega (arith, size, more) in
     let among : c.in_ok-entity.entity.len ≤ length m.entity.bytes + c.in_ok-bytes.count = omega (arith, size, fits) in
-    let item = held_item c.args.templates.now l m c.integer_item.new.slots c.in_ok-number.number c.node.result.now field c.requires.waits c.requires.ready (sym c.next.ensures ∙ c.in_ok-number.was) c.node.ensures.found c.in-Field.is c.integer_item.ensures.terms
-    c.clear.new.self c.args.rest.now c.in_ok-bytes.bytes c.in_ok-item.item c.in_ok-entity.entity.len c.in_ok-bytes.count c.clear.ensures whole.within whole.joined behind among (c.in_ok-item.ensures.unit (bounds l)) in
-    let sent = subst (λ (k : ℕ). IsSentItem set l m (record m { slots = c.integer_item.new.slots; entity = c.clear.new.self }) c.in_ok-number.number (field_data field) c.args.rest.now c.in_ok-item.item (c.in_ok-entity.entity.len - k)) (sym size) item in
+    let item = held_item c.args.templates.now l m c.integer_item.new.slots c.in_ok-number.number c.node.result.now field c.requires.waits
+    c.requires.ready (sym c.next.ensures ∙ c.in_ok-number.was) c.node.ensures.found c.in-Field.is c.integer_item.ensures.terms
+    c.clear.new.self c.args.rest.now c.in_ok-bytes.bytes c.in_ok-item.item c.in_ok-entity.entity.len c.in_ok-bytes.count c.clear.ensures
+    whole.within whole.joined behind among (c.in_ok-item.ensures.unit (bounds l)) in
+    let sent = subst (λ (k : ℕ). IsSentItem set l m (record m {
+      slots = c.integer_item.new.slots;
+      entity = c.clear.new.self;
+    }) c.in_ok-number.number (field_data field) c.args.rest.now c.in_ok-item.item (c.in_ok-entity.entity.len - k)) (sym size) item in
     c.sent.ensures.turns set l m c.args.rest.now (field_data field) sent way n h
 
 pub node-requires : goal.node-requires
@@ -120,7 +133,8 @@ pub integer_item-requires-clause-first : goal.integer_item-requires-clause-first
 integer_item-requires-clause-first g c = c.in_ok-entity.ensures
 
 pub returns-in_err-item-clause-none : goal.returns-in_err-item-clause-none
-returns-in_err-item-clause-none g c = rw c.from_residual-in_err-item.ensures (ap (λ (s : Slots). record c.args.self.now { slots = s }) c.in_err-item.ensures.none, refl)
+returns-in_err-item-clause-none g c = rw c.from_residual-in_err-item.ensures
+    (ap (λ (s : Slots). record c.args.self.now { slots = s }) c.in_err-item.ensures.none, refl)
 
 pub returns-in_err-item-clause-taken : goal.returns-in_err-item-clause-taken
 returns-in_err-item-clause-taken g c = rw c.from_residual-in_err-item.ensures tt
@@ -133,7 +147,10 @@ returns-in_err-item-clause-turns g c way n h = rw c.from_residual-in_err-item.en
 
 pub sent-requires : goal.sent-requires
 sent-requires g c =
-    record { left = (field_head c.args.templates.now c.args.self.now.cursor c.in_ok-number.number c.node.result.now (sym c.next.ensures ∙ c.in_ok-number.was) c.node.ensures.found c.in-Field.field c.in-Field.is).2 }
+    record {
+      left = (field_head c.args.templates.now c.args.self.now.cursor c.in_ok-number.number c.node.result.now
+          (sym c.next.ensures ∙ c.in_ok-number.was) c.node.ensures.found c.in-Field.field c.in-Field.is).2;
+    }
 
 pub returns-clause-none : goal.returns-clause-none
 returns-clause-none g c = tt

@@ -29,14 +29,17 @@ held_vector-requires-clause-text g c =
     let l = c.args.limits in
     let m = c.args.self.now in
     let stage = Vector c.args.size in
-    let at = at_field_node set m.cursor c.in_ok-number.number c.node.result.now c.args.templates.now.nodes_name_later_nodes (sym c.next.ensures ∙ c.in_ok-number.was) c.node.ensures.found c.in-Field.field c.in-Field.is in
+    let at = at_field_node set m.cursor c.in_ok-number.number c.node.result.now c.args.templates.now.nodes_name_later_nodes
+    (sym c.next.ensures ∙ c.in_ok-number.was) c.node.ensures.found c.in-Field.field c.in-Field.is in
     let can = can_take set l m m.turns (Bytes stage) c.requires.waits c.requires.ready in
     let (sent, is_stage, front) = subst (λ (b : Body). GoesOnWithBytes l b (state_of m) stage m.text.text) at.3 can.3 in
     is_stage.0
 
 pub scalar_taken-requires-clause-next : goal.scalar_taken-requires-clause-next
 scalar_taken-requires-clause-next g c =
-    at_field_node (set_of c.args.templates.now) c.args.self.now.cursor c.in_ok-number.number c.node.result.now c.args.templates.now.nodes_name_later_nodes (sym c.next.ensures ∙ c.in_ok-number.was) c.node.ensures.found c.in-Field.field c.in-Field.is
+    at_field_node (set_of c.args.templates.now) c.args.self.now.cursor c.in_ok-number.number c.node.result.now
+    c.args.templates.now.nodes_name_later_nodes (sym c.next.ensures ∙ c.in_ok-number.was) c.node.ensures.found c.in-Field.field
+    c.in-Field.is
 
 pub scalar_taken-requires-clause-within : goal.scalar_taken-requires-clause-within
 scalar_taken-requires-clause-within g c step n e =
@@ -56,14 +59,18 @@ returns-clause-taken g c =
     let w = Bytes (Vector c.args.size) in
     let waits = c.requires.waits in
     let turns = c.after-self.result in
-    let at = at_field_node set m.cursor c.in_ok-number.number c.node.result.now c.args.templates.now.nodes_name_later_nodes (sym c.next.ensures ∙ c.in_ok-number.was) c.node.ensures.found c.in-Field.field c.in-Field.is in
+    let at = at_field_node set m.cursor c.in_ok-number.number c.node.result.now c.args.templates.now.nodes_name_later_nodes
+    (sym c.next.ensures ∙ c.in_ok-number.was) c.node.ensures.found c.in-Field.field c.in-Field.is in
     let a : Machine = counted set l m turns w waits in
     let ready : IsReady set l a = counted_ready set l m turns w waits c.requires.ready (can_take set l m turns w waits c.requires.ready) in
     let (some, within, gives) = c.in_ok-bytes.ensures.unit l m.slots in
     let unit : IsScalarUnit l a (record a { text = t }) f rest (Whole (Settled From.Scratch) n) =
-    (bytes_taken set l a f c.in_ok-number.number rest m.slots m.entity t m.joined ready at (still_supplied set l a m.slots m.entity t m.joined refl c.in_ok-bytes.ensures.capacity refl ready.supplied) (Whole (Settled From.Scratch) n) (Vector c.args.size) refl waits
+    (bytes_taken set l a f c.in_ok-number.number rest m.slots m.entity t m.joined ready at
+    (still_supplied set l a m.slots m.entity t m.joined refl c.in_ok-bytes.ensures.capacity refl ready.supplied)
+    (Whole (Settled From.Scratch) n) (Vector c.args.size) refl waits
     (some, within, gives) tt (λ e. absurd (cc e))).0 in
-    subst (λ (r : Reader Dictionary). IsTakenTo g.S.Sink.takes g.S.Sink.stops set l r rest c.args.sink.now c.scalar_taken.result.bytes c.scalar_taken.result.turn c.scalar_taken.new.sink c.scalar_taken.new.self) (counted_reads set l m turns w waits refl)
+    subst (λ (r : Reader Dictionary). IsTakenTo g.S.Sink.takes g.S.Sink.stops set l r rest c.args.sink.now c.scalar_taken.result.bytes
+    c.scalar_taken.result.turn c.scalar_taken.new.sink c.scalar_taken.new.self) (counted_reads set l m turns w waits refl)
     (c.scalar_taken.ensures.taken a ready (subst IsOfField (sym waits) tt) (omega (arith, some, within)) unit)
 
 pub node-requires : goal.node-requires
@@ -93,13 +100,15 @@ held_vector-requires-clause-more g c =
     let l = c.args.limits in
     let m = c.args.self.now in
     let stage = Vector c.args.size in
-    let at = at_field_node set m.cursor c.in_ok-number.number c.node.result.now c.args.templates.now.nodes_name_later_nodes (sym c.next.ensures ∙ c.in_ok-number.was) c.node.ensures.found c.in-Field.field c.in-Field.is in
+    let at = at_field_node set m.cursor c.in_ok-number.number c.node.result.now c.args.templates.now.nodes_name_later_nodes
+    (sym c.next.ensures ∙ c.in_ok-number.was) c.node.ensures.found c.in-Field.field c.in-Field.is in
     let can = can_take set l m m.turns (Bytes stage) c.requires.waits c.requires.ready in
     let (sent, is_stage, front) = subst (λ (b : Body). GoesOnWithBytes l b (state_of m) stage m.text.text) at.3 can.3 in
     front
 
 pub returns-in_err-bytes-clause-none : goal.returns-in_err-bytes-clause-none
-returns-in_err-bytes-clause-none g c = rw c.from_residual-in_err-bytes.ensures (ap (λ (t : Scratch). record c.args.self.now { text = t }) c.in_err-bytes.ensures.none, refl)
+returns-in_err-bytes-clause-none g c = rw c.from_residual-in_err-bytes.ensures
+    (ap (λ (t : Scratch). record c.args.self.now { text = t }) c.in_err-bytes.ensures.none, refl)
 
 pub returns-in_err-bytes-clause-taken : goal.returns-in_err-bytes-clause-taken
 returns-in_err-bytes-clause-taken g c = rw c.from_residual-in_err-bytes.ensures tt
@@ -112,7 +121,8 @@ returns-in_err-bytes-clause-turns g c way n h = rw c.from_residual-in_err-bytes.
 
 pub scalar_taken-requires-clause-serves : goal.scalar_taken-requires-clause-serves
 scalar_taken-requires-clause-serves g c =
-    served_node (set_of c.args.templates.now) c.args.limits c.args.self.now c.in_ok-number.number c.node.result.now (Field c.in-Field.field) c.requires.ready.supplied c.node.ensures.found c.in-Field.is
+    served_node (set_of c.args.templates.now) c.args.limits c.args.self.now c.in_ok-number.number c.node.result.now
+    (Field c.in-Field.field) c.requires.ready.supplied c.node.ensures.found c.in-Field.is
 
 pub returns-clause-none : goal.returns-clause-none
 returns-clause-none g c = tt
@@ -132,7 +142,8 @@ held_vector-requires-clause-fits g c =
     let l = c.args.limits in
     let m = c.args.self.now in
     let stage = Vector c.args.size in
-    let at = at_field_node set m.cursor c.in_ok-number.number c.node.result.now c.args.templates.now.nodes_name_later_nodes (sym c.next.ensures ∙ c.in_ok-number.was) c.node.ensures.found c.in-Field.field c.in-Field.is in
+    let at = at_field_node set m.cursor c.in_ok-number.number c.node.result.now c.args.templates.now.nodes_name_later_nodes
+    (sym c.next.ensures ∙ c.in_ok-number.was) c.node.ensures.found c.in-Field.field c.in-Field.is in
     let can = can_take set l m m.turns (Bytes stage) c.requires.waits c.requires.ready in
     let (sent, is_stage, front) = subst (λ (b : Body). GoesOnWithBytes l b (state_of m) stage m.text.text) at.3 can.3 in
     rw c.requires.ready.supplied.text_room is_stage.4

@@ -48,10 +48,13 @@ returns-in-Cut-clause-taken g c =
     cut_to g.S.Sink.takes g.S.Sink.stops set l (meaning set l m) rest c.args.sink.now new c.cut.ensures.bytes c.cut.ensures.turn ready
     (taken_as g.S.Sink.takes g.S.Sink.stops (tree_in set) l rest c.args.sink.now (length rest) _ c.args.sink.now
     (ap (λ (w : Waiting). meaning_at w set l m) c.requires.waits)
-    (ap (λ (w : Waiting). meaning_at w set l new) c.requires.waits ∙ ap (λ (e : Dictionary). after_bytes (reader_of l.strict (behind_map set (bounds l) e m.cursor.map)) new.entity.bytes) dictionary ∙ ap (after_bytes r) (c.in-Cut.ensures.cut refl))
+    (ap (λ (w : Waiting). meaning_at w set l new) c.requires.waits
+    ∙ ap (λ (e : Dictionary). after_bytes (reader_of l.strict (behind_map set (bounds l) e m.cursor.map)) new.entity.bytes) dictionary
+    ∙ ap (after_bytes r) (c.in-Cut.ensures.cut refl))
     (taken_stays g.S.Sink.takes g.S.Sink.stops (tree_in set) l r m.entity.bytes rest c.args.sink.now c.requires.some
     (sent_stays set l.strict (bounds l) d m.cursor.map bit (m.entity.bytes ++ rest)
-    (subst (λ (f : FieldData). Stays (reader_of l.strict (field_term (bounds l) f (previous_at f.entry d) true)) (m.entity.bytes ++ rest)) c.requires.ready.supplied.identifier stays))))
+    (subst (λ (f : FieldData). Stays (reader_of l.strict (field_term (bounds l) f (previous_at f.entry d) true)) (m.entity.bytes ++ rest))
+    c.requires.ready.supplied.identifier stays))))
 
 pub returns-in-Wrong-clause-taken : goal.returns-in-Wrong-clause-taken
 returns-in-Wrong-clause-taken g c =
@@ -65,13 +68,17 @@ returns-in-Wrong-clause-taken g c =
     let (entity, bit, place) = subst (λ (w : Waiting). CanTake w set l m) c.requires.waits c.requires.ready.takes in
     let (some, within, turns) = c.in-Wrong.ensures.unit (bounds l) [] in
     let r : Reader Dictionary = reader_of l.strict (behind_map set (bounds l) d m.cursor.map) in
-    wrong_to g.S.Sink.takes g.S.Sink.stops set l (meaning set l m) rest c.args.sink.now (record m { slots = c.take_integer.new.slots; entity = c.take_integer.new.pending }) (Why.Stream c.in-Wrong.code) c.wrong.ensures.bytes c.wrong.ensures.turn
+    wrong_to g.S.Sink.takes g.S.Sink.stops set l (meaning set l m) rest c.args.sink.now (record m {
+      slots = c.take_integer.new.slots;
+      entity = c.take_integer.new.pending;
+    }) (Why.Stream c.in-Wrong.code) c.wrong.ensures.bytes c.wrong.ensures.turn
     (part_supplied set l m c.take_integer.new.slots c.take_integer.new.pending c.requires.ready c.take_integer.ensures.terms)
     (λ q. taken_as g.S.Sink.takes g.S.Sink.stops (tree_in set) l rest c.args.sink.now n _ c.args.sink.now
     (ap (λ (u : Waiting). meaning_at u set l m) c.requires.waits) refl
     (taken_fault g.S.Sink.takes g.S.Sink.stops (tree_in set) l r m.entity.bytes rest n c.in-Wrong.code c.args.sink.now q some within
     (sent_stops set l.strict (bounds l) d m.cursor.map bit w c.in-Wrong.code
-    (subst (λ (f : FieldData). Turns (reader_of l.strict (field_term (bounds l) f (previous_at f.entry d) true)) w (Stop c.in-Wrong.code)) c.requires.ready.supplied.identifier turns))))
+    (subst (λ (f : FieldData). Turns (reader_of l.strict (field_term (bounds l) f (previous_at f.entry d) true)) w (Stop c.in-Wrong.code))
+    c.requires.ready.supplied.identifier turns))))
 
 pub returns-in-Whole-clause-taken : goal.returns-in-Whole-clause-taken
 returns-in-Whole-clause-taken g c =
@@ -84,12 +91,16 @@ returns-in-Whole-clause-taken g c =
     let w : List ℕ = m.entity.bytes ++ take n rest in
     let (entity, bit, place) = subst (λ (u : Waiting). CanTake u set l m) c.requires.waits c.requires.ready.takes in
     let (some, within, given) = c.in-Whole.ensures.unit (bounds l) m.text.text in
-    let gives = subst (λ (f : FieldData). GivesField (reader_of l.strict (field_term (bounds l) f (previous_at f.entry d) true)) w f c.in-Whole.source d (slots_dictionary c.take_integer.new.slots) m.text.text (take n rest)) c.requires.ready.supplied.identifier given in
+    let gives = subst (λ (f : FieldData). GivesField (reader_of l.strict (field_term (bounds l) f (previous_at f.entry d) true)) w f
+    c.in-Whole.source d (slots_dictionary c.take_integer.new.slots) m.text.text (take n rest)) c.requires.ready.supplied.identifier
+    given in
     let r : Reader Dictionary = reader_of l.strict (behind_map set (bounds l) d m.cursor.map) in
     let b : Machine = c.identified-turn.new.self in
-    subst (λ (p : Reader Dictionary). IsTakenTo g.S.Sink.takes g.S.Sink.stops set l p rest c.args.sink.now n c.identified-turn.result c.identified-turn.new.sink b) (sym (ap (λ (u : Waiting). meaning_at u set l m) c.requires.waits))
+    subst (λ (p : Reader Dictionary). IsTakenTo g.S.Sink.takes g.S.Sink.stops set l p rest c.args.sink.now n c.identified-turn.result
+    c.identified-turn.new.sink b) (sym (ap (λ (u : Waiting). meaning_at u set l m) c.requires.waits))
     (taken_to g.S.Sink.takes g.S.Sink.stops set l r m.entity.bytes rest n _ c.args.sink.now c.identified-turn.result c.identified-turn.new.sink b some within
     (sent_turns set l.strict (bounds l) d m.cursor.map bit w gives.outcome gives.turns)
     (turn_as g.S.Sink.takes g.S.Sink.stops set l _ _ c.args.sink.now c.identified-turn.result c.identified-turn.new.sink b
-    (identified_by set l.strict (bounds l) d (slots_dictionary c.take_integer.new.slots) m.cursor gives.outcome _ place gives.settled.value gives.settled.dictionary)
+    (identified_by set l.strict (bounds l) d (slots_dictionary c.take_integer.new.slots) m.cursor gives.outcome _ place gives.settled.value
+    gives.settled.dictionary)
     c.identified-turn.ensures.turn))

@@ -7,14 +7,16 @@ use Rattle.fast_machine.specs.device.Positions.{set_of, run_in, body_in, turning
 use Rattle.fast_machine.specs.device.TurnsLeft.{HasTurnsAt}
 use Rattle.fast_machine.specs.declared.machine.Waiting.{Waiting}
 use Rattle.fast_stream.specs.declared.faults.FaultCode.TheVariants as Why
-use Rattle.fast_machine.proofs.machines.PartTakes.{integer_whole, integer_wrong, integer_cut, length_sees, length_sent, sequence_next, meaning_first, first_cut, first_ready, part_supplied}
+use Rattle.fast_machine.proofs.machines.PartTakes.{integer_whole, integer_wrong, integer_cut, length_sees, length_sent, sequence_next}
+use Rattle.fast_machine.proofs.machines.PartTakes.{meaning_first, first_cut, first_ready, part_supplied}
 use Rattle.fast_machine.proofs.machines.UnitTaken.{cut_to, wrong_to}
 use Rattle.fast_machine.proofs.steps.FieldTurns.{serves_here, behind}
 use Rattle.fast_machine.proofs.steps.TurnCounts.{fault_turns}
 use Rattle.fast_machine.proofs.machine.Machine.take_length.Goals as goal
 
 pub take_integer-requires-clause-serves : goal.take_integer-requires-clause-serves
-take_integer-requires-clause-serves g c = serves_here (set_of c.args.templates.now) c.args.limits c.args.self.now (field_data c.args.length.now) c.requires.ready.supplied c.requires.serves
+take_integer-requires-clause-serves g c = serves_here (set_of c.args.templates.now) c.args.limits c.args.self.now
+    (field_data c.args.length.now) c.requires.ready.supplied c.requires.serves
 
 pub returns-in-Cut-clause-taken : goal.returns-in-Cut-clause-taken
 returns-in-Cut-clause-taken g c =
@@ -25,7 +27,8 @@ returns-in-Cut-clause-taken g c =
     let m = c.args.self.now in
     let f = field_data c.args.length.now in
     let n = c.args.node in
-    let k = sequence_from_then (bounds l) n (segment_then (body_in set (run_in (set_of c.args.templates.now) c.args.start)) (body_then (bounds l) (body_in set (run_in (set_of c.args.templates.now) c.args.start)))) (behind set l m) in
+    let k = sequence_from_then (bounds l) n (segment_then (body_in set (run_in (set_of c.args.templates.now) c.args.start))
+    (body_then (bounds l) (body_in set (run_in (set_of c.args.templates.now) c.args.start)))) (behind set l m) in
     let sent = length_sent set l m n f (run_in (set_of c.args.templates.now) c.args.start) c.requires.ready c.requires.waits c.requires.next in
     let next = sequence_next set l m n f (run_in (set_of c.args.templates.now) c.args.start) c.requires.next in
     let is = meaning_first set l m c.requires.waits in
@@ -33,7 +36,9 @@ returns-in-Cut-clause-taken g c =
     let (stays, same) = c.in-Cut.ensures.unit (bounds l) [] in
     cut_to takes stops set l (meaning set l m) c.args.rest.now c.args.sink.now a c.cut.ensures.bytes c.cut.ensures.turn
     (first_ready set l m c.take_integer.new.slots c.take_integer.new.pending c.requires.ready c.take_integer.ensures.terms c.requires.waits same)
-    (integer_cut takes stops set l m f k (turning set l m) c.args.rest.now sent next is a c.take_integer.new.pending (first_cut set l m c.take_integer.new.slots c.take_integer.new.pending c.requires.waits same) (c.in-Cut.ensures.cut refl) c.requires.some stays c.args.sink.now)
+    (integer_cut takes stops set l m f k (turning set l m) c.args.rest.now sent next is a c.take_integer.new.pending
+    (first_cut set l m c.take_integer.new.slots c.take_integer.new.pending c.requires.waits same)
+    (c.in-Cut.ensures.cut refl) c.requires.some stays c.args.sink.now)
 
 pub returns-in-Wrong-clause-taken : goal.returns-in-Wrong-clause-taken
 returns-in-Wrong-clause-taken g c =
@@ -44,14 +49,16 @@ returns-in-Wrong-clause-taken g c =
     let m = c.args.self.now in
     let f = field_data c.args.length.now in
     let n = c.args.node in
-    let k = sequence_from_then (bounds l) n (segment_then (body_in set (run_in (set_of c.args.templates.now) c.args.start)) (body_then (bounds l) (body_in set (run_in (set_of c.args.templates.now) c.args.start)))) (behind set l m) in
+    let k = sequence_from_then (bounds l) n (segment_then (body_in set (run_in (set_of c.args.templates.now) c.args.start))
+    (body_then (bounds l) (body_in set (run_in (set_of c.args.templates.now) c.args.start)))) (behind set l m) in
     let sent = length_sent set l m n f (run_in (set_of c.args.templates.now) c.args.start) c.requires.ready c.requires.waits c.requires.next in
     let next = sequence_next set l m n f (run_in (set_of c.args.templates.now) c.args.start) c.requires.next in
     let is = meaning_first set l m c.requires.waits in
     let a = record m { slots = c.take_integer.new.slots; entity = c.take_integer.new.pending } in
     wrong_to takes stops set l (meaning set l m) c.args.rest.now c.args.sink.now a (Why.Stream c.in-Wrong.code) c.wrong.ensures.bytes c.wrong.ensures.turn
     (part_supplied set l m c.take_integer.new.slots c.take_integer.new.pending c.requires.ready c.take_integer.ensures.terms)
-    (integer_wrong takes stops set l m f k (turning set l m) c.args.rest.now sent next is (slots_dictionary c.take_integer.new.slots) [] c.in-Wrong.code c.in-Wrong.bytes (c.in-Wrong.ensures.unit (bounds l) []) c.args.sink.now)
+    (integer_wrong takes stops set l m f k (turning set l m) c.args.rest.now sent next is (slots_dictionary c.take_integer.new.slots)
+    [] c.in-Wrong.code c.in-Wrong.bytes (c.in-Wrong.ensures.unit (bounds l) []) c.args.sink.now)
 
 pub returns-in-Whole-clause-taken : goal.returns-in-Whole-clause-taken
 returns-in-Whole-clause-taken g c =
@@ -62,11 +69,14 @@ returns-in-Whole-clause-taken g c =
     let m = c.args.self.now in
     let f = field_data c.args.length.now in
     let n = c.args.node in
-    let k = sequence_from_then (bounds l) n (segment_then (body_in set (run_in (set_of c.args.templates.now) c.args.start)) (body_then (bounds l) (body_in set (run_in (set_of c.args.templates.now) c.args.start)))) (behind set l m) in
+    let k = sequence_from_then (bounds l) n (segment_then (body_in set (run_in (set_of c.args.templates.now) c.args.start))
+    (body_then (bounds l) (body_in set (run_in (set_of c.args.templates.now) c.args.start)))) (behind set l m) in
     let sent = length_sent set l m n f (run_in (set_of c.args.templates.now) c.args.start) c.requires.ready c.requires.waits c.requires.next in
     let next = sequence_next set l m n f (run_in (set_of c.args.templates.now) c.args.start) c.requires.next in
     let is = meaning_first set l m c.requires.waits in
-    integer_whole takes stops set l m f k (turning set l m) c.args.rest.now sent next is (length_sees (bounds l) n (body_in set (run_in (set_of c.args.templates.now) c.args.start)) (behind set l m)) c.take_integer.new.slots m.text.text c.in-Whole.source c.in-Whole.bytes (c.in-Whole.ensures.unit (bounds l) m.text.text)
+    integer_whole takes stops set l m f k (turning set l m) c.args.rest.now sent next is
+    (length_sees (bounds l) n (body_in set (run_in (set_of c.args.templates.now) c.args.start)) (behind set l m))
+    c.take_integer.new.slots m.text.text c.in-Whole.source c.in-Whole.bytes (c.in-Whole.ensures.unit (bounds l) m.text.text)
     c.args.sink.now c.length_known-turn.result c.length_known-turn.new.sink c.length_known-turn.new.self c.length_known-turn.ensures.turn
 
 pub returns-in-Cut-clause-turns : goal.returns-in-Cut-clause-turns
@@ -78,7 +88,10 @@ returns-in-Cut-clause-turns g c way n h =
 pub returns-in-Wrong-clause-turns : goal.returns-in-Wrong-clause-turns
 returns-in-Wrong-clause-turns g c way n h =
     let m = c.args.self.now in
-    fault_turns way (set_of c.args.templates.now) c.args.limits n m (record m { slots = c.take_integer.new.slots; entity = c.take_integer.new.pending }) c.wrong.result.turn (Why.Stream c.in-Wrong.code) c.wrong.ensures.turn refl h
+    fault_turns way (set_of c.args.templates.now) c.args.limits n m (record m {
+      slots = c.take_integer.new.slots;
+      entity = c.take_integer.new.pending;
+    }) c.wrong.result.turn (Why.Stream c.in-Wrong.code) c.wrong.ensures.turn refl h
 
 pub returns-in-Whole-clause-turns : goal.returns-in-Whole-clause-turns
 returns-in-Whole-clause-turns g c = c.length_known-turn.ensures.turns

@@ -31,8 +31,10 @@ returns-in-Cut-clause-taken g c =
     (map_ready set l m c.take_map.new.self c.requires.ready c.take_map.ensures.same (front ++ rest) short no_stop bytes c.requires.waits)
     (taken_as g.S.Sink.takes g.S.Sink.stops (tree_in set) l rest c.args.sink.now (length rest) _ c.args.sink.now
     (ap (λ (w : Waiting). meaning_at w set l m) c.requires.waits)
-    (ap (λ (w : Waiting). meaning_at w set l new) c.requires.waits ∙ ap (map_reader set l d) bytes ∙ map_reader-some set l d (front ++ rest) (omega (arith, sum, some)))
-    (taken_cut g.S.Sink.takes g.S.Sink.stops (tree_in set) l L3 map_limit (mapped_reader set l d) (map_reader set l d front) front rest (due-map set l d front no_stop_yet room) c.args.sink.now some no_stop short))
+    (ap (λ (w : Waiting). meaning_at w set l new) c.requires.waits ∙ ap (map_reader set l d) bytes
+    ∙ map_reader-some set l d (front ++ rest) (omega (arith, sum, some)))
+    (taken_cut g.S.Sink.takes g.S.Sink.stops (tree_in set) l L3 map_limit (mapped_reader set l d) (map_reader set l d front) front rest
+    (due-map set l d front no_stop_yet room) c.args.sink.now some no_stop short))
 
 pub returns-in-TooLong-clause-taken : goal.returns-in-TooLong-clause-taken
 returns-in-TooLong-clause-taken g c =
@@ -48,11 +50,13 @@ returns-in-TooLong-clause-taken g c =
     let taken : length (take n rest) ≡ n = length-take-le n rest within in
     let sum : length (front ++ take n rest) ≡ length front + length (take n rest) = length-append front (take n rest) in
     let all : length (front ++ take n rest) ≡ map_limit = omega (arith, taken, sum, full) in
-    wrong_to g.S.Sink.takes g.S.Sink.stops set l (meaning set l m) rest c.args.sink.now (record m { cursor = c.take_map.new.self }) (Why.Stream L3) c.wrong.ensures.bytes c.wrong.ensures.turn
+    wrong_to g.S.Sink.takes g.S.Sink.stops set l (meaning set l m) rest c.args.sink.now (record m { cursor = c.take_map.new.self })
+    (Why.Stream L3) c.wrong.ensures.bytes c.wrong.ensures.turn
     (map_supplied set l m c.take_map.new.self c.requires.ready c.take_map.ensures.same)
     (λ q. taken_as g.S.Sink.takes g.S.Sink.stops (tree_in set) l rest c.args.sink.now n _ c.args.sink.now
     (ap (λ (w : Waiting). meaning_at w set l m) c.requires.waits) refl
-    (taken_full g.S.Sink.takes g.S.Sink.stops (tree_in set) l L3 map_limit (mapped_reader set l d) (map_reader set l d front) front rest (due-map set l d front no_stop_yet room) n c.args.sink.now q some within no_stop all))
+    (taken_full g.S.Sink.takes g.S.Sink.stops (tree_in set) l L3 map_limit (mapped_reader set l d) (map_reader set l d front) front rest
+    (due-map set l d front no_stop_yet room) n c.args.sink.now q some within no_stop all))
 
 pub returns-in-Whole-clause-taken : goal.returns-in-Whole-clause-taken
 returns-in-Whole-clause-taken g c =
@@ -65,6 +69,9 @@ returns-in-Whole-clause-taken g c =
     let n : ℕ = c.in-Whole.bytes in
     let (no_stop_yet, room, unused, place) = subst (λ (w : Waiting). CanTake w set l m) c.requires.waits c.requires.ready.takes in
     let (some, within, short, entity, bytes) = c.in-Whole.ensures.map in
-    whole_to g.S.Sink.takes g.S.Sink.stops set l L3 map_limit (mapped_reader set l d) (meaning set l m) front rest n c.args.sink.now c.mapped-turn.result c.mapped-turn.new.sink c.mapped-turn.new.self
+    whole_to g.S.Sink.takes g.S.Sink.stops set l L3 map_limit (mapped_reader set l d)
+    (meaning set l m) front rest n c.args.sink.now c.mapped-turn.result c.mapped-turn.new.sink c.mapped-turn.new.self
     (ap (due (tree_in set) l) (ap (λ (w : Waiting). meaning_at w set l m) c.requires.waits) ∙ due-map set l d front no_stop_yet room) some within entity short
-    (subst (λ (w : List ℕ). IsTurn g.S.Sink.takes g.S.Sink.stops set l (mapped_reader set l d w) c.args.sink.now c.mapped-turn.result c.mapped-turn.new.sink c.mapped-turn.new.self) bytes c.mapped-turn.ensures.turn)
+    (subst (λ (w : List ℕ). IsTurn g.S.Sink.takes g.S.Sink.stops set l
+    (mapped_reader set l d w) c.args.sink.now c.mapped-turn.result c.mapped-turn.new.sink c.mapped-turn.new.self) bytes
+    c.mapped-turn.ensures.turn)

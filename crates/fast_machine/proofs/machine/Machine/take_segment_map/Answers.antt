@@ -41,8 +41,11 @@ returns-in-Cut-clause-taken g c =
     (segment_map_ready set l m c.take_map.new.self c.requires.ready c.take_map.ensures.same (front ++ rest) short no_stop bytes width c.requires.waits)
     (taken_as g.S.Sink.takes g.S.Sink.stops (tree_in set) l rest c.args.sink.now (length rest) _ c.args.sink.now
     (ap (λ (w : Waiting). meaning_at w set l m) c.requires.waits)
-    (ap (λ (w : Waiting). meaning_at w set l new) c.requires.waits ∙ segment_of set l d m.counted m.cursor width new.cursor c.take_map.ensures.same ∙ ap (after_bytes r) bytes ∙ ap (λ (p : Reader Dictionary). after_bytes p (front ++ rest)) same)
-    (taken_cut g.S.Sink.takes g.S.Sink.stops (tree_in set) l L3 map_limit k (after_bytes r front) front rest (due-entity (tree_in set) l L3 map_limit k r front same no_stop_yet room) c.args.sink.now c.requires.some no_stop short))
+    (ap (λ (w : Waiting). meaning_at w set l new) c.requires.waits
+    ∙ segment_of set l d m.counted m.cursor width new.cursor c.take_map.ensures.same ∙ ap (after_bytes r) bytes
+    ∙ ap (λ (p : Reader Dictionary). after_bytes p (front ++ rest)) same)
+    (taken_cut g.S.Sink.takes g.S.Sink.stops (tree_in set) l L3 map_limit k (after_bytes r front) front rest
+    (due-entity (tree_in set) l L3 map_limit k r front same no_stop_yet room) c.args.sink.now c.requires.some no_stop short))
 
 pub returns-in-TooLong-clause-taken : goal.returns-in-TooLong-clause-taken
 returns-in-TooLong-clause-taken g c =
@@ -62,11 +65,13 @@ returns-in-TooLong-clause-taken g c =
     let k = segment_judged set l d m.counted m.cursor width in
     let r : Reader Dictionary = reader_of l.strict (segment_behind set (bounds l) d m.counted m.cursor width) in
     let same : r ≡ entity_then L3 map_limit k = segment-reader set l d m.counted m.cursor width in
-    wrong_to g.S.Sink.takes g.S.Sink.stops set l (meaning set l m) rest c.args.sink.now (record m { cursor = c.take_map.new.self }) (Why.Stream L3) c.wrong.ensures.bytes c.wrong.ensures.turn
+    wrong_to g.S.Sink.takes g.S.Sink.stops set l (meaning set l m) rest c.args.sink.now (record m { cursor = c.take_map.new.self })
+    (Why.Stream L3) c.wrong.ensures.bytes c.wrong.ensures.turn
     (map_supplied set l m c.take_map.new.self c.requires.ready c.take_map.ensures.same)
     (λ q. taken_as g.S.Sink.takes g.S.Sink.stops (tree_in set) l rest c.args.sink.now n _ c.args.sink.now
     (ap (λ (w : Waiting). meaning_at w set l m) c.requires.waits) refl
-    (taken_full g.S.Sink.takes g.S.Sink.stops (tree_in set) l L3 map_limit k (after_bytes r front) front rest (due-entity (tree_in set) l L3 map_limit k r front same no_stop_yet room) n c.args.sink.now q some within no_stop all))
+    (taken_full g.S.Sink.takes g.S.Sink.stops (tree_in set) l L3 map_limit k (after_bytes r front) front rest
+    (due-entity (tree_in set) l L3 map_limit k r front same no_stop_yet room) n c.args.sink.now q some within no_stop all))
 
 pub returns-in-Whole-clause-taken : goal.returns-in-Whole-clause-taken
 returns-in-Whole-clause-taken g c =
@@ -84,8 +89,11 @@ returns-in-Whole-clause-taken g c =
     let k = segment_judged set l d m.counted m.cursor width in
     let r : Reader Dictionary = reader_of l.strict (segment_behind set (bounds l) d m.counted m.cursor width) in
     let same : r ≡ entity_then L3 map_limit k = segment-reader set l d m.counted m.cursor width in
-    whole_to g.S.Sink.takes g.S.Sink.stops set l L3 map_limit k (meaning set l m) front rest n c.args.sink.now c.segment_mapped-turn.result c.segment_mapped-turn.new.sink c.segment_mapped-turn.new.self
-    (ap (due (tree_in set) l) (ap (λ (w : Waiting). meaning_at w set l m) c.requires.waits) ∙ due-entity (tree_in set) l L3 map_limit k r front same no_stop_yet room) some within entity short
+    whole_to g.S.Sink.takes g.S.Sink.stops set l L3 map_limit k
+    (meaning set l m) front rest n c.args.sink.now c.segment_mapped-turn.result c.segment_mapped-turn.new.sink
+    c.segment_mapped-turn.new.self
+    (ap (due (tree_in set) l) (ap (λ (w : Waiting). meaning_at w set l m) c.requires.waits)
+    ∙ due-entity (tree_in set) l L3 map_limit k r front same no_stop_yet room) some within entity short
     (turn_as g.S.Sink.takes g.S.Sink.stops set l _ _ c.args.sink.now c.segment_mapped-turn.result c.segment_mapped-turn.new.sink c.segment_mapped-turn.new.self
     (segment_same set l d m.counted m.cursor width new (front ++ take n rest) c.take_map.ensures.same none bytes refl refl)
     c.segment_mapped-turn.ensures.turn)

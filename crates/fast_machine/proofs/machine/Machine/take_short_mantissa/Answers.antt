@@ -40,7 +40,8 @@ mantissa_item-requires-clause-serves g c =
     let l = c.args.limits in
     let m = c.args.self.now in
     serves_here set l m (field_data c.in-Decimal.mantissa) c.requires.ready.supplied
-    (served_node set l m c.in_ok-number.number c.node.result.now (Decimal c.in-Decimal.exponent c.in-Decimal.mantissa) c.requires.ready.supplied c.node.ensures.found c.in-Decimal.is).1
+    (served_node set l m c.in_ok-number.number c.node.result.now
+    (Decimal c.in-Decimal.exponent c.in-Decimal.mantissa) c.requires.ready.supplied c.node.ensures.found c.in-Decimal.is).1
 
 pub finish_decimal-turn-requires-clause-entry : goal.finish_decimal-turn-requires-clause-entry
 finish_decimal-turn-requires-clause-entry g c =
@@ -49,8 +50,10 @@ finish_decimal-turn-requires-clause-entry g c =
     let m = c.args.self.now in
     let f = field_data c.in-Decimal.mantissa in
     let slots = c.mantissa_item.new.slots in
-    let served = served_node set l m c.in_ok-number.number c.node.result.now (Decimal c.in-Decimal.exponent c.in-Decimal.mantissa) c.requires.ready.supplied c.node.ensures.found c.in-Decimal.is in
-    entry_here set l (record m { slots = slots }) f (part_supplied set l m slots m.entity c.requires.ready c.mantissa_item.ensures.terms) (serves_known set m slots f c.mantissa_item.ensures.terms served.1)
+    let served = served_node set l m c.in_ok-number.number c.node.result.now
+    (Decimal c.in-Decimal.exponent c.in-Decimal.mantissa) c.requires.ready.supplied c.node.ensures.found c.in-Decimal.is in
+    entry_here set l (record m { slots = slots }) f (part_supplied set l m slots m.entity c.requires.ready c.mantissa_item.ensures.terms)
+    (serves_known set m slots f c.mantissa_item.ensures.terms served.1)
 
 pub returns-clause-taken : goal.returns-clause-taken
 returns-clause-taken g c =
@@ -63,28 +66,46 @@ returns-clause-taken g c =
     let n = c.in_ok-number.number in
     let x = c.args.exponent in
     let slots = c.mantissa_item.new.slots in
-    let at : IsAtParts set m.cursor n (field_data c.in-Decimal.exponent) f = parts_head c.args.templates.now m.cursor n c.node.result.now (sym c.next.ensures ∙ c.in_ok-number.was) c.node.ensures.found c.in-Decimal.exponent c.in-Decimal.mantissa c.in-Decimal.is in
+    let at : IsAtParts set m.cursor n (field_data c.in-Decimal.exponent) f =
+    parts_head c.args.templates.now m.cursor n c.node.result.now
+    (sym c.next.ensures ∙ c.in_ok-number.was) c.node.ensures.found c.in-Decimal.exponent c.in-Decimal.mantissa c.in-Decimal.is in
     let sent = mantissa_sent set l m n (field_data c.in-Decimal.exponent) f x c.requires.ready c.requires.waits at in
     let k : Found → Grammar Dictionary = λ r. handed_then n (behind set l m) (decimal_with x r.0) r.1 in
     let a = record m { slots = slots } in
-    let can : CanTurn set l a = second_turn set l m slots m.entity c.requires.ready c.mantissa_item.ensures.terms x c.requires.waits (none_in_hand m.entity.bytes c.if-not-is_empty.ensures) in
-    let from : CanTurn set l (record a { turns = c.after-self.result }) = record { supplied = supplied-turns set l a c.after-self.result can.supplied; placed = can.placed; mapped = can.mapped; unused = can.unused } in
+    let can : CanTurn set l a = second_turn set l m slots m.entity c.requires.ready c.mantissa_item.ensures.terms x c.requires.waits
+    (none_in_hand m.entity.bytes c.if-not-is_empty.ensures) in
+    let from : CanTurn set l (record a { turns = c.after-self.result }) =
+    record {
+      supplied = supplied-turns set l a c.after-self.result can.supplied;
+      placed = can.placed;
+      mapped = can.mapped;
+      unused = can.unused;
+    } in
     let b = c.finish_decimal-turn.new.self in
     let turn = c.finish_decimal-turn.result in
     let ends = c.finish_decimal-turn.ensures in
     let source = source_of c.in_ok-item.item in
-    let moved : IsTurn takes stops set l (reader_of l.strict (decimal_then set (bounds l) n (to_z w32 (of_z w32 x)) (value_at c.source_of.result f (slots_dictionary slots) m.text.text []) f (slots_dictionary slots) m.counted m.cursor)) c.args.sink.now turn c.finish_decimal-turn.new.sink b =
+    let moved : IsTurn takes stops set l (reader_of l.strict
+    (decimal_then set (bounds l) n (to_z w32 (of_z w32 x)) (value_at c.source_of.result f (slots_dictionary slots) m.text.text []) f
+    (slots_dictionary slots) m.counted m.cursor)) c.args.sink.now turn c.finish_decimal-turn.new.sink b =
     record {
       moves = ends.moves set (bounds l) l.strict (meaning set l b);
       supplied = supplied_moved set l (record a { turns = c.after-self.result }) b from.supplied ends.same ends.rests;
       goes_on = goes_on_moved set l (record a { turns = c.after-self.result }) b turn from ends.same ends.rests ends.past ends.on;
     } in
-    integer_at_once takes stops set l m f k (mantissa_from set l m x) c.args.rest.now sent (mantissa_next set l m n (field_data c.in-Decimal.exponent) f x at) (meaning_second set l m x c.requires.waits)
-    (none_in_hand m.entity.bytes c.if-not-is_empty.ensures) (mantissa_sees n x (behind set l m)) slots m.text.text source c.in_ok-entity.entity.len (c.in_ok-item.ensures.unit (bounds l) m.text.text)
+    integer_at_once takes stops set l m f k (mantissa_from set l m x) c.args.rest.now sent
+    (mantissa_next set l m n (field_data c.in-Decimal.exponent) f x at) (meaning_second set l m x c.requires.waits)
+    (none_in_hand m.entity.bytes c.if-not-is_empty.ensures)
+    (mantissa_sees n x (behind set l m)) slots m.text.text source c.in_ok-entity.entity.len
+    (c.in_ok-item.ensures.unit (bounds l) m.text.text)
     c.args.sink.now turn c.finish_decimal-turn.new.sink b
-    (subst (λ (y : ℤ). IsTurn takes stops set l (reader_of l.strict (decimal_then set (bounds l) n y (value_at source f (slots_dictionary slots) m.text.text []) f (slots_dictionary slots) m.counted m.cursor)) c.args.sink.now turn c.finish_decimal-turn.new.sink b)
+    (subst (λ (y : ℤ). IsTurn takes stops set l (reader_of l.strict
+    (decimal_then set (bounds l) n y (value_at source f (slots_dictionary slots) m.text.text []) f
+    (slots_dictionary slots) m.counted m.cursor)) c.args.sink.now turn c.finish_decimal-turn.new.sink b)
     (to_z-of_z w32 x c.ranges.exponent)
-    (subst (λ (y : ValueSource). IsTurn takes stops set l (reader_of l.strict (decimal_then set (bounds l) n (to_z w32 (of_z w32 x)) (value_at y f (slots_dictionary slots) m.text.text []) f (slots_dictionary slots) m.counted m.cursor)) c.args.sink.now turn c.finish_decimal-turn.new.sink b)
+    (subst (λ (y : ValueSource). IsTurn takes stops set l (reader_of l.strict
+    (decimal_then set (bounds l) n (to_z w32 (of_z w32 x)) (value_at y f (slots_dictionary slots) m.text.text []) f
+    (slots_dictionary slots) m.counted m.cursor)) c.args.sink.now turn c.finish_decimal-turn.new.sink b)
     c.source_of.ensures moved))
 
 pub returns-clause-turns : goal.returns-clause-turns
@@ -93,8 +114,11 @@ returns-clause-turns g c way n h =
     let l = c.args.limits in
     let m = c.args.self.now in
     let a = record m { slots = c.mantissa_item.new.slots; turns = c.after-self.result } in
-    let at : IsAtParts set m.cursor c.in_ok-number.number (field_data c.in-Decimal.exponent) (field_data c.in-Decimal.mantissa) = parts_head c.args.templates.now m.cursor c.in_ok-number.number c.node.result.now (sym c.next.ensures ∙ c.in_ok-number.was) c.node.ensures.found c.in-Decimal.exponent c.in-Decimal.mantissa c.in-Decimal.is in
-    finished way set l (1 + n) a c.finish_decimal-turn.new.self _ c.finish_decimal-turn.result at.3 c.finish_decimal-turn.ensures.same c.finish_decimal-turn.ensures.past c.finish_decimal-turn.ensures.on
+    let at : IsAtParts set m.cursor c.in_ok-number.number (field_data c.in-Decimal.exponent) (field_data c.in-Decimal.mantissa) =
+    parts_head c.args.templates.now m.cursor c.in_ok-number.number c.node.result.now
+    (sym c.next.ensures ∙ c.in_ok-number.was) c.node.ensures.found c.in-Decimal.exponent c.in-Decimal.mantissa c.in-Decimal.is in
+    finished way set l (1 + n) a c.finish_decimal-turn.new.self _ c.finish_decimal-turn.result at.3 c.finish_decimal-turn.ensures.same
+    c.finish_decimal-turn.ensures.past c.finish_decimal-turn.ensures.on
     (one_unit way set l 1 n m.turns.count a.turns.count m.counted m.cursor c.after-self.ensures h)
 
 pub node-requires : goal.node-requires
@@ -143,7 +167,8 @@ pub returns-in_err-entity-clause-turns : goal.returns-in_err-entity-clause-turns
 returns-in_err-entity-clause-turns g c way n h = rw c.from_residual-in_err-entity.ensures tt
 
 pub returns-in_err-item-clause-none : goal.returns-in_err-item-clause-none
-returns-in_err-item-clause-none g c = rw c.from_residual-in_err-item.ensures (ap (λ (s : Slots). record c.args.self.now { slots = s }) c.in_err-item.ensures.none, refl)
+returns-in_err-item-clause-none g c = rw c.from_residual-in_err-item.ensures
+    (ap (λ (s : Slots). record c.args.self.now { slots = s }) c.in_err-item.ensures.none, refl)
 
 pub returns-in_err-item-clause-taken : goal.returns-in_err-item-clause-taken
 returns-in_err-item-clause-taken g c = rw c.from_residual-in_err-item.ensures tt
@@ -158,11 +183,13 @@ pub mantissa_item-requires-clause-first : goal.mantissa_item-requires-clause-fir
 mantissa_item-requires-clause-first g c = c.in_ok-entity.ensures
 
 pub mantissa_item-requires-clause-kind : goal.mantissa_item-requires-clause-kind
-mantissa_item-requires-clause-kind g c = (subst (λ (s : Shape). IsUsableShape (tree_of c.args.templates.now).entries (shape_data s)) c.in-Decimal.is c.node.ensures.usable).3
+mantissa_item-requires-clause-kind g c = (subst (λ (s : Shape). IsUsableShape (tree_of c.args.templates.now).entries (shape_data s))
+    c.in-Decimal.is c.node.ensures.usable).3
 
 pub finish_decimal-turn-requires-clause-left : goal.finish_decimal-turn-requires-clause-left
 finish_decimal-turn-requires-clause-left g c =
-    (parts_head c.args.templates.now c.args.self.now.cursor c.in_ok-number.number c.node.result.now (sym c.next.ensures ∙ c.in_ok-number.was) c.node.ensures.found c.in-Decimal.exponent c.in-Decimal.mantissa c.in-Decimal.is).2
+    (parts_head c.args.templates.now c.args.self.now.cursor c.in_ok-number.number c.node.result.now
+    (sym c.next.ensures ∙ c.in_ok-number.was) c.node.ensures.found c.in-Decimal.exponent c.in-Decimal.mantissa c.in-Decimal.is).2
 
 pub returns-clause-none : goal.returns-clause-none
 returns-clause-none g c = tt

@@ -24,12 +24,14 @@ integer_kind g c = search rules
 pub integer_item-requires-clause-serves : goal.integer_item-requires-clause-serves
 integer_item-requires-clause-serves g c =
     serves_here (set_of c.args.templates.now) c.args.limits c.args.self.now (field_data c.in-Field.field) c.requires.turn.supplied
-    (served_node (set_of c.args.templates.now) c.args.limits c.args.self.now c.in_ok-number.number c.node.result.now (Field c.in-Field.field) c.requires.turn.supplied c.node.ensures.found c.in-Field.is)
+    (served_node (set_of c.args.templates.now) c.args.limits c.args.self.now c.in_ok-number.number c.node.result.now
+    (Field c.in-Field.field) c.requires.turn.supplied c.node.ensures.found c.in-Field.is)
 
 pub delta_decimal-requires-clause-serves : goal.delta_decimal-requires-clause-serves
 delta_decimal-requires-clause-serves g c =
     serves_here (set_of c.args.templates.now) c.args.limits c.args.self.now (field_data c.in-Field.field) c.requires.turn.supplied
-    (served_node (set_of c.args.templates.now) c.args.limits c.args.self.now c.in_ok-number.number c.node.result.now (Field c.in-Field.field) c.requires.turn.supplied c.node.ensures.found c.in-Field.is)
+    (served_node (set_of c.args.templates.now) c.args.limits c.args.self.now c.in_ok-number.number c.node.result.now
+    (Field c.in-Field.field) c.requires.turn.supplied c.node.ensures.found c.in-Field.is)
 
 pub returns-in_ok-item-in-UInt32-clause-taken : goal.returns-in_ok-item-in-UInt32-clause-taken
 returns-in_ok-item-in-UInt32-clause-taken g c =
@@ -40,9 +42,11 @@ returns-in_ok-item-in-UInt32-clause-taken g c =
     let here = sym c.next.ensures ∙ c.in_ok-number.was in
     let other = integer_kind g c in
     let uses = c.in_ok-has_bit.ensures in
-    let waits = number_waits g.S.Sink.takes g.S.Sink.stops c.args.templates.now l m c.args.sink.now c.in_ok-number.number c.node.result.now field c.requires.waits c.requires.turn here c.node.ensures.found c.in-Field.is
+    let waits = number_waits g.S.Sink.takes g.S.Sink.stops c.args.templates.now l m c.args.sink.now c.in_ok-number.number c.node.result.now
+    field c.requires.waits c.requires.turn here c.node.ensures.found c.in-Field.is
     (sent_by_bit (field_data field) (state_of m) c.in_ok-has_bit.has_bit uses.varies (sym uses.uses) uses.sent) other in
-    let item = sent_item c.args.templates.now l m c.integer_item.new.slots c.in_ok-number.number c.node.result.now field c.requires.waits waits.goes_on here c.node.ensures.found c.in-Field.is c.integer_item.ensures.terms
+    let item = sent_item c.args.templates.now l m c.integer_item.new.slots c.in_ok-number.number c.node.result.now field c.requires.waits
+    waits.goes_on here c.node.ensures.found c.in-Field.is c.integer_item.ensures.terms
     c.args.rest.now c.in_ok-item-in-UInt32.item c.in_ok-entity-in-UInt32.entity.len c.requires.turn.unused (c.in_ok-item-in-UInt32.ensures.unit (bounds l)) in
     c.sent.ensures.taken set l m c.args.rest.now (field_data field) uses.uses item
 
@@ -55,9 +59,11 @@ returns-in_ok-item-in-UInt32-clause-turns g c way n h =
     let here = sym c.next.ensures ∙ c.in_ok-number.was in
     let other = integer_kind g c in
     let uses = c.in_ok-has_bit.ensures in
-    let waits = number_waits g.S.Sink.takes g.S.Sink.stops c.args.templates.now l m c.args.sink.now c.in_ok-number.number c.node.result.now field c.requires.waits c.requires.turn here c.node.ensures.found c.in-Field.is
+    let waits = number_waits g.S.Sink.takes g.S.Sink.stops c.args.templates.now l m c.args.sink.now c.in_ok-number.number c.node.result.now
+    field c.requires.waits c.requires.turn here c.node.ensures.found c.in-Field.is
     (sent_by_bit (field_data field) (state_of m) c.in_ok-has_bit.has_bit uses.varies (sym uses.uses) uses.sent) other in
-    let item = sent_item c.args.templates.now l m c.integer_item.new.slots c.in_ok-number.number c.node.result.now field c.requires.waits waits.goes_on here c.node.ensures.found c.in-Field.is c.integer_item.ensures.terms
+    let item = sent_item c.args.templates.now l m c.integer_item.new.slots c.in_ok-number.number c.node.result.now field c.requires.waits
+    waits.goes_on here c.node.ensures.found c.in-Field.is c.integer_item.ensures.terms
     c.args.rest.now c.in_ok-item-in-UInt32.item c.in_ok-entity-in-UInt32.entity.len c.requires.turn.unused (c.in_ok-item-in-UInt32.ensures.unit (bounds l)) in
     c.sent.ensures.turns set l m c.args.rest.now (field_data field) item way n h
 
@@ -70,9 +76,11 @@ returns-in_ok-item-in-UInt32-clause-some g c =
     let here = sym c.next.ensures ∙ c.in_ok-number.was in
     let other = integer_kind g c in
     let uses = c.in_ok-has_bit.ensures in
-    let waits = number_waits g.S.Sink.takes g.S.Sink.stops c.args.templates.now l m c.args.sink.now c.in_ok-number.number c.node.result.now field c.requires.waits c.requires.turn here c.node.ensures.found c.in-Field.is
+    let waits = number_waits g.S.Sink.takes g.S.Sink.stops c.args.templates.now l m c.args.sink.now c.in_ok-number.number c.node.result.now
+    field c.requires.waits c.requires.turn here c.node.ensures.found c.in-Field.is
     (sent_by_bit (field_data field) (state_of m) c.in_ok-has_bit.has_bit uses.varies (sym uses.uses) uses.sent) other in
-    let item = sent_item c.args.templates.now l m c.integer_item.new.slots c.in_ok-number.number c.node.result.now field c.requires.waits waits.goes_on here c.node.ensures.found c.in-Field.is c.integer_item.ensures.terms
+    let item = sent_item c.args.templates.now l m c.integer_item.new.slots c.in_ok-number.number c.node.result.now field c.requires.waits
+    waits.goes_on here c.node.ensures.found c.in-Field.is c.integer_item.ensures.terms
     c.args.rest.now c.in_ok-item-in-UInt32.item c.in_ok-entity-in-UInt32.entity.len c.requires.turn.unused (c.in_ok-item-in-UInt32.ensures.unit (bounds l)) in
     (c.sent.ensures.taken set l m c.args.rest.now (field_data field) uses.uses item).some
 
@@ -85,9 +93,11 @@ returns-in_ok-item-in-UInt32-clause-step g c =
     let here = sym c.next.ensures ∙ c.in_ok-number.was in
     let other = integer_kind g c in
     let uses = c.in_ok-has_bit.ensures in
-    let waits = number_waits g.S.Sink.takes g.S.Sink.stops c.args.templates.now l m c.args.sink.now c.in_ok-number.number c.node.result.now field c.requires.waits c.requires.turn here c.node.ensures.found c.in-Field.is
+    let waits = number_waits g.S.Sink.takes g.S.Sink.stops c.args.templates.now l m c.args.sink.now c.in_ok-number.number c.node.result.now
+    field c.requires.waits c.requires.turn here c.node.ensures.found c.in-Field.is
     (sent_by_bit (field_data field) (state_of m) c.in_ok-has_bit.has_bit uses.varies (sym uses.uses) uses.sent) other in
-    let item = sent_item c.args.templates.now l m c.integer_item.new.slots c.in_ok-number.number c.node.result.now field c.requires.waits waits.goes_on here c.node.ensures.found c.in-Field.is c.integer_item.ensures.terms
+    let item = sent_item c.args.templates.now l m c.integer_item.new.slots c.in_ok-number.number c.node.result.now field c.requires.waits
+    waits.goes_on here c.node.ensures.found c.in-Field.is c.integer_item.ensures.terms
     c.args.rest.now c.in_ok-item-in-UInt32.item c.in_ok-entity-in-UInt32.entity.len c.requires.turn.unused (c.in_ok-item-in-UInt32.ensures.unit (bounds l)) in
     number_step g.S.Sink.takes g.S.Sink.stops set l m c.sent.new.self c.args.rest.now c.args.sink.now c.sent.result c.sent.new.sink c.requires.waits waits
     (c.sent.ensures.taken set l m c.args.rest.now (field_data field) uses.uses item)
@@ -102,10 +112,13 @@ returns-in_ok-decimal-in-Decimal-clause-taken g c =
     let here = sym c.next.ensures ∙ c.in_ok-number.was in
     let other : field.kind ≢ Ascii = λ ascii. absurd (cc (sym c.in-Decimal.is ∙ ascii)) in
     let uses = c.in_ok-has_bit.ensures in
-    let waits = number_waits g.S.Sink.takes g.S.Sink.stops c.args.templates.now l m c.args.sink.now c.in_ok-number.number c.node.result.now field c.requires.waits c.requires.turn here c.node.ensures.found c.in-Field.is
+    let waits = number_waits g.S.Sink.takes g.S.Sink.stops c.args.templates.now l m c.args.sink.now c.in_ok-number.number c.node.result.now
+    field c.requires.waits c.requires.turn here c.node.ensures.found c.in-Field.is
     (sent_by_bit (field_data field) (state_of m) c.in_ok-has_bit.has_bit uses.varies (sym uses.uses) uses.sent) other in
-    let item = sent_item c.args.templates.now l m c.delta_decimal.new.slots c.in_ok-number.number c.node.result.now field c.requires.waits waits.goes_on here c.node.ensures.found c.in-Field.is c.delta_decimal.ensures.terms
-    c.args.rest.now (Some c.in_ok-decimal-in-Decimal.decimal.number) c.in_ok-decimal-in-Decimal.decimal.bytes c.requires.turn.unused (c.in_ok-decimal-in-Decimal.ensures.unit (bounds l)) in
+    let item = sent_item c.args.templates.now l m c.delta_decimal.new.slots c.in_ok-number.number c.node.result.now field c.requires.waits
+    waits.goes_on here c.node.ensures.found c.in-Field.is c.delta_decimal.ensures.terms
+    c.args.rest.now (Some c.in_ok-decimal-in-Decimal.decimal.number) c.in_ok-decimal-in-Decimal.decimal.bytes c.requires.turn.unused
+    (c.in_ok-decimal-in-Decimal.ensures.unit (bounds l)) in
     let bit : false ≡ uses_bit (field_data field) = search rules in
     c.sent-in-Decimal.ensures.taken set l m c.args.rest.now (field_data field) bit item
 
@@ -118,10 +131,13 @@ returns-in_ok-decimal-in-Decimal-clause-turns g c way n h =
     let here = sym c.next.ensures ∙ c.in_ok-number.was in
     let other : field.kind ≢ Ascii = λ ascii. absurd (cc (sym c.in-Decimal.is ∙ ascii)) in
     let uses = c.in_ok-has_bit.ensures in
-    let waits = number_waits g.S.Sink.takes g.S.Sink.stops c.args.templates.now l m c.args.sink.now c.in_ok-number.number c.node.result.now field c.requires.waits c.requires.turn here c.node.ensures.found c.in-Field.is
+    let waits = number_waits g.S.Sink.takes g.S.Sink.stops c.args.templates.now l m c.args.sink.now c.in_ok-number.number c.node.result.now
+    field c.requires.waits c.requires.turn here c.node.ensures.found c.in-Field.is
     (sent_by_bit (field_data field) (state_of m) c.in_ok-has_bit.has_bit uses.varies (sym uses.uses) uses.sent) other in
-    let item = sent_item c.args.templates.now l m c.delta_decimal.new.slots c.in_ok-number.number c.node.result.now field c.requires.waits waits.goes_on here c.node.ensures.found c.in-Field.is c.delta_decimal.ensures.terms
-    c.args.rest.now (Some c.in_ok-decimal-in-Decimal.decimal.number) c.in_ok-decimal-in-Decimal.decimal.bytes c.requires.turn.unused (c.in_ok-decimal-in-Decimal.ensures.unit (bounds l)) in
+    let item = sent_item c.args.templates.now l m c.delta_decimal.new.slots c.in_ok-number.number c.node.result.now field c.requires.waits
+    waits.goes_on here c.node.ensures.found c.in-Field.is c.delta_decimal.ensures.terms
+    c.args.rest.now (Some c.in_ok-decimal-in-Decimal.decimal.number) c.in_ok-decimal-in-Decimal.decimal.bytes c.requires.turn.unused
+    (c.in_ok-decimal-in-Decimal.ensures.unit (bounds l)) in
     c.sent-in-Decimal.ensures.turns set l m c.args.rest.now (field_data field) item way n h
 
 pub returns-in_ok-decimal-in-Decimal-clause-some : goal.returns-in_ok-decimal-in-Decimal-clause-some
@@ -133,10 +149,13 @@ returns-in_ok-decimal-in-Decimal-clause-some g c =
     let here = sym c.next.ensures ∙ c.in_ok-number.was in
     let other : field.kind ≢ Ascii = λ ascii. absurd (cc (sym c.in-Decimal.is ∙ ascii)) in
     let uses = c.in_ok-has_bit.ensures in
-    let waits = number_waits g.S.Sink.takes g.S.Sink.stops c.args.templates.now l m c.args.sink.now c.in_ok-number.number c.node.result.now field c.requires.waits c.requires.turn here c.node.ensures.found c.in-Field.is
+    let waits = number_waits g.S.Sink.takes g.S.Sink.stops c.args.templates.now l m c.args.sink.now c.in_ok-number.number c.node.result.now
+    field c.requires.waits c.requires.turn here c.node.ensures.found c.in-Field.is
     (sent_by_bit (field_data field) (state_of m) c.in_ok-has_bit.has_bit uses.varies (sym uses.uses) uses.sent) other in
-    let item = sent_item c.args.templates.now l m c.delta_decimal.new.slots c.in_ok-number.number c.node.result.now field c.requires.waits waits.goes_on here c.node.ensures.found c.in-Field.is c.delta_decimal.ensures.terms
-    c.args.rest.now (Some c.in_ok-decimal-in-Decimal.decimal.number) c.in_ok-decimal-in-Decimal.decimal.bytes c.requires.turn.unused (c.in_ok-decimal-in-Decimal.ensures.unit (bounds l)) in
+    let item = sent_item c.args.templates.now l m c.delta_decimal.new.slots c.in_ok-number.number c.node.result.now field c.requires.waits
+    waits.goes_on here c.node.ensures.found c.in-Field.is c.delta_decimal.ensures.terms
+    c.args.rest.now (Some c.in_ok-decimal-in-Decimal.decimal.number) c.in_ok-decimal-in-Decimal.decimal.bytes c.requires.turn.unused
+    (c.in_ok-decimal-in-Decimal.ensures.unit (bounds l)) in
     let bit : false ≡ uses_bit (field_data field) = search rules in
     (c.sent-in-Decimal.ensures.taken set l m c.args.rest.now (field_data field) bit item).some
 
@@ -149,12 +168,16 @@ returns-in_ok-decimal-in-Decimal-clause-step g c =
     let here = sym c.next.ensures ∙ c.in_ok-number.was in
     let other : field.kind ≢ Ascii = λ ascii. absurd (cc (sym c.in-Decimal.is ∙ ascii)) in
     let uses = c.in_ok-has_bit.ensures in
-    let waits = number_waits g.S.Sink.takes g.S.Sink.stops c.args.templates.now l m c.args.sink.now c.in_ok-number.number c.node.result.now field c.requires.waits c.requires.turn here c.node.ensures.found c.in-Field.is
+    let waits = number_waits g.S.Sink.takes g.S.Sink.stops c.args.templates.now l m c.args.sink.now c.in_ok-number.number c.node.result.now
+    field c.requires.waits c.requires.turn here c.node.ensures.found c.in-Field.is
     (sent_by_bit (field_data field) (state_of m) c.in_ok-has_bit.has_bit uses.varies (sym uses.uses) uses.sent) other in
-    let item = sent_item c.args.templates.now l m c.delta_decimal.new.slots c.in_ok-number.number c.node.result.now field c.requires.waits waits.goes_on here c.node.ensures.found c.in-Field.is c.delta_decimal.ensures.terms
-    c.args.rest.now (Some c.in_ok-decimal-in-Decimal.decimal.number) c.in_ok-decimal-in-Decimal.decimal.bytes c.requires.turn.unused (c.in_ok-decimal-in-Decimal.ensures.unit (bounds l)) in
+    let item = sent_item c.args.templates.now l m c.delta_decimal.new.slots c.in_ok-number.number c.node.result.now field c.requires.waits
+    waits.goes_on here c.node.ensures.found c.in-Field.is c.delta_decimal.ensures.terms
+    c.args.rest.now (Some c.in_ok-decimal-in-Decimal.decimal.number) c.in_ok-decimal-in-Decimal.decimal.bytes c.requires.turn.unused
+    (c.in_ok-decimal-in-Decimal.ensures.unit (bounds l)) in
     let bit : false ≡ uses_bit (field_data field) = search rules in
-    number_step g.S.Sink.takes g.S.Sink.stops set l m c.sent-in-Decimal.new.self c.args.rest.now c.args.sink.now c.sent-in-Decimal.result c.sent-in-Decimal.new.sink c.requires.waits waits
+    number_step g.S.Sink.takes g.S.Sink.stops set l m c.sent-in-Decimal.new.self c.args.rest.now c.args.sink.now c.sent-in-Decimal.result
+    c.sent-in-Decimal.new.sink c.requires.waits waits
     (c.sent-in-Decimal.ensures.taken set l m c.args.rest.now (field_data field) bit item)
     (λ way n h. c.sent-in-Decimal.ensures.turns set l m c.args.rest.now (field_data field) item way n h)
 
@@ -228,7 +251,8 @@ pub returns-in_err-entity-in-UInt32-clause-turns : goal.returns-in_err-entity-in
 returns-in_err-entity-in-UInt32-clause-turns g c way n h = rw c.from_residual-in_err-entity-in-UInt32.ensures tt
 
 pub returns-in_err-item-in-UInt32-clause-none : goal.returns-in_err-item-in-UInt32-clause-none
-returns-in_err-item-in-UInt32-clause-none g c = rw c.from_residual-in_err-item-in-UInt32.ensures (ap (λ (s : Slots). record c.args.self.now { slots = s }) c.in_err-item-in-UInt32.ensures.none, refl)
+returns-in_err-item-in-UInt32-clause-none g c = rw c.from_residual-in_err-item-in-UInt32.ensures
+    (ap (λ (s : Slots). record c.args.self.now { slots = s }) c.in_err-item-in-UInt32.ensures.none, refl)
 
 pub returns-in_err-item-in-UInt32-clause-step : goal.returns-in_err-item-in-UInt32-clause-step
 returns-in_err-item-in-UInt32-clause-step g c = rw c.from_residual-in_err-item-in-UInt32.ensures tt
@@ -249,7 +273,8 @@ pub returns-in_err-item-in-UInt32-clause-turns : goal.returns-in_err-item-in-UIn
 returns-in_err-item-in-UInt32-clause-turns g c way n h = rw c.from_residual-in_err-item-in-UInt32.ensures tt
 
 pub returns-in_err-decimal-in-Decimal-clause-none : goal.returns-in_err-decimal-in-Decimal-clause-none
-returns-in_err-decimal-in-Decimal-clause-none g c = rw c.from_residual-in_err-decimal-in-Decimal.ensures (ap (λ (s : Slots). record c.args.self.now { slots = s }) c.in_err-decimal-in-Decimal.ensures.none, refl)
+returns-in_err-decimal-in-Decimal-clause-none g c = rw c.from_residual-in_err-decimal-in-Decimal.ensures
+    (ap (λ (s : Slots). record c.args.self.now { slots = s }) c.in_err-decimal-in-Decimal.ensures.none, refl)
 
 pub returns-in_err-decimal-in-Decimal-clause-step : goal.returns-in_err-decimal-in-Decimal-clause-step
 returns-in_err-decimal-in-Decimal-clause-step g c = rw c.from_residual-in_err-decimal-in-Decimal.ensures tt
@@ -277,11 +302,17 @@ integer_item-requires-clause-varies g c = c.in_ok-has_bit.ensures.varies
 
 pub sent-requires : goal.sent-requires
 sent-requires g c =
-    record { left = (field_head c.args.templates.now c.args.self.now.cursor c.in_ok-number.number c.node.result.now (sym c.next.ensures ∙ c.in_ok-number.was) c.node.ensures.found c.in-Field.field c.in-Field.is).2 }
+    record {
+      left = (field_head c.args.templates.now c.args.self.now.cursor c.in_ok-number.number c.node.result.now
+          (sym c.next.ensures ∙ c.in_ok-number.was) c.node.ensures.found c.in-Field.field c.in-Field.is).2;
+    }
 
 pub sent-requires-in-Decimal : goal.sent-requires-in-Decimal
 sent-requires-in-Decimal g c =
-    record { left = (field_head c.args.templates.now c.args.self.now.cursor c.in_ok-number.number c.node.result.now (sym c.next.ensures ∙ c.in_ok-number.was) c.node.ensures.found c.in-Field.field c.in-Field.is).2 }
+    record {
+      left = (field_head c.args.templates.now c.args.self.now.cursor c.in_ok-number.number c.node.result.now
+          (sym c.next.ensures ∙ c.in_ok-number.was) c.node.ensures.found c.in-Field.field c.in-Field.is).2;
+    }
 
 pub delta_decimal-requires-clause-decimals : goal.delta_decimal-requires-clause-decimals
 delta_decimal-requires-clause-decimals g c = ap family c.in-Decimal.is

@@ -33,7 +33,8 @@ returns-then-gathers-clause-step g c m s hands turns =
     let got = c.if-gathers.ensures.gathered refl in
     unit_step takes stops set l m b rest s sink c.cut.result sink a
     hands
-    (gathered_to takes stops set l b a rest c.args.templates.now.nodes_name_later_nodes got some sink c.cut.result.bytes c.cut.result.turn c.cut.ensures.bytes c.cut.ensures.turn)
+    (gathered_to takes stops set l b a rest c.args.templates.now.nodes_name_later_nodes got some sink c.cut.result.bytes c.cut.result.turn
+    c.cut.ensures.bytes c.cut.ensures.turn)
     (λ way n h. gathered_behind way set l n b a rest c.cut.result.turn got c.cut.ensures.turn (turns way n h))
 
 pub returns-then-goes_on-clause-step : goal.returns-then-goes_on-clause-step
@@ -47,7 +48,8 @@ returns-then-goes_on-clause-step g c m s hands turns =
     let sink = c.args.sink.now in
     let same : b ≡ c.args.self.now = c.if-gathers.ensures.same refl in
     let (turn, is, on) = c.if-goes_on.ensures.on refl in
-    step_waits takes stops set l m c.args.rest.now s unit.result.bytes unit.result.turn unit.new.sink unit.new.self c.wait_for_field.new.self Field c.wait_for_field.ensures (λ e. on (cc (sym is ∙ e)))
+    step_waits takes stops set l m c.args.rest.now s unit.result.bytes unit.result.turn unit.new.sink unit.new.self
+    c.wait_for_field.new.self Field c.wait_for_field.ensures (λ e. on (cc (sym is ∙ e)))
     (unit_step takes stops set l m b c.args.rest.now s sink unit.result unit.new.sink unit.new.self
     (subst (λ (x : Machine). Hands takes stops (turning set l m) s (Ok tt) c.args.sink.now (meaning set l x)) (sym same) hands) unit.ensures.taken
     (λ way n h. unit.ensures.turns way n (subst (λ (x : Machine). HasTurnsWaiting way set l n x) (sym same) (turns way n h))))
@@ -99,9 +101,12 @@ returns-then-gathers-2-clause-step g c m s hands turns =
     let some : 0 < length left = omega (arith, is_left, more) in
     let got = c.if-gathers-2.ensures.gathered refl in
     let all : length rest ≡ unit.result.bytes + length left = omega (arith, is_left, more) in
-    step_and_unit takes stops set l m unit.new.self rest s unit.new.sink unit.result (length left) c.cut-then-gathers-2.result unit.new.sink c.gathers-then-unit-rest.new.self (c.if-waits.ensures.yes refl) (c.cut-then-gathers-2.ensures.bytes ∙ all) c.cut-then-gathers-2.ensures.turn
+    step_and_unit takes stops set l m unit.new.self rest s unit.new.sink unit.result
+    (length left) c.cut-then-gathers-2.result unit.new.sink c.gathers-then-unit-rest.new.self (c.if-waits.ensures.yes refl)
+    (c.cut-then-gathers-2.ensures.bytes ∙ all) c.cut-then-gathers-2.ensures.turn
     (unit_step takes stops set l m b c.args.rest.now s sink unit.result unit.new.sink unit.new.self
     (subst (λ (x : Machine). Hands takes stops (turning set l m) s (Ok tt) c.args.sink.now (meaning set l x)) (sym same) hands) unit.ensures.taken
     (λ way n h. unit.ensures.turns way n (subst (λ (x : Machine). HasTurnsWaiting way set l n x) (sym same) (turns way n h))))
-    (gathered_to takes stops set l unit.new.self c.gathers-then-unit-rest.new.self left c.args.templates.now.nodes_name_later_nodes got some unit.new.sink (length left) (Ok Waits) refl refl)
+    (gathered_to takes stops set l unit.new.self c.gathers-then-unit-rest.new.self left c.args.templates.now.nodes_name_later_nodes got
+    some unit.new.sink (length left) (Ok Waits) refl refl)
     (λ way n h. gathered_turns way set l n n unit.new.self c.gathers-then-unit-rest.new.self left got (omega arith) h)

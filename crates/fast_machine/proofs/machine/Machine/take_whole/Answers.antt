@@ -38,7 +38,9 @@ pub returns-in-Mantissa-clause-on : goal.returns-in-Mantissa-clause-on
 returns-in-Mantissa-clause-on g c = c.take_short_mantissa.ensures.on
 
 pub returns-in-Mantissa-clause-turns : goal.returns-in-Mantissa-clause-turns
-returns-in-Mantissa-clause-turns g c way n h = paid_whole way (set_of c.args.templates.now) c.args.limits n c.args.self.now c.take_short_mantissa.new.self c.take_short_mantissa.result (Mantissa c.in-Mantissa.exponent) c.in-Mantissa.is refl (c.take_short_mantissa.ensures.turns way n) h
+returns-in-Mantissa-clause-turns g c way n h = paid_whole way
+    (set_of c.args.templates.now) c.args.limits n c.args.self.now c.take_short_mantissa.new.self c.take_short_mantissa.result
+    (Mantissa c.in-Mantissa.exponent) c.in-Mantissa.is refl (c.take_short_mantissa.ensures.turns way n) h
 
 pub returns-in-SegmentMap-clause-none : goal.returns-in-SegmentMap-clause-none
 returns-in-SegmentMap-clause-none g c = c.open_quickly.ensures.none
@@ -47,7 +49,9 @@ pub returns-in-SegmentMap-clause-on : goal.returns-in-SegmentMap-clause-on
 returns-in-SegmentMap-clause-on g c = c.open_quickly.ensures.on
 
 pub returns-in-SegmentMap-clause-turns : goal.returns-in-SegmentMap-clause-turns
-returns-in-SegmentMap-clause-turns g c way n h = paid_whole way (set_of c.args.templates.now) c.args.limits n c.args.self.now c.open_quickly.new.self c.open_quickly.result (SegmentMap c.in-SegmentMap.field-0) c.in-SegmentMap.is refl (c.open_quickly.ensures.turns way n) h
+returns-in-SegmentMap-clause-turns g c way n h = paid_whole way
+    (set_of c.args.templates.now) c.args.limits n c.args.self.now c.open_quickly.new.self c.open_quickly.result
+    (SegmentMap c.in-SegmentMap.field-0) c.in-SegmentMap.is refl (c.open_quickly.ensures.turns way n) h
 
 pub returns-then-is_empty-clause-none : goal.returns-then-is_empty-clause-none
 returns-then-is_empty-clause-none g c = c.take_short_number.ensures.none
@@ -59,7 +63,9 @@ pub returns-then-is_empty-clause-on : goal.returns-then-is_empty-clause-on
 returns-then-is_empty-clause-on g c = c.take_short_number.ensures.on
 
 pub returns-then-is_empty-clause-turns : goal.returns-then-is_empty-clause-turns
-returns-then-is_empty-clause-turns g c way n h = paid_whole way (set_of c.args.templates.now) c.args.limits n c.args.self.now c.take_short_number.new.self c.take_short_number.result Field c.in-Field.is refl (c.take_short_number.ensures.turns way n) h
+returns-then-is_empty-clause-turns g c way n h = paid_whole way
+    (set_of c.args.templates.now) c.args.limits n c.args.self.now c.take_short_number.new.self c.take_short_number.result Field
+    c.in-Field.is refl (c.take_short_number.ensures.turns way n) h
 
 pub returns-else-is_empty-clause-none : goal.returns-else-is_empty-clause-none
 returns-else-is_empty-clause-none g c = c.take_held_number.ensures.none
@@ -71,7 +77,9 @@ pub returns-else-is_empty-clause-on : goal.returns-else-is_empty-clause-on
 returns-else-is_empty-clause-on g c = c.take_held_number.ensures.on
 
 pub returns-else-is_empty-clause-turns : goal.returns-else-is_empty-clause-turns
-returns-else-is_empty-clause-turns g c way n h = paid_whole way (set_of c.args.templates.now) c.args.limits n c.args.self.now c.take_held_number.new.self c.take_held_number.result Field c.in-Field.is refl (c.take_held_number.ensures.turns way n) h
+returns-else-is_empty-clause-turns g c way n h = paid_whole way
+    (set_of c.args.templates.now) c.args.limits n c.args.self.now c.take_held_number.new.self c.take_held_number.result Field c.in-Field.is
+    refl (c.take_held_number.ensures.turns way n) h
 
 pub returns-in-Text-clause-none : goal.returns-in-Text-clause-none
 returns-in-Text-clause-none g c = c.take_held_ascii.ensures.none
@@ -80,7 +88,9 @@ pub returns-in-Text-clause-on : goal.returns-in-Text-clause-on
 returns-in-Text-clause-on g c = c.take_held_ascii.ensures.on
 
 pub returns-in-Text-clause-turns : goal.returns-in-Text-clause-turns
-returns-in-Text-clause-turns g c way n h = paid_whole way (set_of c.args.templates.now) c.args.limits n c.args.self.now c.take_held_ascii.new.self c.take_held_ascii.result Text c.in-Text.is refl (c.take_held_ascii.ensures.turns way n) h
+returns-in-Text-clause-turns g c way n h = paid_whole way
+    (set_of c.args.templates.now) c.args.limits n c.args.self.now c.take_held_ascii.new.self c.take_held_ascii.result Text c.in-Text.is
+    refl (c.take_held_ascii.ensures.turns way n) h
 
 pub returns-in-Bytes-Vector-clause-none : goal.returns-in-Bytes-Vector-clause-none
 returns-in-Bytes-Vector-clause-none g c = c.take_held_vector.ensures.none
@@ -94,7 +104,8 @@ returns-in-Bytes-Vector-clause-on g c = c.take_held_vector.ensures.on
 pub returns-in-Bytes-Vector-clause-turns : goal.returns-in-Bytes-Vector-clause-turns
 returns-in-Bytes-Vector-clause-turns g c way n h =
     let is : c.args.self.now.waiting ≡ Bytes (Vector c.in-Bytes-Vector.size) = search rules in
-    paid_whole way (set_of c.args.templates.now) c.args.limits n c.args.self.now c.take_held_vector.new.self c.take_held_vector.result (Bytes (Vector c.in-Bytes-Vector.size)) is refl (c.take_held_vector.ensures.turns way n) h
+    paid_whole way (set_of c.args.templates.now) c.args.limits n c.args.self.now c.take_held_vector.new.self c.take_held_vector.result
+    (Bytes (Vector c.in-Bytes-Vector.size)) is refl (c.take_held_vector.ensures.turns way n) h
 
 pub take_short_mantissa-requires-clause-waits : goal.take_short_mantissa-requires-clause-waits
 take_short_mantissa-requires-clause-waits g c = c.in-Mantissa.is ∙ sym (ap Mantissa (to_z-of_z w32 c.in-Mantissa.exponent (search rules)))

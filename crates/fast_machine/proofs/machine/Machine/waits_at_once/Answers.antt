@@ -17,9 +17,11 @@ returns-clause-hands g c e =
     let m = c.args.self.now in
     let n = c.in-Some.number in
     let f = field_data c.in-Field.field in
-    let at = field_head c.args.templates.now m.cursor n c.node.result.now (sym c.next.ensures ∙ c.in-Some.is) c.node.ensures.found c.in-Field.field c.in-Field.is in
+    let at = field_head c.args.templates.now m.cursor n c.node.result.now
+    (sym c.next.ensures ∙ c.in-Some.is) c.node.ensures.found c.in-Field.field c.in-Field.is in
     (field_waits g.S.Sink.takes g.S.Sink.stops set l c.args.sink.now m c.wait_first.new.self n f c.requires.turn at
-    (sent_here f c.presence.result (state_of m) (c.presence.ensures (slots_dictionary m.slots) m.counted) (c.needs_bytes.ensures.operator c.if-not-needs_bytes.false) (c.needs_bytes.ensures.sent c.if-not-needs_bytes.false))
+    (sent_here f c.presence.result (state_of m) (c.presence.ensures (slots_dictionary m.slots) m.counted)
+    (c.needs_bytes.ensures.operator c.if-not-needs_bytes.false) (c.needs_bytes.ensures.sent c.if-not-needs_bytes.false))
     c.wait_first.ensures.same c.wait_first.ensures.capacity c.wait_first.ensures.text c.wait_first.ensures.number).moves
 
 pub returns-clause-ready : goal.returns-clause-ready
@@ -29,15 +31,19 @@ returns-clause-ready g c e =
     let m = c.args.self.now in
     let n = c.in-Some.number in
     let f = field_data c.in-Field.field in
-    let at = field_head c.args.templates.now m.cursor n c.node.result.now (sym c.next.ensures ∙ c.in-Some.is) c.node.ensures.found c.in-Field.field c.in-Field.is in
+    let at = field_head c.args.templates.now m.cursor n c.node.result.now
+    (sym c.next.ensures ∙ c.in-Some.is) c.node.ensures.found c.in-Field.field c.in-Field.is in
     (field_waits g.S.Sink.takes g.S.Sink.stops set l c.args.sink.now m c.wait_first.new.self n f c.requires.turn at
-    (sent_here f c.presence.result (state_of m) (c.presence.ensures (slots_dictionary m.slots) m.counted) (c.needs_bytes.ensures.operator c.if-not-needs_bytes.false) (c.needs_bytes.ensures.sent c.if-not-needs_bytes.false))
+    (sent_here f c.presence.result (state_of m) (c.presence.ensures (slots_dictionary m.slots) m.counted)
+    (c.needs_bytes.ensures.operator c.if-not-needs_bytes.false) (c.needs_bytes.ensures.sent c.if-not-needs_bytes.false))
     c.wait_first.ensures.same c.wait_first.ensures.capacity c.wait_first.ensures.text c.wait_first.ensures.number).goes_on
 
 pub returns-clause-turns : goal.returns-clause-turns
 returns-clause-turns g c e way k h =
     let m = c.args.self.now in
-    first_turns way (set_of c.args.templates.now) c.args.limits k (field_data c.in-Field.field) m c.wait_first.new.self c.wait_first.ensures.text c.wait_first.ensures.number c.wait_first.ensures.same (one_taken way (set_of c.args.templates.now) c.args.limits k m.turns.count m.counted m.cursor h)
+    first_turns way (set_of c.args.templates.now) c.args.limits k
+    (field_data c.in-Field.field) m c.wait_first.new.self c.wait_first.ensures.text c.wait_first.ensures.number
+    c.wait_first.ensures.same (one_taken way (set_of c.args.templates.now) c.args.limits k m.turns.count m.counted m.cursor h)
 
 pub node-requires : goal.node-requires
 node-requires g c = first_below _ c.args.self.now.cursor.left c.in-Some.number c.requires.turn.placed.below (sym c.next.ensures ∙ c.in-Some.is)

@@ -12,7 +12,8 @@ use Rattle.fast_tree.specs.meaning.Nodes.{field_data}
 use Rattle.fast_notation.specs.meaning.Uses.{IsField}
 use Rattle.fast_notation.specs.device.WrittenSets.{operator_data, instruction_data, fields_data, written_data}
 use Rattle.fast_notation.proofs.nodes.BuiltLists.{same_items, one_longer, built_none, built_more, built_group, built_sequence, built_reference}
-use Rattle.fast_notation.proofs.nodes.BuildingNeeds.{weight, weight_at, measure, next_smaller, can_build_next, can_build_group, length_ready, can_build_sequence, chain_some, can_build_reference, looked_up, some_is}
+use Rattle.fast_notation.proofs.nodes.BuildingNeeds.{weight, weight_at, measure, next_smaller, can_build_next, can_build_group}
+use Rattle.fast_notation.proofs.nodes.BuildingNeeds.{length_ready, can_build_sequence, chain_some, can_build_reference, looked_up, some_is}
 use Rattle.fast_notation.proofs.texts.InstructionForms.{scalar_form, parts_form, group_form, sequence_form, reference_form}
 use Rattle.fast_notation.proofs.building.Builder.+building.Goals as goal
 
@@ -27,15 +28,22 @@ build_fields-build_instruction-requires t c =
     let w = weight_at fs i c.field-item.result c.loop-field-test.true in
     let same = ap (λ d. weight (more (instruction_data d) no_more)) c.field-item.is in
     let d : measure (map written_data c.args.self.now.set.now.templates.items) c.args.at.chain (3 * weight (fields_data fs) + 1) ≡ t = c.decreases in
-    let can = can_build_next fs i c.field-item.result (data_of c.args.nodes.now) (data_of c.loop-field.nodes) c.args.body.now.items c.loop-field.body.items c.requires.set.names c.loop-field-test.true c.loop-field.invariant c.requires.can in (
+    let can = can_build_next fs i c.field-item.result (data_of c.args.nodes.now)
+    (data_of c.loop-field.nodes) c.args.body.now.items c.loop-field.body.items c.requires.set.names c.loop-field-test.true
+    c.loop-field.invariant c.requires.can in (
       omega (arith, w, same, d),
-      (c.requires.set, subst (λ d. CanBuild ts (entries_of c.args.self.now.entries.now) c.args.at.chain (scope_data c.args.at.scope) (more (instruction_data d) no_more) (length (data_of c.loop-field.nodes))) (sym c.field-item.is) can),
+      (
+        c.requires.set,
+        subst (λ d. CanBuild ts (entries_of c.args.self.now.entries.now) c.args.at.chain (scope_data c.args.at.scope)
+            (more (instruction_data d) no_more) (length (data_of c.loop-field.nodes))) (sym c.field-item.is) can,
+      ),
     )
 
 pub build_fields-loop-field-preserved : goal.build_fields-loop-field-preserved
 build_fields-loop-field-preserved t c =
     let here = rw c.field-item.is at c.in_ok-build_instruction.ensures in
-    built_more c.args.fields.now c.loop-field.field-index c.field-item.result (data_of c.args.nodes.now) (data_of c.loop-field.nodes) (data_of c.build_instruction.new.nodes) c.args.body.now.items c.loop-field.body.items c.build_instruction.new.body.items
+    built_more c.args.fields.now c.loop-field.field-index c.field-item.result (data_of c.args.nodes.now) (data_of c.loop-field.nodes)
+    (data_of c.build_instruction.new.nodes) c.args.body.now.items c.loop-field.body.items c.build_instruction.new.body.items
     c.loop-field-test.true c.loop-field.invariant here
 
 pub build_instruction-build_scalar-requires-clause-can : goal.build_instruction-build_scalar-requires-clause-can
@@ -73,9 +81,11 @@ build_instruction-build_group-requires t c =
     let s = scope_data c.args.at.scope in
     let n = length (data_of c.args.nodes.now) in
     let e = ap instruction_data c.in-Group.is ∙ group_form c.in-Group.name c.in-Group.optional c.in-Group.fields in
-    let can = can_build_group (string_bytes c.in-Group.name) c.in-Group.optional (fields_data c.in-Group.fields.items) n (subst (λ d. CanBuild ts es c.args.at.chain s (more d no_more) n) e c.requires.can) in
+    let can = can_build_group (string_bytes c.in-Group.name) c.in-Group.optional (fields_data c.in-Group.fields.items) n
+    (subst (λ d. CanBuild ts es c.args.at.chain s (more d no_more) n) e c.requires.can) in
     let d : measure ts c.args.at.chain (3 * weight (more (instruction_data c.args.instruction.now) no_more)) ≡ t = c.decreases in
-    let w : weight (more (instruction_data c.args.instruction.now) no_more) ≡ suc (weight (fields_data c.in-Group.fields.items)) + 0 = ap (λ i. weight (more i no_more)) e in
+    let w : weight (more (instruction_data c.args.instruction.now) no_more) ≡ suc (weight (fields_data c.in-Group.fields.items)) + 0 =
+    ap (λ i. weight (more i no_more)) e in
     rw c.deref.ensures.value (omega (arith, d, w), (c.requires.set, can))
 
 pub build_instruction-length_of-requires-clause-ready : goal.build_instruction-length_of-requires-clause-ready
@@ -87,8 +97,10 @@ build_instruction-length_of-requires-clause-ready t c =
     let name = string_bytes c.in-Sequence.name in
     let own = option_map string_bytes c.in-Sequence.length_name in
     let w = operator_data c.in-Sequence.length in
-    let e = ap instruction_data c.in-Sequence.is ∙ sequence_form c.in-Sequence.name c.in-Sequence.optional c.in-Sequence.length_name c.in-Sequence.length c.in-Sequence.fields in
-    rw c.as_str-name-in-Sequence.ensures.value (length_ready name c.in-Sequence.optional own w (fields_data c.in-Sequence.fields.items) n (subst (λ d. CanBuild ts es c.args.at.chain s (more d no_more) n) e c.requires.can))
+    let e = ap instruction_data c.in-Sequence.is ∙ sequence_form c.in-Sequence.name c.in-Sequence.optional c.in-Sequence.length_name
+    c.in-Sequence.length c.in-Sequence.fields in
+    rw c.as_str-name-in-Sequence.ensures.value (length_ready name c.in-Sequence.optional own w (fields_data c.in-Sequence.fields.items) n
+    (subst (λ d. CanBuild ts es c.args.at.chain s (more d no_more) n) e c.requires.can))
 
 pub build_instruction-build_sequence-requires : goal.build_instruction-build_sequence-requires
 build_instruction-build_sequence-requires t c =
@@ -96,11 +108,14 @@ build_instruction-build_sequence-requires t c =
     let es = entries_of c.args.self.now.entries.now in
     let s = scope_data c.args.at.scope in
     let n = length (data_of c.args.nodes.now) in
-    let e = ap instruction_data c.in-Sequence.is ∙ sequence_form c.in-Sequence.name c.in-Sequence.optional c.in-Sequence.length_name c.in-Sequence.length c.in-Sequence.fields in
-    let can = can_build_sequence (string_bytes c.in-Sequence.name) c.in-Sequence.optional (option_map string_bytes c.in-Sequence.length_name) (operator_data c.in-Sequence.length) (fields_data c.in-Sequence.fields.items) n
+    let e = ap instruction_data c.in-Sequence.is ∙ sequence_form c.in-Sequence.name c.in-Sequence.optional c.in-Sequence.length_name
+    c.in-Sequence.length c.in-Sequence.fields in
+    let can = can_build_sequence (string_bytes c.in-Sequence.name) c.in-Sequence.optional
+    (option_map string_bytes c.in-Sequence.length_name) (operator_data c.in-Sequence.length) (fields_data c.in-Sequence.fields.items) n
     (subst (λ d. CanBuild ts es c.args.at.chain s (more d no_more) n) e c.requires.can) in
     let d : measure ts c.args.at.chain (3 * weight (more (instruction_data c.args.instruction.now) no_more)) ≡ t = c.decreases in
-    let w : weight (more (instruction_data c.args.instruction.now) no_more) ≡ suc (weight (fields_data c.in-Sequence.fields.items)) + 0 = ap (λ i. weight (more i no_more)) e in
+    let w : weight (more (instruction_data c.args.instruction.now) no_more) ≡ suc (weight (fields_data c.in-Sequence.fields.items)) + 0 =
+    ap (λ i. weight (more i no_more)) e in
     rw c.deref-in-Sequence.ensures.value (omega (arith, d, w), (c.requires.set, can))
 
 pub build_group-returns : goal.build_group-returns
@@ -114,7 +129,9 @@ build_group-returns t c =
     let first = rw c.empty_group.ensures at c.in_ok-add_node.ensures.nodes in
     let inner = rw c.new-inner.ensures.items at c.in_ok-build_fields.ensures in
     let same = same_items c.build_fields.new.nodes c.set_shape.new.nodes (length old) _ shaped in
-    rw same (built_group c.args.name.now c.args.optional (fields_data c.args.fields.now) (a_group_data false []) old (data_of c.add_node.new.nodes) (data_of c.build_fields.new.nodes) (map node_data c.set_shape.new.nodes) c.args.body.now.items c.add_node.new.body.items c.build_fields.new.body.items
+    rw same (built_group c.args.name.now c.args.optional (fields_data c.args.fields.now) (a_group_data false []) old
+    (data_of c.add_node.new.nodes) (data_of c.build_fields.new.nodes)
+    (map node_data c.set_shape.new.nodes) c.args.body.now.items c.add_node.new.body.items c.build_fields.new.body.items
     first inner shaped c.in_ok-add_node.ensures.body)
 
 pub build_sequence-returns : goal.build_sequence-returns
@@ -128,12 +145,15 @@ build_sequence-returns t c optional own w is =
     let first = rw c.empty_group.ensures at c.in_ok-add_node.ensures.nodes in
     let inner = rw c.new-inner.ensures.items at c.in_ok-build_fields.ensures in
     let same = same_items c.build_fields.new.nodes c.set_shape.new.nodes (length old) _ shaped in
-    rw same (built_sequence c.args.name.now optional own w (field_data c.args.sent) (fields_data c.args.fields.now) (a_group_data false []) old (data_of c.add_node.new.nodes) (data_of c.build_fields.new.nodes) (map node_data c.set_shape.new.nodes) c.args.body.now.items c.add_node.new.body.items c.build_fields.new.body.items
+    rw same (built_sequence c.args.name.now optional own w (field_data c.args.sent) (fields_data c.args.fields.now)
+    (a_group_data false []) old (data_of c.add_node.new.nodes) (data_of c.build_fields.new.nodes)
+    (map node_data c.set_shape.new.nodes) c.args.body.now.items c.add_node.new.body.items c.build_fields.new.body.items
     is first inner shaped c.in_ok-add_node.ensures.body)
 
 pub build_reference-behind_reference-at-requires :
     goal.build_reference-behind_reference-at-requires
-build_reference-behind_reference-at-requires t c = chain_some (map written_data c.args.self.now.set.now.templates.items) c.args.at.chain c.args.name.now no_more c.requires.1.1.1.fits
+build_reference-behind_reference-at-requires t c = chain_some
+    (map written_data c.args.self.now.set.now.templates.items) c.args.at.chain c.args.name.now no_more c.requires.1.1.1.fits
 
 pub build_reference-index-template-requires : goal.build_reference-index-template-requires
 build_reference-index-template-requires t c =
@@ -207,18 +227,28 @@ pub build_group-build_fields-requires : goal.build_group-build_fields-requires
 build_group-build_fields-requires t c =
     let ts = map written_data c.args.self.now.set.now.templates.items in
     let d : measure ts c.args.at.chain (3 * weight (fields_data c.args.fields.now) + 2) ≡ t = c.requires.1.0 in
-    let long : length (data_of c.add_node.new.nodes) ≡ suc (length (data_of c.args.nodes.now)) = ap length c.in_ok-add_node.ensures.nodes ∙ one_longer (data_of c.args.nodes.now) _ in (
+    let long : length (data_of c.add_node.new.nodes) ≡ suc (length (data_of c.args.nodes.now)) = ap length c.in_ok-add_node.ensures.nodes
+    ∙ one_longer (data_of c.args.nodes.now) _ in (
       omega (arith, d),
-      (c.requires.1.1.0, subst (CanBuild ts (entries_of c.args.self.now.entries.now) c.args.at.chain (scope_data c.args.at.scope) (fields_data c.args.fields.now)) (sym long) c.requires.1.1.1),
+      (
+        c.requires.1.1.0,
+        subst (CanBuild ts (entries_of c.args.self.now.entries.now) c.args.at.chain (scope_data c.args.at.scope)
+            (fields_data c.args.fields.now)) (sym long) c.requires.1.1.1,
+      ),
     )
 
 pub build_sequence-build_fields-requires : goal.build_sequence-build_fields-requires
 build_sequence-build_fields-requires t c =
     let ts = map written_data c.args.self.now.set.now.templates.items in
     let d : measure ts c.args.at.chain (3 * weight (fields_data c.args.fields.now) + 2) ≡ t = c.requires.1.0 in
-    let long : length (data_of c.add_node.new.nodes) ≡ suc (length (data_of c.args.nodes.now)) = ap length c.in_ok-add_node.ensures.nodes ∙ one_longer (data_of c.args.nodes.now) _ in (
+    let long : length (data_of c.add_node.new.nodes) ≡ suc (length (data_of c.args.nodes.now)) = ap length c.in_ok-add_node.ensures.nodes
+    ∙ one_longer (data_of c.args.nodes.now) _ in (
       omega (arith, d),
-      (c.requires.1.1.0, subst (CanBuild ts (entries_of c.args.self.now.entries.now) c.args.at.chain (scope_data c.args.at.scope) (fields_data c.args.fields.now)) (sym long) c.requires.1.1.1),
+      (
+        c.requires.1.1.0,
+        subst (CanBuild ts (entries_of c.args.self.now.entries.now) c.args.at.chain (scope_data c.args.at.scope)
+            (fields_data c.args.fields.now)) (sym long) c.requires.1.1.1,
+      ),
     )
 
 pub build_instruction-build_scalar-requires-clause-set : goal.build_instruction-build_scalar-requires-clause-set
@@ -255,8 +285,11 @@ build_instruction-returns-in_ok-length-in-Sequence t c =
     let own = option_map string_bytes c.in-Sequence.length_name in
     let w = operator_data c.in-Sequence.length in
     let f = field_data c.in_ok-length-in-Sequence.length in
-    let e = ap instruction_data c.in-Sequence.is ∙ sequence_form c.in-Sequence.name c.in-Sequence.optional c.in-Sequence.length_name c.in-Sequence.length c.in-Sequence.fields in
-    let is : IsField es s (length_use name c.in-Sequence.optional own w) f = subst (λ n. IsField es s (length_use n c.in-Sequence.optional own w) f) c.as_str-name-in-Sequence.ensures.value c.in_ok-length-in-Sequence.ensures in
+    let e = ap instruction_data c.in-Sequence.is ∙ sequence_form c.in-Sequence.name c.in-Sequence.optional c.in-Sequence.length_name
+    c.in-Sequence.length c.in-Sequence.fields in
+    let is : IsField es s (length_use name c.in-Sequence.optional own w) f =
+    subst (λ n. IsField es s (length_use n c.in-Sequence.optional own w) f) c.as_str-name-in-Sequence.ensures.value
+    c.in_ok-length-in-Sequence.ensures in
     let there = rw (c.as_str-name-in-Sequence.ensures.value, c.deref-in-Sequence.ensures.value) at c.build_sequence.ensures in
     rw e (on_ok_weaker c.build_sequence.result (λ h. h c.in-Sequence.optional own w is) there)
 

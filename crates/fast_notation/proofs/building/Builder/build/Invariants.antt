@@ -6,4 +6,5 @@ use Rattle.fast_notation.specs.device.WrittenSets.{written_data}
 use Rattle.fast_notation.proofs.building.Builder.build.Given as goal
 
 abbrev pub invariant-loop-k : goal.invariant-loop-k
-invariant-loop-k l = AreBuilt (map written_data l.self.set.now.templates.items) (entries_of l.self.entries.now) (map written_data (take l.k l.self.set.now.templates.items)) (map node_data l.nodes.items) (map outline l.templates.items)
+invariant-loop-k l = AreBuilt (map written_data l.self.set.now.templates.items) (entries_of l.self.entries.now)
+    (map written_data (take l.k l.self.set.now.templates.items)) (map node_data l.nodes.items) (map outline l.templates.items)

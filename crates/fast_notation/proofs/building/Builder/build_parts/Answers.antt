@@ -16,7 +16,8 @@ field_of-requires-clause-few c = c.requires.set.few
 pub field_of-requires-clause-ready : goal.field_of-requires-clause-ready
 field_of-requires-clause-ready c =
     subst (IsReady (entries_of c.args.self.now.entries.now) (scope_data c.args.at.scope)) (sym c.exponent_use.ensures.use_of)
-    (exponent_ready c.args.name.now c.args.optional (operator_data c.args.exponent.now) (operator_data c.args.mantissa.now) (length (data_of c.args.nodes.now)) c.requires.can)
+    (exponent_ready c.args.name.now c.args.optional (operator_data c.args.exponent.now) (operator_data c.args.mantissa.now)
+    (length (data_of c.args.nodes.now)) c.requires.can)
 
 pub field_of-requires-clause-exponent : goal.field_of-requires-clause-exponent
 field_of-requires-clause-exponent c = c.exponent_use.ensures.exponent
@@ -27,7 +28,8 @@ field_of-requires-2-clause-few c = c.requires.set.few
 pub field_of-requires-2-clause-ready : goal.field_of-requires-2-clause-ready
 field_of-requires-2-clause-ready c =
     subst (IsReady (entries_of c.args.self.now.entries.now) (scope_data c.args.at.scope)) (sym c.mantissa_use.ensures.use_of)
-    (mantissa_ready c.args.name.now c.args.optional (operator_data c.args.exponent.now) (operator_data c.args.mantissa.now) (length (data_of c.args.nodes.now)) c.requires.can)
+    (mantissa_ready c.args.name.now c.args.optional (operator_data c.args.exponent.now) (operator_data c.args.mantissa.now)
+    (length (data_of c.args.nodes.now)) c.requires.can)
 
 pub field_of-requires-2-clause-exponent : goal.field_of-requires-2-clause-exponent
 field_of-requires-2-clause-exponent c = c.mantissa_use.ensures.exponent
@@ -36,7 +38,8 @@ pub add_node-requires : goal.add_node-requires
 add_node-requires c =
     let ts = map written_data c.args.self.now.set.now.templates.items in
     let d = by_parts c.args.name.now c.args.optional (operator_data c.args.exponent.now) (operator_data c.args.mantissa.now) in
-    room_for {ts = ts} {entries = entries_of c.args.self.now.entries.now} {chain = c.args.at.chain} {s = scope_data c.args.at.scope} d (length (data_of c.args.nodes.now)) (omega arith) c.requires.can
+    room_for {ts = ts} {entries = entries_of c.args.self.now.entries.now} {chain = c.args.at.chain} {s = scope_data c.args.at.scope} d
+    (length (data_of c.args.nodes.now)) (omega arith) c.requires.can
 
 pub returns : goal.returns
 returns c =
@@ -47,5 +50,6 @@ returns c =
     let is_f = subst (λ u. IsField es s u f) c.exponent_use.ensures.use_of c.in_ok-exponent.ensures in
     let is_g = subst (λ u. IsField es s u g) c.mantissa_use.ensures.use_of c.in_ok-mantissa.ensures in
     from_both c.add_node.result
-    (λ n b. built_parts c.args.name.now c.args.optional (operator_data c.args.exponent.now) (operator_data c.args.mantissa.now) f g (data_of c.args.nodes.now) (data_of c.add_node.new.nodes) c.args.body.now.items c.add_node.new.body.items is_f is_g n b)
+    (λ n b. built_parts c.args.name.now c.args.optional (operator_data c.args.exponent.now) (operator_data c.args.mantissa.now) f g
+    (data_of c.args.nodes.now) (data_of c.add_node.new.nodes) c.args.body.now.items c.add_node.new.body.items is_f is_g n b)
     c.add_node.ensures.nodes c.add_node.ensures.body

@@ -25,7 +25,8 @@ pub add_node-requires : goal.add_node-requires
 add_node-requires c =
     let ts = map written_data c.args.self.now.set.now.templates.items in
     let d = scalar c.args.name.now c.args.optional c.args.kind (operator_data c.args.written.now) in
-    room_for {ts = ts} {entries = entries_of c.args.self.now.entries.now} {chain = c.args.at.chain} {s = scope_data c.args.at.scope} d (length (data_of c.args.nodes.now)) (omega arith) c.requires.can
+    room_for {ts = ts} {entries = entries_of c.args.self.now.entries.now} {chain = c.args.at.chain} {s = scope_data c.args.at.scope} d
+    (length (data_of c.args.nodes.now)) (omega arith) c.requires.can
 
 pub returns : goal.returns
 returns c =
@@ -34,5 +35,6 @@ returns c =
     let f = field_data c.in_ok-field.field in
     let is = subst (λ u. IsField es s u f) c.scalar_use.ensures.use_of c.in_ok-field.ensures in
     from_both c.add_node.result
-    (λ n b. built_field c.args.name.now c.args.optional c.args.kind (operator_data c.args.written.now) f (data_of c.args.nodes.now) (data_of c.add_node.new.nodes) c.args.body.now.items c.add_node.new.body.items is n b)
+    (λ n b. built_field c.args.name.now c.args.optional c.args.kind (operator_data c.args.written.now) f (data_of c.args.nodes.now)
+    (data_of c.add_node.new.nodes) c.args.body.now.items c.add_node.new.body.items is n b)
     c.add_node.ensures.nodes c.add_node.ensures.body

@@ -12,19 +12,23 @@ follow-requires-clause-target c =
     let targets = c.deref.result.now in
     let i = c.in-Some.step.followed in
     let (below, is) = c.in-Some-get.ensures.lookup.3 in
-    let here : k < length graph = (All-pop (λ (s : Step). s.template < length graph) c.args.self.now.path.items c.pop.new.self.items (Some c.in-Some.step) c.in-Some.ensures.items c.args.self.now.path_within).1 in
-    let refers = refers_here graph k c.index-self-step.result targets i here c.index-self-step.is (c.deref.ensures.value ∙ ap numbers (sym c.index-self-step.is)) below in
+    let here : k < length graph = (All-pop (λ (s : Step). s.template < length graph) c.args.self.now.path.items c.pop.new.self.items
+    (Some c.in-Some.step) c.in-Some.ensures.items c.args.self.now.path_within).1 in
+    let refers = refers_here graph k c.index-self-step.result targets i here c.index-self-step.is
+    (c.deref.ensures.value ∙ ap numbers (sym c.index-self-step.is)) below in
     subst (λ target. target < length graph) (sym (is 0)) (c.args.self.now.graph_within k (get_or targets i 0) refers)
 
 pub leave-requires : goal.leave-requires
 leave-requires c =
     let graph = c.args.self.now.graph.now in
-    (All-pop (λ (s : Step). s.template < length graph) c.args.self.now.path.items c.pop.new.self.items (Some c.in-Some.step) c.in-Some.ensures.items c.args.self.now.path_within).1
+    (All-pop (λ (s : Step). s.template < length graph) c.args.self.now.path.items c.pop.new.self.items
+    (Some c.in-Some.step) c.in-Some.ensures.items c.args.self.now.path_within).1
 
 pub follow-requires-clause-template : goal.follow-requires-clause-template
 follow-requires-clause-template c =
     let graph = c.args.self.now.graph.now in
-    (All-pop (λ (s : Step). s.template < length graph) c.args.self.now.path.items c.pop.new.self.items (Some c.in-Some.step) c.in-Some.ensures.items c.args.self.now.path_within).1
+    (All-pop (λ (s : Step). s.template < length graph) c.args.self.now.path.items c.pop.new.self.items
+    (Some c.in-Some.step) c.in-Some.ensures.items c.args.self.now.path_within).1
 
 pub invariant_of-self-in-Some-get : goal.invariant_of-self-in-Some-get
 invariant_of-self-in-Some-get c = record {

@@ -10,7 +10,8 @@ returns c = (c.in-Some.place, key_data c.in_ok-key.key, sym c.if-not-keeps_value
 pub unreachable-requires : goal.unreachable-requires
 unreachable-requires c =
     c.in-None.ensures.none
-    (is_there (entries_of c.args.self.now) (scope_data c.args.scope) (use_data c.args.used) (key_data c.in_ok-key.key) (sym c.if-not-keeps_value.ensures) c.in_ok-key.ensures c.requires.there)
+    (is_there (entries_of c.args.self.now) (scope_data c.args.scope) (use_data c.args.used) (key_data c.in_ok-key.key)
+    (sym c.if-not-keeps_value.ensures) c.in_ok-key.ensures c.requires.there)
 
 pub returns-then-not-keeps_value : goal.returns-then-not-keeps_value
 returns-then-not-keeps_value c = sym c.if-not-keeps_value.ensures

@@ -1,7 +1,8 @@
 use Rattle.std.proofs.Common.{◌<◌, ◌^◌, map, subst, sym, ◌∙◌, arith, inl, inr, Some}
 use Rattle.fast_tree.specs.meaning.Numbers.{NameLaterNodes}
 use Rattle.fast_notation.specs.device.WrittenSets.{written_data}
-use Rattle.fast_notation.proofs.nodes.BuiltSets.{built_in_preorder, built_names_nodes, built_names_later_nodes, built_distinct_ids, built_few_nodes, built_count}
+use Rattle.fast_notation.proofs.nodes.BuiltSets.{built_in_preorder, built_names_nodes, built_names_later_nodes, built_distinct_ids}
+use Rattle.fast_notation.proofs.nodes.BuiltSets.{built_few_nodes, built_count}
 use Rattle.fast_notation.proofs.nodes.BuiltUsable.{built_usable}
 use Rattle.fast_tree.specs.meaning.NodeData.{node_data}
 use Rattle.fast_tree.specs.device.Usable.{AreUsable}
@@ -17,10 +18,12 @@ use Rattle.fast_notation.proofs.texts.ReadingSteps.{no_ok, told_err}
 use Rattle.fast_notation.proofs.sets.CheckedSet.read.Goals as goal
 
 pub check_segments-requires-clause-later : goal.check_segments-requires-clause-later
-check_segments-requires-clause-later c = subst NameLaterNodes (sym c.deref.ensures.value) (built_names_later_nodes c.in-Ok.built.nodes.items c.in-Ok.built.templates.items c.in-Ok.ensures.are_built)
+check_segments-requires-clause-later c = subst NameLaterNodes (sym c.deref.ensures.value)
+    (built_names_later_nodes c.in-Ok.built.nodes.items c.in-Ok.built.templates.items c.in-Ok.ensures.are_built)
 
 pub check_segments-requires-clause-named : goal.check_segments-requires-clause-named
-check_segments-requires-clause-named c = rw (c.deref.ensures.value, c.deref-2.ensures.value) (built_names_nodes c.in-Ok.built.nodes.items c.in-Ok.built.templates.items c.in-Ok.ensures.are_built)
+check_segments-requires-clause-named c = rw (c.deref.ensures.value, c.deref-2.ensures.value)
+    (built_names_nodes c.in-Ok.built.nodes.items c.in-Ok.built.templates.items c.in-Ok.ensures.are_built)
 
 pub check_segments-requires-clause-few : goal.check_segments-requires-clause-few
 check_segments-requires-clause-few c =
@@ -33,7 +36,13 @@ returns-in-Err-clause-fault c =
     let w = c.in_ok-set.ensures.set in
     let ts = map written_data c.in_ok-set.set.templates.items in
     let f = rw (c.deref.ensures.value, c.deref-2.ensures.value) at c.in-Err.ensures.wide in
-    inr (record { document = w.document; written = ts; reads = w.reads; shape = w.shape; stands = wide_stands ts c.in-Ok.built c.in-Err.template f.0 c.in-Ok.ensures f.1 f.2 })
+    inr (record {
+      document = w.document;
+      written = ts;
+      reads = w.reads;
+      shape = w.shape;
+      stands = wide_stands ts c.in-Ok.built c.in-Err.template f.0 c.in-Ok.ensures f.1 f.2;
+    })
 
 pub invariant_of-result : goal.invariant_of-result
 invariant_of-result c =
@@ -66,7 +75,8 @@ returns-clause-read c =
     let narrow = rw (c.deref.ensures.value, c.deref-2.ensures.value) at c.in_default-check_segments.ensures.narrow in (
       w.document,
       w.reads,
-      tree_read w.document ts c.in-Ok.built c.in-Ok.ensures w.names w.ids w.shape w.sound c.in_ok-check_chains.ensures.shallow c.in_ok-check_chains.ensures.few_nodes narrow,
+      tree_read w.document ts c.in-Ok.built c.in-Ok.ensures w.names w.ids w.shape w.sound c.in_ok-check_chains.ensures.shallow
+          c.in_ok-check_chains.ensures.few_nodes narrow,
     )
 
 pub returns-in_err-set-clause-none : goal.returns-in_err-set-clause-none
@@ -89,7 +99,13 @@ returns-in-Err-clause-none c other document t is h =
     let w = c.in_ok-set.ensures.set in
     let ts = map written_data c.in_ok-set.set.templates.items in
     let f = rw (c.deref.ensures.value, c.deref-2.ensures.value) at c.in-Err.ensures.wide in
-    let fault = inr (record { document = w.document; written = ts; reads = w.reads; shape = w.shape; stands = wide_stands ts c.in-Ok.built c.in-Err.template f.0 c.in-Ok.ensures f.1 f.2 }) in
+    let fault = inr (record {
+      document = w.document;
+      written = ts;
+      reads = w.reads;
+      shape = w.shape;
+      stands = wide_stands ts c.in-Ok.built c.in-Err.template f.0 c.in-Ok.ensures f.1 f.2;
+    }) in
     no_tree (parse_document c.args.text.now) C5 (Some c.in-Err.template) fault other document t is h
 
 pub returns-in_err-check_chains-clause-first : goal.returns-in_err-check_chains-clause-first
@@ -110,7 +126,11 @@ returns-in-Err-clause-first c =
     let narrow = rw (c.deref.ensures.value, c.deref-2.ensures.value) at c.in-Err.ensures.first in
     let chains = c.in_ok-check_chains.ensures in
     let first =
-    first_width ts c.in-Ok.built k (record { names = w.names; ids = w.ids; sound = w.sound }) w.known (λ j d inside. (chains.fits j d inside, chains.shallow j d inside)) chains.few_nodes c.in-Ok.ensures narrow in
+    first_width ts c.in-Ok.built k (record {
+      names = w.names;
+      ids = w.ids;
+      sound = w.sound;
+    }) w.known (λ j d inside. (chains.fits j d inside, chains.shallow j d inside)) chains.few_nodes c.in-Ok.ensures narrow in
     written_first (parse_document c.args.text.now) w.document ts C5 (Some k) w.reads w.shape (wide_stands ts c.in-Ok.built k f.0 c.in-Ok.ensures f.1 f.2) first
 
 pub returns-in_err-set-clause-read : goal.returns-in_err-set-clause-read
@@ -151,7 +171,15 @@ pub build_set-requires : goal.build_set-requires
 build_set-requires c =
     let w = c.in_ok-set.ensures.set in
     let chains = c.in_ok-check_chains.ensures in
-    record { many = w.shape.4; index = c.in_ok-set.ensures.names; names = w.names; known = w.known; sound = w.sound; fits = chains.fits; few = chains.few_nodes }
+    record {
+      many = w.shape.4;
+      index = c.in_ok-set.ensures.names;
+      names = w.names;
+      known = w.known;
+      sound = w.sound;
+      fits = chains.fits;
+      few = chains.few_nodes;
+    }
 
 pub returns-in_default-clause-read : goal.returns-in_default-clause-read
 returns-in_default-clause-read c = tt

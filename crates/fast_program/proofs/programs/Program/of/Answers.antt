@@ -37,7 +37,9 @@ returns c =
       rests = bodies.extends.kept 0 [] (templates.extends.kept 0 [] (rests_first c.push.new.self.items c.end.result is c.end.ensures.code));
       suits = bodies.extends.suit (templates.extends.suit (suit_first ns c.push.new.self.items c.end.result is c.end.ensures.code));
       numbered = bodies.extends.numbered (templates.extends.numbered (numbered_first c.push.new.self.items c.end.result is c.end.ensures.at));
-      templates = kept_starts IsStartOf c.add_templates.new.ops.items c.add_bodies.new.ops.items c.in_ok-template_starts.template_starts.items c.args.templates.now (kept_start ns c.add_templates.new.ops.items c.add_bodies.new.ops.items bodies.extends) templates.starts;
+      templates = kept_starts IsStartOf c.add_templates.new.ops.items c.add_bodies.new.ops.items
+          c.in_ok-template_starts.template_starts.items c.args.templates.now
+          (kept_start ns c.add_templates.new.ops.items c.add_bodies.new.ops.items bodies.extends) templates.starts;
       order = templates.order;
       bodies = bodies.starts;
     }

@@ -15,7 +15,8 @@ returns-then-put-clause-ok c e h =
     record {
       same = c.put.ensures.same;
       grows = c.if-put.ensures.put.grows;
-      shows = shows_put c.args.self.now c.put.new.self e place c.content-next.result [] refl (ap unplaced next ∙ h.record_is place) (sym h.text_is) c.if-put.ensures.put c.put.ensures.waiting;
+      shows = shows_put c.args.self.now c.put.new.self e place c.content-next.result [] refl (ap unplaced next ∙ h.record_is place)
+          (sym h.text_is) c.if-put.ensures.put c.put.ensures.waiting;
     }
 
 pub returns-clause-ok : goal.returns-clause-ok

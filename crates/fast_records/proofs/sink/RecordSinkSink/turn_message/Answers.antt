@@ -15,11 +15,13 @@ returns-clause-both c =
       record {
         same = a.ensures.same;
         grows = a.ensures.adds.grows;
-        shows = shows_put c.args.self.now a.new.self MessageEnd (length (texts_in (room_of c.args.self.now))) c.content.result [] refl (ap unplaced c.content.ensures) refl a.ensures.adds a.ensures.waiting;
+        shows = shows_put c.args.self.now a.new.self MessageEnd (length (texts_in (room_of c.args.self.now))) c.content.result [] refl
+            (ap unplaced c.content.ensures) refl a.ensures.adds a.ensures.waiting;
       },
       record {
         same = b.ensures.same;
         grows = b.ensures.adds.grows;
-        shows = shows_put a.new.self b.new.self (MessageStart c.args.template) (length (texts_in (room_of a.new.self))) c.content-2.result [] refl (ap unplaced c.content-2.ensures) refl b.ensures.adds b.ensures.waiting;
+        shows = shows_put a.new.self b.new.self (MessageStart c.args.template) (length (texts_in (room_of a.new.self))) c.content-2.result
+            [] refl (ap unplaced c.content-2.ensures) refl b.ensures.adds b.ensures.waiting;
       },
     )

@@ -1,4 +1,5 @@
-use Rattle.std.proofs.Common.{◌≡◌, ◌⊎◌, ℕ, ◌<◌, ◌≤◌, Bool, true, false, List, [], ◌++◌, Some, Ok, Err, refl, sym, ap, inl, inr, length, length-take, take, arith, ◌∙◌, append-nil, rules}
+use Rattle.std.proofs.Common.{◌≡◌, ◌⊎◌, ℕ, ◌<◌, ◌≤◌, Bool, true, false, List, [], ◌++◌, Some, Ok, Err, refl, sym, ap, inl, inr, length}
+use Rattle.std.proofs.Common.{length-take, take, arith, ◌∙◌, append-nil, rules}
 use Rattle.std.specs.Prelude.{IsTrue, is_some}
 use Rattle.std.specs.Io.KnownBytes.{IsAtEnd}
 use Rattle.fast_decoder.specs.meaning.Decoding.{tree}
@@ -36,8 +37,12 @@ returns-then-count-eq0 g c =
     let none : take c.in-Ok.count c.read.new.buf ≡ [] = ap (λ (n : ℕ). take n c.read.new.buf) c.if-count-eq0.true in
     let given = rw none at c.in-Ok.ensures.bytes in
     let room : 0 < length c.read.new.buf = omega (arith, c.read.auto.buf) in
-    let over = c.in-Ok.ensures.end c.if-count-eq0.true room in
-    (h.text, reads_no_more _ _ _ h.text h.read given, at_end _ _ _ _ _ c.args.output.now.chooser _ _ _ _ _ _ h.text h.bytes h.events c.end.result (gives_flushed _ _ _ _ _ _ h.given flushed) over (c.end.ensures _ _ _ h.text h.bytes h.events h.progress))
+    let over = c.in-Ok.ensures.end c.if-count-eq0.true room in (
+      h.text,
+      reads_no_more _ _ _ h.text h.read given,
+      at_end _ _ _ _ _ c.args.output.now.chooser _ _ _ _ _ _ h.text h.bytes h.events
+          c.end.result (gives_flushed _ _ _ _ _ _ h.given flushed) over (c.end.ensures _ _ _ h.text h.bytes h.events h.progress),
+    )
 
 pub returns : goal.returns
 returns g c =
@@ -61,8 +66,14 @@ returns-in-Err-feed g c =
     let piece = take c.in-Ok.count c.read.new.buf in
     let small : length (take c.in-Ok.count c.read.new.buf) ≤ 4096 = omega (arith, length-take c.in-Ok.count c.read.new.buf, c.read.auto.buf) in
     let counted = round_counts _ _ _ _ _ _ _ _ _ _ c.args.max_reads _ _ _ h c.loop-read-test.true c.requires.few small in
-    let fed = c.in-Err-feed.ensures.fed h.text h.bytes h.events h.progress.so h.progress.taken in
-    (h.text ++ piece, reads_both _ _ _ h.text piece h.read c.in-Ok.ensures.bytes, rw (c.ending_at.ensures, c.is_full-full.ensures) (fault_ends _ _ _ _ _ _ c.args.output.now.chooser _ _ _ _ _ _ _ _ _ _ h.text h.bytes piece h.events c.in-Err-feed.fault h.progress h.given flushed h.chooser (sym c.is_full.ensures ∙ c.if-is_full.false) c.feed.ensures.same_set c.feed.ensures.hex (this_fault _ _ c.in-Err-feed.ensures.answer) counted (λ old e stops. g.met.O.Output.stops_failed old e _ stops) fed))
+    let fed = c.in-Err-feed.ensures.fed h.text h.bytes h.events h.progress.so h.progress.taken in (
+      h.text ++ piece,
+      reads_both _ _ _ h.text piece h.read c.in-Ok.ensures.bytes,
+      rw (c.ending_at.ensures, c.is_full-full.ensures) (fault_ends _ _ _ _ _ _ c.args.output.now.chooser _ _ _ _ _ _ _ _ _ _ h.text
+          h.bytes piece h.events c.in-Err-feed.fault h.progress h.given flushed h.chooser
+          (sym c.is_full.ensures ∙ c.if-is_full.false) c.feed.ensures.same_set c.feed.ensures.hex
+          (this_fault _ _ c.in-Err-feed.ensures.answer) counted (λ old e stops. g.met.O.Output.stops_failed old e _ stops) fed),
+    )
 
 pub returns-in-Some : goal.returns-in-Some
 returns-in-Some g c =
@@ -72,7 +83,8 @@ returns-in-Some g c =
     let some : 0 < length (take c.in-Ok.count c.read.new.buf) = omega (arith, length-take c.in-Ok.count c.read.new.buf, c.in-Ok.ensures.count) in
     let small : length (take c.in-Ok.count c.read.new.buf) ≤ 4096 = omega (arith, length-take c.in-Ok.count c.read.new.buf, c.read.auto.buf) in
     let fed = c.in-Ok-feed.ensures.fed h.text h.bytes h.events h.progress.so h.progress.taken in
-    let r = round_more _ _ _ _ _ _ _ _ _ _ _ _ _ _ _ _ _ piece tt h flushed c.in-Ok.ensures.bytes some small c.feed.ensures.same_set c.feed.ensures.hex (no_fault _ tt c.in-Ok-feed.ensures.answer) fed in
+    let r = round_more _ _ _ _ _ _ _ _ _ _ _ _ _ _ _ _ _ piece tt h flushed c.in-Ok.ensures.bytes some small c.feed.ensures.same_set
+    c.feed.ensures.hex (no_fault _ tt c.in-Ok-feed.ensures.answer) fed in
     (r.text, r.read, bad_character_ends _ _ _ _ _ _ _ _ _ _ _ _ _ r c.in-Some.ensures.found)
 
 pub loop-read-preserved : goal.loop-read-preserved
@@ -83,4 +95,5 @@ loop-read-preserved g c =
     let some : 0 < length (take c.in-Ok.count c.read.new.buf) = omega (arith, length-take c.in-Ok.count c.read.new.buf, c.in-Ok.ensures.count) in
     let small : length (take c.in-Ok.count c.read.new.buf) ≤ 4096 = omega (arith, length-take c.in-Ok.count c.read.new.buf, c.read.auto.buf) in
     let fed = c.in-Ok-feed.ensures.fed h.text h.bytes h.events h.progress.so h.progress.taken in
-    round_more _ _ _ _ _ _ _ _ _ _ _ _ _ _ _ _ _ piece tt h flushed c.in-Ok.ensures.bytes some small c.feed.ensures.same_set c.feed.ensures.hex (no_fault _ tt c.in-Ok-feed.ensures.answer) fed
+    round_more _ _ _ _ _ _ _ _ _ _ _ _ _ _ _ _ _ piece tt h flushed c.in-Ok.ensures.bytes some small c.feed.ensures.same_set
+    c.feed.ensures.hex (no_fault _ tt c.in-Ok-feed.ensures.answer) fed

@@ -9,11 +9,18 @@ use Rattle.fast_spelling.proofs.checking.absences.try_no_default.Goals as goal
 pub write_no_default-requires-clause-served : goal.write_no_default-requires-clause-served
 write_no_default-requires-clause-served c =
     let k = c.known_at-at.ensures in
-    served c.args.plan.now.templates.now c.args.plan.now.limits c.args.work.now.ledger (field_data c.known_at-at.result.field.now) c.requires.ready k.usable k.initial
+    served c.args.plan.now.templates.now c.args.plan.now.limits c.args.work.now.ledger
+    (field_data c.known_at-at.result.field.now) c.requires.ready k.usable k.initial
 
 pub returns-clause-ok : goal.returns-clause-ok
 returns-clause-ok c = on_ok c.write_no_default.result c.write_no_default.ensures.ok (λ k.
     let l = c.args.plan.now.limits in
     let h = k l c.requires.ready.room in
-    let i = instruction_in (nodes_of c.args.plan.now.templates.now) c.args.node in
-    (h.0, h.1, h.2, h.3, absent_encodes l i (field_data c.known_at-at.result.field.now) c.args.work.now.ledger.now h.0 h.1 c.write_no_default.new.ledger.now (sym (ap head_in c.known_at-at.ensures.instruction.1)) h.4))
+    let i = instruction_in (nodes_of c.args.plan.now.templates.now) c.args.node in (
+      h.0,
+      h.1,
+      h.2,
+      h.3,
+      absent_encodes l i (field_data c.known_at-at.result.field.now) c.args.work.now.ledger.now h.0 h.1
+          c.write_no_default.new.ledger.now (sym (ap head_in c.known_at-at.ensures.instruction.1)) h.4,
+    ))

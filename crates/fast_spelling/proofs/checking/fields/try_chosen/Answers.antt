@@ -19,7 +19,8 @@ use Rattle.fast_spelling.proofs.checking.fields.try_chosen.Goals as goal
 pub choose_value-requires-clause-served : goal.choose_value-requires-clause-served
 choose_value-requires-clause-served c =
     let k = c.field_at-field.ensures in
-    served c.args.plan.now.templates.now c.args.plan.now.limits c.args.work.now.ledger (field_data c.field_at-field.result.now) c.requires.ready k.usable k.initial
+    served c.args.plan.now.templates.now c.args.plan.now.limits c.args.work.now.ledger
+    (field_data c.field_at-field.result.now) c.requires.ready k.usable k.initial
 
 pub returns-clause-ok : goal.returns-clause-ok
 returns-clause-ok c =
@@ -32,8 +33,11 @@ returns-clause-ok c =
     let after = c.choose_value.new.ledger.now in
     let v = value_data c.args.value.now in
     let y : Option ItemData = Some (one v) in
-    on_ok c.choose_value.result c.choose_value.ensures.ok (λ k. encodes_as l (instruction_in (nodes_of c.args.plan.now.templates.now) c.args.node) (field at f) y y d old new after c.field_at-field.ensures.instruction.1 refl
-    (field_encodes l at f v d old new after (subst (λ (z : ScalarData). Wrote (EncodesField l f d (Some z)) old new after) c.in-Some.ensures.0 (k l c.requires.ready.room))))
+    on_ok c.choose_value.result c.choose_value.ensures.ok (λ k. encodes_as l
+    (instruction_in (nodes_of c.args.plan.now.templates.now) c.args.node)
+    (field at f) y y d old new after c.field_at-field.ensures.instruction.1 refl
+    (field_encodes l at f v d old new after (subst (λ (z : ScalarData). Wrote (EncodesField l f d (Some z)) old new after)
+    c.in-Some.ensures.0 (k l c.requires.ready.room))))
 
 pub field_at-field-requires-clause-node : goal.field_at-field-requires-clause-node
 field_at-field-requires-clause-node c = c.requires.node
@@ -48,12 +52,16 @@ pub returns-clause-keeps : goal.returns-clause-keeps
 returns-clause-keeps c = c.choose_value.ensures.keeps
 
 pub choose_value-requires-clause-suited : goal.choose_value-requires-clause-suited
-choose_value-requires-clause-suited c = suited_as c.args.work.now.ledger.max_text (field_data c.field_at-field.result.now) c.args.kind (scalar_data c.in-Some.scalar) (value_data c.args.value.now) c.field_at-field.ensures.kind c.in-Some.ensures.0 c.in-Some.ensures.1 (subst (λ (m : ℕ). length (text_of (value_data c.args.value.now)) ≤ m) c.requires.ready.room c.in-Some.ensures.2)
+choose_value-requires-clause-suited c = suited_as c.args.work.now.ledger.max_text (field_data c.field_at-field.result.now) c.args.kind
+    (scalar_data c.in-Some.scalar) (value_data c.args.value.now) c.field_at-field.ensures.kind c.in-Some.ensures.0 c.in-Some.ensures.1
+    (subst (λ (m : ℕ). length (text_of (value_data c.args.value.now)) ≤ m) c.requires.ready.room c.in-Some.ensures.2)
 
 pub returns-clause-suits : goal.returns-clause-suits
 returns-clause-suits c =
     let here = c.field_at-field.ensures.instruction in
-    on_any c.choose_value.result (field_suits (instruction_in (nodes_of c.args.plan.now.templates.now) c.args.node) here.0 (field_data c.field_at-field.result.now) c.args.kind (value_data c.args.value.now) here.1 c.field_at-field.ensures.kind c.in-Some.ensures.1)
+    on_any c.choose_value.result (field_suits (instruction_in (nodes_of c.args.plan.now.templates.now) c.args.node) here.0
+    (field_data c.field_at-field.result.now) c.args.kind
+    (value_data c.args.value.now) here.1 c.field_at-field.ensures.kind c.in-Some.ensures.1)
 
 pub returns-clause-fits : goal.returns-clause-fits
 returns-clause-fits c = on_any c.choose_value.result c.in-Some.ensures.2

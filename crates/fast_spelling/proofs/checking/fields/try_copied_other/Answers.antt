@@ -19,7 +19,8 @@ use Rattle.fast_spelling.proofs.checking.fields.try_copied_other.Goals as goal
 pub write_copied_other-requires-clause-served : goal.write_copied_other-requires-clause-served
 write_copied_other-requires-clause-served c =
     let k = c.known_at-at.ensures in
-    served c.args.plan.now.templates.now c.args.plan.now.limits c.args.work.now.ledger (field_data c.known_at-at.result.field.now) c.requires.ready k.usable k.initial
+    served c.args.plan.now.templates.now c.args.plan.now.limits c.args.work.now.ledger
+    (field_data c.known_at-at.result.field.now) c.requires.ready k.usable k.initial
 
 pub returns-clause-ok : goal.returns-clause-ok
 returns-clause-ok c =
@@ -32,8 +33,11 @@ returns-clause-ok c =
     let after = c.write_copied_other.new.ledger.now in
     let v = value_data c.args.value.now in
     let y : Option ItemData = Some (one v) in
-    on_ok c.write_copied_other.result c.write_copied_other.ensures.ok (λ k. encodes_as l (instruction_in (nodes_of c.args.plan.now.templates.now) c.args.node) (field at f) y y d old new after c.known_at-at.ensures.instruction.1 refl
-    (field_encodes l at f v d old new after (subst (λ (z : ScalarData). Wrote (EncodesField l f d (Some z)) old new after) c.in-Some.ensures.0 (k l c.requires.ready.room))))
+    on_ok c.write_copied_other.result c.write_copied_other.ensures.ok
+    (λ k. encodes_as l (instruction_in (nodes_of c.args.plan.now.templates.now) c.args.node)
+    (field at f) y y d old new after c.known_at-at.ensures.instruction.1 refl
+    (field_encodes l at f v d old new after (subst (λ (z : ScalarData). Wrote (EncodesField l f d (Some z)) old new after)
+    c.in-Some.ensures.0 (k l c.requires.ready.room))))
 
 pub known_at-at-requires-clause-node : goal.known_at-at-requires-clause-node
 known_at-at-requires-clause-node c = c.requires.node
@@ -51,12 +55,17 @@ pub returns-clause-keeps : goal.returns-clause-keeps
 returns-clause-keeps c = c.write_copied_other.ensures.keeps
 
 pub write_copied_other-requires-clause-suited : goal.write_copied_other-requires-clause-suited
-write_copied_other-requires-clause-suited c = suited_as c.args.work.now.ledger.max_text (field_data c.known_at-at.result.field.now) c.args.kind (scalar_data c.in-Some.scalar) (value_data c.args.value.now) c.known_at-at.ensures.kind c.in-Some.ensures.0 c.in-Some.ensures.1 (subst (λ (m : ℕ). length (text_of (value_data c.args.value.now)) ≤ m) c.requires.ready.room c.in-Some.ensures.2)
+write_copied_other-requires-clause-suited c = suited_as c.args.work.now.ledger.max_text
+    (field_data c.known_at-at.result.field.now) c.args.kind (scalar_data c.in-Some.scalar)
+    (value_data c.args.value.now) c.known_at-at.ensures.kind c.in-Some.ensures.0 c.in-Some.ensures.1
+    (subst (λ (m : ℕ). length (text_of (value_data c.args.value.now)) ≤ m) c.requires.ready.room c.in-Some.ensures.2)
 
 pub returns-clause-suits : goal.returns-clause-suits
 returns-clause-suits c =
     let here = c.known_at-at.ensures.instruction in
-    on_any c.write_copied_other.result (field_suits (instruction_in (nodes_of c.args.plan.now.templates.now) c.args.node) here.0 (field_data c.known_at-at.result.field.now) c.args.kind (value_data c.args.value.now) here.1 c.known_at-at.ensures.kind c.in-Some.ensures.1)
+    on_any c.write_copied_other.result (field_suits (instruction_in (nodes_of c.args.plan.now.templates.now) c.args.node) here.0
+    (field_data c.known_at-at.result.field.now) c.args.kind
+    (value_data c.args.value.now) here.1 c.known_at-at.ensures.kind c.in-Some.ensures.1)
 
 pub returns-clause-fits : goal.returns-clause-fits
 returns-clause-fits c = on_any c.write_copied_other.result c.in-Some.ensures.2

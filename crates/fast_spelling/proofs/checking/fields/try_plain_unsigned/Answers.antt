@@ -32,7 +32,8 @@ pub returns-clause-suits : goal.returns-clause-suits
 returns-clause-suits c =
     let h = c.note_field.ensures.there.1 in
     let v = value_data c.args.value.now in
-    subst (λ (i : Instruction). Suits i (Some (one v))) (sym h.instruction.1) (subst (λ (k : Kind). IsRight k v) (sym h.of_kind) (c.in-Some-U.ensures.right refl))
+    subst (λ (i : Instruction). Suits i (Some (one v))) (sym h.instruction.1)
+    (subst (λ (k : Kind). IsRight k v) (sym h.of_kind) (c.in-Some-U.ensures.right refl))
 
 pub returns-clause-ok : goal.returns-clause-ok
 returns-clause-ok c =
@@ -56,17 +57,27 @@ returns-clause-ok c =
     let nullable : f.optional ≡ step.nullable = ap (λ (s : Step). s.nullable) of_field in
     let is : U c.in-Some-U.number ≡ v = sym (ap scalar_data c.in-Some-U.field-0-is) ∙ c.in-Some-U.ensures.value in
     let w = c.in_ok-write_unsigned_as.ensures in
-    let spelled : SpellsItem f (value v) w.0 = subst (λ (z : ScalarData). SpellsItem f (value z) w.0) is (subst (λ (b : Bool). IsShortest false b (Some (pos c.in-Some-U.number)) w.0) (sym nullable) w.2) in
+    let spelled : SpellsItem f (value v) w.0 = subst (λ (z : ScalarData). SpellsItem f (value z) w.0) is
+    (subst (λ (b : Bool). IsShortest false b (Some (pos c.in-Some-U.number)) w.0) (sym nullable) w.2) in
     let right : IsRight f.kind v = subst (λ (k : Kind). IsRight k v) (sym h.of_kind) (c.in-Some-U.ensures.right refl) in
     let none : length (text_of v) ≡ 0 = ap length (c.in-Some-U.ensures.short refl) in
     let small = c.requires.ready.small in
     let suited : IsSuited l.max_text f (Some v) = (right, omega (arith, none)) in
     let p : PreviousData = previous_at f.entry d in
     let unused : uses_bit f ≡ false = ap (λ (o : Operator). operator_uses_bit o f.optional) h.under in
-    let kept : d ≡ write_at f.entry (next_by f.operator f.kind p (Some v)) d = sym (ap (λ (o : Operator). write_at f.entry (next_by o f.kind p (Some v)) d) h.under ∙ write_back f.entry d) in
-    let says = field_done l f d p (Some v) true (value v) [] w.0 d refl h.usable.tail suited (plain_ruled f p v h.under) (value_sendable f.kind v l.max_text small right (omega (arith, none))) spelled (ap (λ (u : Bool). if u then true ∷ [] else []) (sym unused)) kept in
-    encodes_as l (instruction_in nodes c.args.node) (field h.instruction.0 f) y y d old (record { bits = old.bits; bytes = c.write_unsigned_as.new.bytes }) d h.instruction.1 refl
-    (field_encodes l h.instruction.0 f v d old (record { bits = old.bits; bytes = c.write_unsigned_as.new.bytes }) d ([], w.0, sym (append-nil old.bits.items), w.1, says))
+    let kept : d ≡ write_at f.entry (next_by f.operator f.kind p (Some v)) d =
+    sym (ap (λ (o : Operator). write_at f.entry (next_by o f.kind p (Some v)) d) h.under ∙ write_back f.entry d) in
+    let says = field_done l f d p (Some v) true (value v) [] w.0 d refl h.usable.tail suited (plain_ruled f p v h.under)
+    (value_sendable f.kind v l.max_text small right (omega (arith, none))) spelled
+    (ap (λ (u : Bool). if u then true ∷ [] else []) (sym unused)) kept in
+    encodes_as l (instruction_in nodes c.args.node) (field h.instruction.0 f) y y d old (record {
+      bits = old.bits;
+      bytes = c.write_unsigned_as.new.bytes;
+    }) d h.instruction.1 refl
+    (field_encodes l h.instruction.0 f v d old (record {
+      bits = old.bits;
+      bytes = c.write_unsigned_as.new.bytes;
+    }) d ([], w.0, sym (append-nil old.bits.items), w.1, says))
 
 pub branch-write_unsigned_as-requires : goal.branch-write_unsigned_as-requires
 branch-write_unsigned_as-requires c κs = (λ a m. absurd (not-mem-nil m), λ a m. absurd (not-mem-nil m))

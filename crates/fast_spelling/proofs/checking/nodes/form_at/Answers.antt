@@ -17,5 +17,6 @@ returns c = λ x found.
     let same : steps ≡ steps_of nodes = c.args.plan.now.steps_fit in
     let long : length steps ≡ length nodes = ap length same ∙ length-map nodes (λ (v : Node). step_of v.shape) in
     let inside : c.args.node < length steps = let low = c.requires in omega (arith, low, long) in
-    let read : slice_get steps c.args.node ≡ Some c.index.result.now = slice_get_read steps (length steps) c.args.node c.index.result.now refl inside c.index.ensures in
+    let read : slice_get steps c.args.node ≡ Some c.index.result.now =
+    slice_get_read steps (length steps) c.args.node c.index.result.now refl inside c.index.ensures in
     says_at nodes c.args.node c.index.result.now x (subst (λ (z : List Step). slice_get z c.args.node ≡ Some c.index.result.now) same read) found

@@ -22,7 +22,8 @@ some_is : (x y : Node) → Some x ≡ Some y → x ≡ y
 some_is x y e = cc
 
 -- the shape is that of a field
-that_field : (t : Templates) (n : ℕ) (k : Kind) (o : Operator) (x : Node) (s : Shape) → x.shape ≡ s → IsFieldOf k o s → slice_get (nodes_of t) n ≡ Some x → AreBetween n (length (nodes_of t)) (numbers_of x.shape)
+that_field : (t : Templates) (n : ℕ) (k : Kind) (o : Operator) (x : Node) (s : Shape) → x.shape ≡ s → IsFieldOf k o s
+    → slice_get (nodes_of t) n ≡ Some x → AreBetween n (length (nodes_of t)) (numbers_of x.shape)
     → IsUsableShape (tree_of t).entries (shape_data x.shape) → (f : FieldInstruction) × IsThatField t n k o f
 that_field t n k o x (Field f) is of found between usable = (
   f,
@@ -42,4 +43,7 @@ that_field t n k o x (Sequence l body) is of found between usable = absurd of
 pub returns : goal.returns
 returns c =
     let x = c.node.result.now in
-    record { there = that_field c.args.plan.now.templates.now c.args.node c.args.kind c.args.operator x x.shape refl (c.requires.form x c.node.ensures.found) c.node.ensures.found c.node.ensures.body c.node.ensures.usable }
+    record {
+      there = that_field c.args.plan.now.templates.now c.args.node c.args.kind c.args.operator x x.shape refl
+          (c.requires.form x c.node.ensures.found) c.node.ensures.found c.node.ensures.body c.node.ensures.usable;
+    }

@@ -16,7 +16,8 @@ returns-clause-ok c = elim c.if-has_map.branch [
       let b = drop c.args.mark.bits c.args.self.now.bits.items in (
         k.0,
         subst (λ (h : Bool). ShortestMap h b k.0) (sym w.if-has_map.true)
-            (subst (λ (z : List Bool). ShortestMap true z k.0) (take_rest w.deref.result.now c.args.mark.bits ∙ ap (drop c.args.mark.bits) w.deref.ensures.value) k.1),
+            (subst (λ (z : List Bool). ShortestMap true z k.0) (take_rest w.deref.result.now c.args.mark.bits
+            ∙ ap (drop c.args.mark.bits) w.deref.ensures.value) k.1),
         ap (λ (d : Draft). d.bytes.items) w.self-is ∙ k.2,
       )
   | else-has_map w ↦ (

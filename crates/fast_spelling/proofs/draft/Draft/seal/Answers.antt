@@ -19,7 +19,8 @@ returns-clause-ok c =
           let kept : place + 1 ≡ place + (if c.args.has_map then 1 else 0) = ap (λ (h : Bool). place + (if h then 1 else 0)) (sym w.if-has_map.true) in (
             k.0,
             subst (λ (h : Bool). ShortestMap h b k.0) (sym w.if-has_map.true)
-                (subst (λ (z : List Bool). ShortestMap true z k.0) (take_rest w.deref.result.now c.args.mark.bits ∙ ap (drop c.args.mark.bits) w.deref.ensures.value) k.1),
+                (subst (λ (z : List Bool). ShortestMap true z k.0)
+                (take_rest w.deref.result.now c.args.mark.bits ∙ ap (drop c.args.mark.bits) w.deref.ensures.value) k.1),
             ap (λ (d : Draft). d.bytes.items) w.self-is ∙ k.2 ∙ ap (λ (n : ℕ). take place old ++ (k.0 ++ drop n old)) kept,
           )
       | else-has_map w ↦

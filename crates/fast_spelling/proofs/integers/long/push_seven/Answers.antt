@@ -4,4 +4,9 @@ use Rattle.fast_spelling.proofs.bytes.Groups.{seven}
 use Rattle.fast_spelling.proofs.integers.long.push_seven.Goals as goal
 
 pub returns : goal.returns
-returns c = (c.args.number / 4398046511104 % 128 ∷ c.args.number / 34359738368 % 128 ∷ c.args.number / 268435456 % 128 ∷ c.args.number / 2097152 % 128 ∷ c.args.number / 16384 % 128 ∷ c.args.number / 128 % 128 ∷ (c.args.number % 128 + 128) ∷ [], c.in_ok-extend_from_slice.ensures.items, seven c.args.number c.requires)
+returns c = (
+  c.args.number / 4398046511104 % 128 ∷ c.args.number / 34359738368 % 128 ∷ c.args.number / 268435456 % 128
+      ∷ c.args.number / 2097152 % 128 ∷ c.args.number / 16384 % 128 ∷ c.args.number / 128 % 128 ∷ (c.args.number % 128 + 128) ∷ [],
+  c.in_ok-extend_from_slice.ensures.items,
+  seven c.args.number c.requires,
+)

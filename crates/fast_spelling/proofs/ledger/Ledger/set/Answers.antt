@@ -7,6 +7,8 @@ use Rattle.fast_spelling.proofs.ledger.Ledger.set.Goals as goal
 
 pub invariant_of-self : goal.invariant_of-self
 invariant_of-self c = record {
-  kept = c.assign_at.ensures.kept c.self.inside.max_text c.self.invariant.kept (subst (λ (m : ℕ). length (text_of (scalar_data c.args.scalar)) ≤ m) (sym (ap (λ (s : LedgerData). s.max_text) c.self.view_is)) c.requires.short);
+  kept = c.assign_at.ensures.kept c.self.inside.max_text c.self.invariant.kept
+      (subst (λ (m : ℕ). length (text_of (scalar_data c.args.scalar)) ≤ m)
+      (sym (ap (λ (s : LedgerData). s.max_text) c.self.view_is)) c.requires.short);
   begun = c.self.invariant.begun;
 }

@@ -28,19 +28,23 @@ send-requires-in-Delta-clause-ruled c =
 
 pub returns-in-None-clause-ok : goal.returns-in-None-clause-ok
 returns-in-None-clause-ok c = on_ok c.send.result c.send.ensures.ok (λ k l same.
-    subst (λ (g : FieldInstruction). Wrote (EncodesField l (field_data g) c.args.ledger.now.now None) c.args.draft.now c.send.new.draft c.send.new.ledger.now) c.of.ensures (k l same))
+    subst (λ (g : FieldInstruction). Wrote (EncodesField l (field_data g) c.args.ledger.now.now None) c.args.draft.now c.send.new.draft
+    c.send.new.ledger.now) c.of.ensures (k l same))
 
 pub returns-in-Delta-clause-ok : goal.returns-in-Delta-clause-ok
 returns-in-Delta-clause-ok c = on_ok c.send-in-Delta.result c.send-in-Delta.ensures.ok (λ k l same.
-    subst (λ (g : FieldInstruction). Wrote (EncodesField l (field_data g) c.args.ledger.now.now None) c.args.draft.now c.send-in-Delta.new.draft c.send-in-Delta.new.ledger.now) c.of-in-Delta.ensures (k l same))
+    subst (λ (g : FieldInstruction). Wrote (EncodesField l (field_data g) c.args.ledger.now.now None) c.args.draft.now
+    c.send-in-Delta.new.draft c.send-in-Delta.new.ledger.now) c.of-in-Delta.ensures (k l same))
 
 pub returns-in-Default-clause-ok : goal.returns-in-Default-clause-ok
 returns-in-Default-clause-ok c = on_ok c.write_no_default.result c.write_no_default.ensures.ok (λ k l same.
-    subst (λ (g : FieldInstruction). Wrote (EncodesField l (field_data g) c.args.ledger.now.now None) c.args.draft.now c.write_no_default.new.draft c.write_no_default.new.ledger.now) c.of-in-Default.ensures (k l same))
+    subst (λ (g : FieldInstruction). Wrote (EncodesField l (field_data g) c.args.ledger.now.now None) c.args.draft.now
+    c.write_no_default.new.draft c.write_no_default.new.ledger.now) c.of-in-Default.ensures (k l same))
 
 pub returns-in-Copy-clause-ok : goal.returns-in-Copy-clause-ok
 returns-in-Copy-clause-ok c = on_ok c.write_no_copy.result c.write_no_copy.ensures.ok (λ k l same.
-    subst (λ (g : FieldInstruction). Wrote (EncodesField l (field_data g) c.args.ledger.now.now None) c.args.draft.now c.write_no_copy.new.draft c.write_no_copy.new.ledger.now) c.of-in-Copy.ensures (k l same))
+    subst (λ (g : FieldInstruction). Wrote (EncodesField l (field_data g) c.args.ledger.now.now None) c.args.draft.now
+    c.write_no_copy.new.draft c.write_no_copy.new.ledger.now) c.of-in-Copy.ensures (k l same))
 
 pub send-requires-clause-operator : goal.send-requires-clause-operator
 send-requires-clause-operator c = ap (λ (g : FieldInstruction). g.operator) c.of.ensures
@@ -52,7 +56,8 @@ pub send-requires-clause-suited : goal.send-requires-clause-suited
 send-requires-clause-suited c = subst (λ (g : FieldInstruction). IsSuited c.args.ledger.now.max_text (field_data g) None) (sym c.of.ensures) c.requires.suited
 
 pub returns-in-None-clause-err : goal.returns-in-None-clause-err
-returns-in-None-clause-err c = subst (λ (g : FieldInstruction). IfErr c.send.result (IsTold (RefusesField (field_data g) c.args.ledger.now.now None))) c.of.ensures c.send.ensures.err
+returns-in-None-clause-err c = subst (λ (g : FieldInstruction). IfErr c.send.result
+    (IsTold (RefusesField (field_data g) c.args.ledger.now.now None))) c.of.ensures c.send.ensures.err
 
 pub returns-in-None-clause-keeps : goal.returns-in-None-clause-keeps
 returns-in-None-clause-keeps c = record { before = c.send.ensures.before; room = c.send.ensures.max_text; count = c.send.ensures.length }
@@ -61,28 +66,38 @@ pub send-requires-in-Delta-clause-operator : goal.send-requires-in-Delta-clause-
 send-requires-in-Delta-clause-operator c = ap (λ (g : FieldInstruction). g.operator) c.of-in-Delta.ensures
 
 pub send-requires-in-Delta-clause-served : goal.send-requires-in-Delta-clause-served
-send-requires-in-Delta-clause-served c = subst (λ (g : FieldInstruction). IsServed c.args.ledger.now (field_data g)) (sym c.of-in-Delta.ensures) c.requires.served
+send-requires-in-Delta-clause-served c = subst (λ (g : FieldInstruction). IsServed c.args.ledger.now (field_data g))
+    (sym c.of-in-Delta.ensures) c.requires.served
 
 pub send-requires-in-Delta-clause-suited : goal.send-requires-in-Delta-clause-suited
-send-requires-in-Delta-clause-suited c = subst (λ (g : FieldInstruction). IsSuited c.args.ledger.now.max_text (field_data g) None) (sym c.of-in-Delta.ensures) c.requires.suited
+send-requires-in-Delta-clause-suited c = subst (λ (g : FieldInstruction). IsSuited c.args.ledger.now.max_text (field_data g) None)
+    (sym c.of-in-Delta.ensures) c.requires.suited
 
 pub returns-in-Delta-clause-err : goal.returns-in-Delta-clause-err
-returns-in-Delta-clause-err c = subst (λ (g : FieldInstruction). IfErr c.send-in-Delta.result (IsTold (RefusesField (field_data g) c.args.ledger.now.now None))) c.of-in-Delta.ensures c.send-in-Delta.ensures.err
+returns-in-Delta-clause-err c = subst (λ (g : FieldInstruction). IfErr c.send-in-Delta.result
+    (IsTold (RefusesField (field_data g) c.args.ledger.now.now None))) c.of-in-Delta.ensures c.send-in-Delta.ensures.err
 
 pub returns-in-Delta-clause-keeps : goal.returns-in-Delta-clause-keeps
-returns-in-Delta-clause-keeps c = record { before = c.send-in-Delta.ensures.before; room = c.send-in-Delta.ensures.max_text; count = c.send-in-Delta.ensures.length }
+returns-in-Delta-clause-keeps c = record {
+  before = c.send-in-Delta.ensures.before;
+  room = c.send-in-Delta.ensures.max_text;
+  count = c.send-in-Delta.ensures.length;
+}
 
 pub write_no_default-requires-clause-operator : goal.write_no_default-requires-clause-operator
 write_no_default-requires-clause-operator c = ap (λ (g : FieldInstruction). g.operator) c.of-in-Default.ensures ∙ c.in-Default.is
 
 pub write_no_default-requires-clause-served : goal.write_no_default-requires-clause-served
-write_no_default-requires-clause-served c = subst (λ (g : FieldInstruction). IsServed c.args.ledger.now (field_data g)) (sym c.of-in-Default.ensures) c.requires.served
+write_no_default-requires-clause-served c = subst (λ (g : FieldInstruction). IsServed c.args.ledger.now (field_data g))
+    (sym c.of-in-Default.ensures) c.requires.served
 
 pub write_no_default-requires-clause-suited : goal.write_no_default-requires-clause-suited
-write_no_default-requires-clause-suited c = subst (λ (g : FieldInstruction). IsSuited c.args.ledger.now.max_text (field_data g) None) (sym c.of-in-Default.ensures) c.requires.suited
+write_no_default-requires-clause-suited c = subst (λ (g : FieldInstruction). IsSuited c.args.ledger.now.max_text (field_data g) None)
+    (sym c.of-in-Default.ensures) c.requires.suited
 
 pub returns-in-Default-clause-err : goal.returns-in-Default-clause-err
-returns-in-Default-clause-err c = subst (λ (g : FieldInstruction). IfErr c.write_no_default.result (IsTold (RefusesField (field_data g) c.args.ledger.now.now None))) c.of-in-Default.ensures c.write_no_default.ensures.err
+returns-in-Default-clause-err c = subst (λ (g : FieldInstruction). IfErr c.write_no_default.result
+    (IsTold (RefusesField (field_data g) c.args.ledger.now.now None))) c.of-in-Default.ensures c.write_no_default.ensures.err
 
 pub returns-in-Default-clause-keeps : goal.returns-in-Default-clause-keeps
 returns-in-Default-clause-keeps c = c.write_no_default.ensures.keeps
@@ -91,13 +106,16 @@ pub write_no_copy-requires-clause-operator : goal.write_no_copy-requires-clause-
 write_no_copy-requires-clause-operator c = ap (λ (g : FieldInstruction). g.operator) c.of-in-Copy.ensures ∙ c.in-Copy.is
 
 pub write_no_copy-requires-clause-served : goal.write_no_copy-requires-clause-served
-write_no_copy-requires-clause-served c = subst (λ (g : FieldInstruction). IsServed c.args.ledger.now (field_data g)) (sym c.of-in-Copy.ensures) c.requires.served
+write_no_copy-requires-clause-served c = subst (λ (g : FieldInstruction). IsServed c.args.ledger.now (field_data g))
+    (sym c.of-in-Copy.ensures) c.requires.served
 
 pub write_no_copy-requires-clause-suited : goal.write_no_copy-requires-clause-suited
-write_no_copy-requires-clause-suited c = subst (λ (g : FieldInstruction). IsSuited c.args.ledger.now.max_text (field_data g) None) (sym c.of-in-Copy.ensures) c.requires.suited
+write_no_copy-requires-clause-suited c = subst (λ (g : FieldInstruction). IsSuited c.args.ledger.now.max_text (field_data g) None)
+    (sym c.of-in-Copy.ensures) c.requires.suited
 
 pub returns-in-Copy-clause-err : goal.returns-in-Copy-clause-err
-returns-in-Copy-clause-err c = subst (λ (g : FieldInstruction). IfErr c.write_no_copy.result (IsTold (RefusesField (field_data g) c.args.ledger.now.now None))) c.of-in-Copy.ensures c.write_no_copy.ensures.err
+returns-in-Copy-clause-err c = subst (λ (g : FieldInstruction). IfErr c.write_no_copy.result
+    (IsTold (RefusesField (field_data g) c.args.ledger.now.now None))) c.of-in-Copy.ensures c.write_no_copy.ensures.err
 
 pub returns-in-Copy-clause-keeps : goal.returns-in-Copy-clause-keeps
 returns-in-Copy-clause-keeps c = c.write_no_copy.ensures.keeps

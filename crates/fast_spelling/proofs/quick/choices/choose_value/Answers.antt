@@ -17,13 +17,15 @@ use Rattle.fast_spelling.proofs.quick.choices.choose_value.Goals as goal
 
 pub returns-in-U-clause-ok : goal.returns-in-U-clause-ok
 returns-in-U-clause-ok c = on_ok c.choose_unsigned.result c.choose_unsigned.ensures.ok (λ k l same.
-    subst (λ (v : ScalarData). Wrote (EncodesField l (field_data c.args.field.now) c.args.ledger.now.now (Some v)) c.args.draft.now c.choose_unsigned.new.draft c.choose_unsigned.new.ledger.now) (sym (ap scalar_data c.in-U.is)) (k l same))
+    subst (λ (v : ScalarData). Wrote (EncodesField l (field_data c.args.field.now) c.args.ledger.now.now (Some v)) c.args.draft.now
+    c.choose_unsigned.new.draft c.choose_unsigned.new.ledger.now) (sym (ap scalar_data c.in-U.is)) (k l same))
 
 pub returns-in-I-clause-ok : goal.returns-in-I-clause-ok
 returns-in-I-clause-ok c = on_ok c.choose_signed.result c.choose_signed.ensures.ok (λ k l same.
     let number : to_z w64 (of_z w64 c.in-I.number) ≡ c.in-I.number = to_z-of_z w64 c.in-I.number (search rules) in
     let is : scalar_data c.args.value ≡ I (to_z w64 (of_z w64 c.in-I.number)) = ap scalar_data c.in-I.is ∙ ap I (sym number) in
-    subst (λ (v : ScalarData). Wrote (EncodesField l (field_data c.args.field.now) c.args.ledger.now.now (Some v)) c.args.draft.now c.choose_signed.new.draft c.choose_signed.new.ledger.now) (sym is) (k l same))
+    subst (λ (v : ScalarData). Wrote (EncodesField l (field_data c.args.field.now) c.args.ledger.now.now (Some v)) c.args.draft.now
+    c.choose_signed.new.draft c.choose_signed.new.ledger.now) (sym is) (k l same))
 
 pub returns-in-I-clause-err : goal.returns-in-I-clause-err
 returns-in-I-clause-err c = told c.choose_signed.result c.choose_signed.ensures.err (λ f h.
@@ -35,36 +37,47 @@ pub returns-in-Dec-clause-ok : goal.returns-in-Dec-clause-ok
 returns-in-Dec-clause-ok c = on_ok c.choose_decimal.result c.choose_decimal.ensures.ok (λ k l same.
     let e : to_z w32 (of_z w32 c.in-Dec.exponent) ≡ c.in-Dec.exponent = to_z-of_z w32 c.in-Dec.exponent (search rules) in
     let m : to_z w64 (of_z w64 c.in-Dec.mantissa) ≡ c.in-Dec.mantissa = to_z-of_z w64 c.in-Dec.mantissa (search rules) in
-    let is : scalar_data c.args.value ≡ Dec (to_z w32 (of_z w32 c.in-Dec.exponent)) (to_z w64 (of_z w64 c.in-Dec.mantissa)) = ap scalar_data c.in-Dec.is ∙ ap (λ (z : ℤ). Dec z c.in-Dec.mantissa) (sym e) ∙ ap (Dec (to_z w32 (of_z w32 c.in-Dec.exponent))) (sym m) in
-    subst (λ (v : ScalarData). Wrote (EncodesField l (field_data c.args.field.now) c.args.ledger.now.now (Some v)) c.args.draft.now c.choose_decimal.new.draft c.choose_decimal.new.ledger.now) (sym is) (k l same))
+    let is : scalar_data c.args.value ≡ Dec (to_z w32 (of_z w32 c.in-Dec.exponent)) (to_z w64 (of_z w64 c.in-Dec.mantissa)) =
+    ap scalar_data c.in-Dec.is ∙ ap (λ (z : ℤ). Dec z c.in-Dec.mantissa) (sym e)
+    ∙ ap (Dec (to_z w32 (of_z w32 c.in-Dec.exponent))) (sym m) in
+    subst (λ (v : ScalarData). Wrote (EncodesField l (field_data c.args.field.now) c.args.ledger.now.now (Some v)) c.args.draft.now
+    c.choose_decimal.new.draft c.choose_decimal.new.ledger.now) (sym is) (k l same))
 
 pub returns-in-Dec-clause-err : goal.returns-in-Dec-clause-err
 returns-in-Dec-clause-err c = told c.choose_decimal.result c.choose_decimal.ensures.err (λ f h.
     let e : to_z w32 (of_z w32 c.in-Dec.exponent) ≡ c.in-Dec.exponent = to_z-of_z w32 c.in-Dec.exponent (search rules) in
     let m : to_z w64 (of_z w64 c.in-Dec.mantissa) ≡ c.in-Dec.mantissa = to_z-of_z w64 c.in-Dec.mantissa (search rules) in
-    let is : scalar_data c.args.value ≡ Dec (to_z w32 (of_z w32 c.in-Dec.exponent)) (to_z w64 (of_z w64 c.in-Dec.mantissa)) = ap scalar_data c.in-Dec.is ∙ ap (λ (z : ℤ). Dec z c.in-Dec.mantissa) (sym e) ∙ ap (Dec (to_z w32 (of_z w32 c.in-Dec.exponent))) (sym m) in
+    let is : scalar_data c.args.value ≡ Dec (to_z w32 (of_z w32 c.in-Dec.exponent)) (to_z w64 (of_z w64 c.in-Dec.mantissa)) =
+    ap scalar_data c.in-Dec.is ∙ ap (λ (z : ℤ). Dec z c.in-Dec.mantissa) (sym e)
+    ∙ ap (Dec (to_z w32 (of_z w32 c.in-Dec.exponent))) (sym m) in
     subst (λ (v : ScalarData). RefusesField (field_data c.args.field.now) c.args.ledger.now.now (Some v) f) (sym is) h)
 
 pub returns-in-Ascii-clause-ok : goal.returns-in-Ascii-clause-ok
 returns-in-Ascii-clause-ok c = on_ok c.choose_ascii.result c.choose_ascii.ensures.ok (λ k l same.
-    subst (λ (v : ScalarData). Wrote (EncodesField l (field_data c.args.field.now) c.args.ledger.now.now (Some v)) c.args.draft.now c.choose_ascii.new.draft c.choose_ascii.new.ledger.now) (sym (ap scalar_data c.in-Ascii.is)) (k l same))
+    subst (λ (v : ScalarData). Wrote (EncodesField l (field_data c.args.field.now) c.args.ledger.now.now (Some v)) c.args.draft.now
+    c.choose_ascii.new.draft c.choose_ascii.new.ledger.now) (sym (ap scalar_data c.in-Ascii.is)) (k l same))
 
 pub returns-in-Unicode-clause-ok : goal.returns-in-Unicode-clause-ok
 returns-in-Unicode-clause-ok c = on_ok c.choose_unicode.result c.choose_unicode.ensures.ok (λ k l same.
-    subst (λ (v : ScalarData). Wrote (EncodesField l (field_data c.args.field.now) c.args.ledger.now.now (Some v)) c.args.draft.now c.choose_unicode.new.draft c.choose_unicode.new.ledger.now) (sym (ap scalar_data c.in-Unicode.is)) (k l same))
+    subst (λ (v : ScalarData). Wrote (EncodesField l (field_data c.args.field.now) c.args.ledger.now.now (Some v)) c.args.draft.now
+    c.choose_unicode.new.draft c.choose_unicode.new.ledger.now) (sym (ap scalar_data c.in-Unicode.is)) (k l same))
 
 pub returns-in-Bytes-clause-ok : goal.returns-in-Bytes-clause-ok
 returns-in-Bytes-clause-ok c = on_ok c.choose_bytes.result c.choose_bytes.ensures.ok (λ k l same.
-    subst (λ (v : ScalarData). Wrote (EncodesField l (field_data c.args.field.now) c.args.ledger.now.now (Some v)) c.args.draft.now c.choose_bytes.new.draft c.choose_bytes.new.ledger.now) (sym (ap scalar_data c.in-Bytes.is)) (k l same))
+    subst (λ (v : ScalarData). Wrote (EncodesField l (field_data c.args.field.now) c.args.ledger.now.now (Some v)) c.args.draft.now
+    c.choose_bytes.new.draft c.choose_bytes.new.ledger.now) (sym (ap scalar_data c.in-Bytes.is)) (k l same))
 
 pub choose_unsigned-requires-clause-served : goal.choose_unsigned-requires-clause-served
 choose_unsigned-requires-clause-served c = c.requires.served
 
 pub choose_unsigned-requires-clause-suited : goal.choose_unsigned-requires-clause-suited
-choose_unsigned-requires-clause-suited c = subst (λ (v : Scalar). IsSuited c.args.ledger.now.max_text (field_data c.args.field.now) (Some (scalar_data v))) c.in-U.is c.requires.suited
+choose_unsigned-requires-clause-suited c = subst (λ (v : Scalar). IsSuited c.args.ledger.now.max_text (field_data c.args.field.now)
+    (Some (scalar_data v))) c.in-U.is c.requires.suited
 
 pub returns-in-U-clause-err : goal.returns-in-U-clause-err
-returns-in-U-clause-err c = subst (λ (v : Scalar). IfErr c.choose_unsigned.result (IsTold (RefusesField (field_data c.args.field.now) c.args.ledger.now.now (Some (scalar_data v))))) (sym c.in-U.is) c.choose_unsigned.ensures.err
+returns-in-U-clause-err c = subst (λ (v : Scalar). IfErr c.choose_unsigned.result
+    (IsTold (RefusesField (field_data c.args.field.now) c.args.ledger.now.now (Some (scalar_data v)))))
+    (sym c.in-U.is) c.choose_unsigned.ensures.err
 
 pub returns-in-U-clause-keeps : goal.returns-in-U-clause-keeps
 returns-in-U-clause-keeps c = c.choose_unsigned.ensures.keeps
@@ -85,10 +98,13 @@ pub choose_ascii-requires-clause-served : goal.choose_ascii-requires-clause-serv
 choose_ascii-requires-clause-served c = c.requires.served
 
 pub choose_ascii-requires-clause-suited : goal.choose_ascii-requires-clause-suited
-choose_ascii-requires-clause-suited c = subst (λ (v : Scalar). IsSuited c.args.ledger.now.max_text (field_data c.args.field.now) (Some (scalar_data v))) c.in-Ascii.is c.requires.suited
+choose_ascii-requires-clause-suited c = subst (λ (v : Scalar). IsSuited c.args.ledger.now.max_text (field_data c.args.field.now)
+    (Some (scalar_data v))) c.in-Ascii.is c.requires.suited
 
 pub returns-in-Ascii-clause-err : goal.returns-in-Ascii-clause-err
-returns-in-Ascii-clause-err c = subst (λ (v : Scalar). IfErr c.choose_ascii.result (IsTold (RefusesField (field_data c.args.field.now) c.args.ledger.now.now (Some (scalar_data v))))) (sym c.in-Ascii.is) c.choose_ascii.ensures.err
+returns-in-Ascii-clause-err c = subst (λ (v : Scalar). IfErr c.choose_ascii.result
+    (IsTold (RefusesField (field_data c.args.field.now) c.args.ledger.now.now (Some (scalar_data v)))))
+    (sym c.in-Ascii.is) c.choose_ascii.ensures.err
 
 pub returns-in-Ascii-clause-keeps : goal.returns-in-Ascii-clause-keeps
 returns-in-Ascii-clause-keeps c = c.choose_ascii.ensures.keeps
@@ -97,10 +113,13 @@ pub choose_unicode-requires-clause-served : goal.choose_unicode-requires-clause-
 choose_unicode-requires-clause-served c = c.requires.served
 
 pub choose_unicode-requires-clause-suited : goal.choose_unicode-requires-clause-suited
-choose_unicode-requires-clause-suited c = subst (λ (v : Scalar). IsSuited c.args.ledger.now.max_text (field_data c.args.field.now) (Some (scalar_data v))) c.in-Unicode.is c.requires.suited
+choose_unicode-requires-clause-suited c = subst (λ (v : Scalar). IsSuited c.args.ledger.now.max_text (field_data c.args.field.now)
+    (Some (scalar_data v))) c.in-Unicode.is c.requires.suited
 
 pub returns-in-Unicode-clause-err : goal.returns-in-Unicode-clause-err
-returns-in-Unicode-clause-err c = subst (λ (v : Scalar). IfErr c.choose_unicode.result (IsTold (RefusesField (field_data c.args.field.now) c.args.ledger.now.now (Some (scalar_data v))))) (sym c.in-Unicode.is) c.choose_unicode.ensures.err
+returns-in-Unicode-clause-err c = subst (λ (v : Scalar). IfErr c.choose_unicode.result
+    (IsTold (RefusesField (field_data c.args.field.now) c.args.ledger.now.now (Some (scalar_data v)))))
+    (sym c.in-Unicode.is) c.choose_unicode.ensures.err
 
 pub returns-in-Unicode-clause-keeps : goal.returns-in-Unicode-clause-keeps
 returns-in-Unicode-clause-keeps c = c.choose_unicode.ensures.keeps
@@ -109,10 +128,13 @@ pub choose_bytes-requires-clause-served : goal.choose_bytes-requires-clause-serv
 choose_bytes-requires-clause-served c = c.requires.served
 
 pub choose_bytes-requires-clause-suited : goal.choose_bytes-requires-clause-suited
-choose_bytes-requires-clause-suited c = subst (λ (v : Scalar). IsSuited c.args.ledger.now.max_text (field_data c.args.field.now) (Some (scalar_data v))) c.in-Bytes.is c.requires.suited
+choose_bytes-requires-clause-suited c = subst (λ (v : Scalar). IsSuited c.args.ledger.now.max_text (field_data c.args.field.now)
+    (Some (scalar_data v))) c.in-Bytes.is c.requires.suited
 
 pub returns-in-Bytes-clause-err : goal.returns-in-Bytes-clause-err
-returns-in-Bytes-clause-err c = subst (λ (v : Scalar). IfErr c.choose_bytes.result (IsTold (RefusesField (field_data c.args.field.now) c.args.ledger.now.now (Some (scalar_data v))))) (sym c.in-Bytes.is) c.choose_bytes.ensures.err
+returns-in-Bytes-clause-err c = subst (λ (v : Scalar). IfErr c.choose_bytes.result
+    (IsTold (RefusesField (field_data c.args.field.now) c.args.ledger.now.now (Some (scalar_data v)))))
+    (sym c.in-Bytes.is) c.choose_bytes.ensures.err
 
 pub returns-in-Bytes-clause-keeps : goal.returns-in-Bytes-clause-keeps
 returns-in-Bytes-clause-keeps c = c.choose_bytes.ensures.keeps

@@ -12,6 +12,8 @@ pub returns : goal.returns
 returns c =
     let v = scalar_data c.args.value in
     let b = scalar_data c.args.base in
-    let e : to_z w128 (of_z w128 c.exponents_apart.result) ≡ exponent_of v -ℤ exponent_of b = to_z-of_z w128 c.exponents_apart.result (search rules) ∙ c.exponents_apart.ensures.value in
-    let m : to_z w128 (of_z w128 c.mantissas_apart.result) ≡ mantissa_of v -ℤ mantissa_of b = to_z-of_z w128 c.mantissas_apart.result (search rules) ∙ c.mantissas_apart.ensures.value in
+    let e : to_z w128 (of_z w128 c.exponents_apart.result) ≡ exponent_of v -ℤ exponent_of b =
+    to_z-of_z w128 c.exponents_apart.result (search rules) ∙ c.exponents_apart.ensures.value in
+    let m : to_z w128 (of_z w128 c.mantissas_apart.result) ≡ mantissa_of v -ℤ mantissa_of b =
+    to_z-of_z w128 c.mantissas_apart.result (search rules) ∙ c.mantissas_apart.ensures.value in
     ap (λ (x : ℤ). decimal_delta x (to_z w128 (of_z w128 c.mantissas_apart.result))) e ∙ ap (λ (x : ℤ). decimal_delta (exponent_of v -ℤ exponent_of b) x) m

@@ -23,4 +23,6 @@ send-requires-clause-sendable c =
     let f = field_data c.args.at.field.now in
     let v = scalar_data c.args.value in
     let s = c.requires.served in
-    held_sendable f (previous_at f.entry c.args.ledger.now.now) (scalar_data c.in-Some.held) v true (sent_data c.decimal_delta-delta.result) c.args.ledger.now.max_text s.small s.usable.tail c.in-Some.ensures.value c.note_range.ensures c.in-Some.ensures.short c.requires.suited (send-requires-clause-ruled c)
+    held_sendable f (previous_at f.entry c.args.ledger.now.now) (scalar_data c.in-Some.held) v true
+    (sent_data c.decimal_delta-delta.result) c.args.ledger.now.max_text s.small s.usable.tail c.in-Some.ensures.value
+    c.note_range.ensures c.in-Some.ensures.short c.requires.suited (send-requires-clause-ruled c)

@@ -21,17 +21,22 @@ send-requires-clause-ruled c =
     let u = scalar_data c.in-Some.held in
     let part = c.in-Some-tail_of.part.now in
     let bases : IsTail c.text_of.result.now c.text_of-in-Some-2.result.now part = c.in-Some-tail_of.ensures.some in
-    let tail : IsTail (text_of u) (text_of v) part = subst (λ (b : List ℕ). IsTail b (text_of v) part) c.text_of.ensures (subst (λ (t : List ℕ). IsTail c.text_of.result.now t part) c.text_of-in-Some-2.ensures bases) in
-    let sent : scalar_data c.text_value.result ≡ value_of_text f.kind part = c.text_value.ensures ∙ ap (λ (k : Kind). value_of_text k part) (sym c.args.at.same_kind) in
+    let tail : IsTail (text_of u) (text_of v) part = subst (λ (b : List ℕ). IsTail b (text_of v) part) c.text_of.ensures
+    (subst (λ (t : List ℕ). IsTail c.text_of.result.now t part) c.text_of-in-Some-2.ensures bases) in
+    let sent : scalar_data c.text_value.result ≡ value_of_text f.kind part = c.text_value.ensures
+    ∙ ap (λ (k : Kind). value_of_text k part) (sym c.args.at.same_kind) in
     subst (λ (x : ScalarData). Rule f (previous_at f.entry c.args.ledger.now.now) (Some v) true (value x)) (sym sent)
-    (tail_other f (previous_at f.entry c.args.ledger.now.now) u v part c.requires.operator c.in-Some.ensures.value (λ same. let clash : false ≡ true = c.if-is_same.ensures.1 same in absurd (cc clash)) tail)
+    (tail_other f (previous_at f.entry c.args.ledger.now.now) u v part c.requires.operator c.in-Some.ensures.value
+    (λ same. let clash : false ≡ true = c.if-is_same.ensures.1 same in absurd (cc clash)) tail)
 
 pub send-requires-clause-sendable : goal.send-requires-clause-sendable
 send-requires-clause-sendable c =
     let f = field_data c.args.at.field.now in
     let v = scalar_data c.args.value in
     let s = c.requires.served in
-    held_sendable f (previous_at f.entry c.args.ledger.now.now) (scalar_data c.in-Some.held) v true (value (scalar_data c.text_value.result)) c.args.ledger.now.max_text s.small s.usable.tail c.in-Some.ensures.value c.note_range.ensures c.in-Some.ensures.short c.requires.suited (send-requires-clause-ruled c)
+    held_sendable f (previous_at f.entry c.args.ledger.now.now) (scalar_data c.in-Some.held) v true
+    (value (scalar_data c.text_value.result)) c.args.ledger.now.max_text s.small s.usable.tail c.in-Some.ensures.value
+    c.note_range.ensures c.in-Some.ensures.short c.requires.suited (send-requires-clause-ruled c)
 
 pub returns-in_ok-push_bit-in-Some-clause-ok : goal.returns-in_ok-push_bit-in-Some-clause-ok
 returns-in_ok-push_bit-in-Some-clause-ok c = λ l same.
@@ -41,7 +46,9 @@ returns-in_ok-push_bit-in-Some-clause-ok c = λ l same.
       [],
       c.in_ok-push_bit-in-Some.ensures.bits,
       c.push_bit.ensures.bytes ∙ sym (append-nil c.args.draft.now.bytes.items),
-      tail_passed l f c.args.ledger.now.now v c.requires.operator c.requires.served.usable.tail (subst (λ (m : ℕ). IsSuited m f (Some v)) (sym same) c.requires.suited) (c.in-Some.ensures.value ∙ ap (assigned f.kind) (c.if-is_same.ensures.0 refl)),
+      tail_passed l f c.args.ledger.now.now v c.requires.operator c.requires.served.usable.tail
+          (subst (λ (m : ℕ). IsSuited m f (Some v)) (sym same) c.requires.suited)
+          (c.in-Some.ensures.value ∙ ap (assigned f.kind) (c.if-is_same.ensures.0 refl)),
     )
 
 pub held_in-requires : goal.held_in-requires
@@ -81,7 +88,11 @@ pub returns-in_default-clause-err : goal.returns-in_default-clause-err
 returns-in_default-clause-err c = c.write_chosen-in_default.ensures.err
 
 pub returns-in_default-clause-keeps : goal.returns-in_default-clause-keeps
-returns-in_default-clause-keeps c = record { before = c.write_chosen-in_default.ensures.before; room = c.write_chosen-in_default.ensures.max_text; count = c.write_chosen-in_default.ensures.length }
+returns-in_default-clause-keeps c = record {
+  before = c.write_chosen-in_default.ensures.before;
+  room = c.write_chosen-in_default.ensures.max_text;
+  count = c.write_chosen-in_default.ensures.length;
+}
 
 pub returns-in-None-clause-ok : goal.returns-in-None-clause-ok
 returns-in-None-clause-ok c = c.write_chosen.ensures.ok
@@ -90,7 +101,11 @@ pub returns-in-None-clause-err : goal.returns-in-None-clause-err
 returns-in-None-clause-err c = c.write_chosen.ensures.err
 
 pub returns-in-None-clause-keeps : goal.returns-in-None-clause-keeps
-returns-in-None-clause-keeps c = record { before = c.write_chosen.ensures.before; room = c.write_chosen.ensures.max_text; count = c.write_chosen.ensures.length }
+returns-in-None-clause-keeps c = record {
+  before = c.write_chosen.ensures.before;
+  room = c.write_chosen.ensures.max_text;
+  count = c.write_chosen.ensures.length;
+}
 
 pub returns-in-Some-tail_of-clause-ok : goal.returns-in-Some-tail_of-clause-ok
 returns-in-Some-tail_of-clause-ok c = c.send.ensures.ok

@@ -16,12 +16,16 @@ send-requires-clause-ruled c =
     let v = scalar_data c.args.value in
     let u = scalar_data c.in-Some.held in
     let x = sent_data c.text_delta-delta.result in
-    let delta = subst (λ (b : List ℕ). IsTextDelta b (text_of v) x) c.text_of.ensures (subst (λ (t : List ℕ). IsTextDelta c.text_of.result.now t x) c.text_of-in-Some.ensures c.text_delta-delta.ensures) in
-    text_delta_ruled f (previous_at f.entry c.args.ledger.now.now) u v x c.requires.operator c.in-Some.ensures.value (text_kind f.kind v c.requires.text c.requires.suited.0) delta
+    let delta = subst (λ (b : List ℕ). IsTextDelta b (text_of v) x) c.text_of.ensures
+    (subst (λ (t : List ℕ). IsTextDelta c.text_of.result.now t x) c.text_of-in-Some.ensures c.text_delta-delta.ensures) in
+    text_delta_ruled f (previous_at f.entry c.args.ledger.now.now) u v x c.requires.operator c.in-Some.ensures.value
+    (text_kind f.kind v c.requires.text c.requires.suited.0) delta
 
 pub send-requires-clause-sendable : goal.send-requires-clause-sendable
 send-requires-clause-sendable c =
     let f = field_data c.args.at.field.now in
     let v = scalar_data c.args.value in
     let s = c.requires.served in
-    held_sendable f (previous_at f.entry c.args.ledger.now.now) (scalar_data c.in-Some.held) v true (sent_data c.text_delta-delta.result) c.args.ledger.now.max_text s.small s.usable.tail c.in-Some.ensures.value c.note_range.ensures c.in-Some.ensures.short c.requires.suited (send-requires-clause-ruled c)
+    held_sendable f (previous_at f.entry c.args.ledger.now.now) (scalar_data c.in-Some.held) v true
+    (sent_data c.text_delta-delta.result) c.args.ledger.now.max_text s.small s.usable.tail c.in-Some.ensures.value c.note_range.ensures
+    c.in-Some.ensures.short c.requires.suited (send-requires-clause-ruled c)

@@ -19,7 +19,9 @@ returns-in_ok-push_bit-in-Some-clause-ok c = λ l same.
       [],
       c.in_ok-push_bit-in-Some.ensures.bits,
       c.push_bit.ensures.bytes ∙ sym (append-nil c.args.draft.now.bytes.items),
-      copy_passed l f c.args.ledger.now.now v c.requires.operator c.requires.served.usable.tail (subst (λ (m : ℕ). IsSuited m f (Some v)) (sym same) c.requires.suited) (c.in-Some.ensures.value ∙ ap (assigned f.kind) (c.if-is_same.ensures.0 refl)),
+      copy_passed l f c.args.ledger.now.now v c.requires.operator c.requires.served.usable.tail
+          (subst (λ (m : ℕ). IsSuited m f (Some v)) (sym same) c.requires.suited)
+          (c.in-Some.ensures.value ∙ ap (assigned f.kind) (c.if-is_same.ensures.0 refl)),
     )
 
 pub held_in-requires : goal.held_in-requires

@@ -19,7 +19,9 @@ returns-in_ok-push_bit-in-Some-clause-ok c = λ l same.
       [],
       c.in_ok-push_bit-in-Some.ensures.bits,
       c.push_bit.ensures.bytes ∙ sym (append-nil c.args.draft.now.bytes.items),
-      copy_passed l f c.args.ledger.now.now v c.requires.operator c.requires.served.usable.tail (subst (λ (m : ℕ). IsSuited m f (Some v)) (sym same) c.requires.suited) (c.in-Some.ensures.value ∙ ap (assigned f.kind) (c.if-is_same.ensures.0 refl)),
+      copy_passed l f c.args.ledger.now.now v c.requires.operator c.requires.served.usable.tail
+          (subst (λ (m : ℕ). IsSuited m f (Some v)) (sym same) c.requires.suited)
+          (c.in-Some.ensures.value ∙ ap (assigned f.kind) (c.if-is_same.ensures.0 refl)),
     )
 
 pub held_in-requires : goal.held_in-requires
@@ -76,7 +78,9 @@ returns-in_err-push_bit-in-Some-clause-ok c = on_handed_on _ _ c.from_residual.r
 pub send-requires-clause-ruled : goal.send-requires-clause-ruled
 send-requires-clause-ruled c =
     let f = field_data c.args.at.field.now in
-    copy_other f (previous_at f.entry c.args.ledger.now.now) (scalar_data c.in-Some.held) (scalar_data c.args.value) c.requires.operator c.in-Some.ensures.value (λ e. absurd (cc (c.if-is_same.ensures.1 e)))
+    copy_other f (previous_at f.entry c.args.ledger.now.now) (scalar_data c.in-Some.held)
+    (scalar_data c.args.value) c.requires.operator c.in-Some.ensures.value (λ e. absurd (cc (c.if-is_same.ensures.1 e)))
 
 pub send-requires-clause-sendable : goal.send-requires-clause-sendable
-send-requires-clause-sendable c = value_sendable c.args.at.field.now.kind (scalar_data c.args.value) c.args.ledger.now.max_text c.requires.served.small c.requires.suited.0 c.requires.suited.1
+send-requires-clause-sendable c = value_sendable c.args.at.field.now.kind
+    (scalar_data c.args.value) c.args.ledger.now.max_text c.requires.served.small c.requires.suited.0 c.requires.suited.1

@@ -17,7 +17,8 @@ returns-then-is_initial-clause-ok c = λ l same.
       [],
       c.in_ok-push_bit.ensures.bits,
       c.push_bit.ensures.bytes ∙ sym (append-nil c.args.draft.now.bytes.items),
-      default_passed l f c.args.ledger.now.now v c.requires.operator c.requires.served.usable.tail (subst (λ (m : ℕ). IsSuited m f (Some v)) (sym same) c.requires.suited) (c.if-is_initial.ensures.0 refl),
+      default_passed l f c.args.ledger.now.now v c.requires.operator c.requires.served.usable.tail
+          (subst (λ (m : ℕ). IsSuited m f (Some v)) (sym same) c.requires.suited) (c.if-is_initial.ensures.0 refl),
     )
 
 pub branch-push_bit-requires : goal.branch-push_bit-requires

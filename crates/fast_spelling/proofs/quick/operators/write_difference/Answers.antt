@@ -18,5 +18,7 @@ send-requires-clause-ruled c =
     let p = previous_at f.entry c.args.ledger.now.now in
     let v = scalar_data c.args.value in
     let b = scalar_data c.in-Some.held in
-    let is : to_z w128 (of_z w128 c.difference.result) ≡ integer_of v -ℤ integer_of b = to_z-of_z w128 c.difference.result (search rules) ∙ c.difference.ensures.value in
-    subst (λ (n : ℤ). Rule f p (Some v) true (integer_delta n)) (sym is) (delta_ruled f p b v c.requires.operator c.in-Some.ensures.value c.requires.suited.0 c.requires.number)
+    let is : to_z w128 (of_z w128 c.difference.result) ≡ integer_of v -ℤ integer_of b = to_z-of_z w128 c.difference.result (search rules)
+    ∙ c.difference.ensures.value in
+    subst (λ (n : ℤ). Rule f p (Some v) true (integer_delta n)) (sym is)
+    (delta_ruled f p b v c.requires.operator c.in-Some.ensures.value c.requires.suited.0 c.requires.number)

@@ -75,4 +75,5 @@ send-requires-clause-ruled c =
     (λ e. absurd (cc (c.if-is_next.ensures.1 (sym (ap (λ (k : Kind). value_of_integer k (incremented (range_of k) (integer_of u))) c.args.at.same_kind) ∙ e))))
 
 pub send-requires-clause-sendable : goal.send-requires-clause-sendable
-send-requires-clause-sendable c = value_sendable c.args.at.field.now.kind (scalar_data c.args.value) c.args.ledger.now.max_text c.requires.served.small c.requires.suited.0 c.requires.suited.1
+send-requires-clause-sendable c = value_sendable c.args.at.field.now.kind
+    (scalar_data c.args.value) c.args.ledger.now.max_text c.requires.served.small c.requires.suited.0 c.requires.suited.1

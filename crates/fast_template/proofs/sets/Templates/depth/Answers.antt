@@ -28,21 +28,26 @@ loop-template-preserved c =
     let inside = rw d at c.loop-template-test.true in
     let read = rw d at c.template-item.is in
     let found : slice_get ts c.loop-template.template-index ≡ Some t = slice_get_read ts _ c.loop-template.template-index t refl inside read in
-    let here = c.body_depth.ensures ∙ ap (λ ns. in_32_bits (body_depth (body_of 0 (instructions_from 0 ns) c.deref-in-loop-template.result.now))) c.deref.ensures.value
+    let here = c.body_depth.ensures ∙ ap (λ ns. in_32_bits
+    (body_depth (body_of 0 (instructions_from 0 ns) c.deref-in-loop-template.result.now))) c.deref.ensures.value
     ∙ ap (λ ms. in_32_bits (body_depth (body_of 0 (instructions_from 0 s.nodes.items) ms))) c.deref-in-loop-template.ensures.value in
-    rw (c.max-deepest.ensures, here) (greatest_kept 4294967295 c.loop-template.deepest depth_of s.nodes.items ts c.loop-template.template-index t found c.loop-template.invariant)
+    rw (c.max-deepest.ensures, here) (greatest_kept 4294967295 c.loop-template.deepest depth_of s.nodes.items ts
+    c.loop-template.template-index t found c.loop-template.invariant)
 
 pub returns-clause-greatest : goal.returns-clause-greatest
 returns-clause-greatest c =
     let s = c.args.self.now in
     let past = rw c.deref-template-items.ensures.value at c.loop-template-test.false in
     let few : set_depth (tree_of s) ≤ 4294967295 = le_trans (few_levels s) (omega arith) in
-    greatest_whole 4294967295 c.loop-template.deepest depth_of s.nodes.items s.templates.items c.loop-template.template-index past c.loop-template.invariant ∙ min-eq_left few
+    greatest_whole 4294967295 c.loop-template.deepest depth_of s.nodes.items s.templates.items c.loop-template.template-index past
+    c.loop-template.invariant ∙ min-eq_left few
 
 pub returns-clause-few : goal.returns-clause-few
 returns-clause-few c =
     let s = c.args.self.now in
     let past = rw c.deref-template-items.ensures.value at c.loop-template-test.false in
     let few : set_depth (tree_of s) ≤ 4294967295 = le_trans (few_levels s) (omega arith) in
-    let is : c.loop-template.deepest ≡ set_depth (tree_of s) = greatest_whole 4294967295 c.loop-template.deepest depth_of s.nodes.items s.templates.items c.loop-template.template-index past c.loop-template.invariant ∙ min-eq_left few in
+    let is : c.loop-template.deepest ≡ set_depth (tree_of s) =
+    greatest_whole 4294967295 c.loop-template.deepest depth_of s.nodes.items s.templates.items c.loop-template.template-index past
+    c.loop-template.invariant ∙ min-eq_left few in
     subst (λ n. n ≤ 65536) (sym is) (few_levels s)

@@ -36,8 +36,10 @@ loop-template-preserved c =
     (subst (λ vs. AreCountsOfBody c.body_counts.result l (body_of 0 (instructions_from 0 vs) body.result.now)) c.deref.ensures.value c.body_counts.ensures) in
     let message = c.group_counts-message.ensures _ _ _ counts in
     record {
-      by_sequence = rw (c.max-by_sequence.ensures, message.all) (greatest_kept top c.loop-template.by_sequence (product_of l) ns ts p t found c.loop-template.invariant.by_sequence);
-      by_message = rw (c.max-by_message.ensures, c.with_elements.ensures _ _ _ message, c.widened-max_total.ensures.value) (greatest_kept top c.loop-template.by_message (sum_of l) ns ts p t found c.loop-template.invariant.by_message);
+      by_sequence = rw (c.max-by_sequence.ensures, message.all)
+          (greatest_kept top c.loop-template.by_sequence (product_of l) ns ts p t found c.loop-template.invariant.by_sequence);
+      by_message = rw (c.max-by_message.ensures, c.with_elements.ensures _ _ _ message, c.widened-max_total.ensures.value)
+          (greatest_kept top c.loop-template.by_message (sum_of l) ns ts p t found c.loop-template.invariant.by_message);
     }
 
 pub returns : goal.returns
@@ -52,4 +54,5 @@ returns c =
     let product = greatest_whole top c.loop-template.by_sequence (product_of l) ns ts p past c.loop-template.invariant.by_sequence in
     let fits = sum_cap_fits s l (subst (λ n. n < 4294967296) c.widened-max_total.ensures.value c.widened-max_total.ensures.small) in
     let sum = greatest_whole top c.loop-template.by_message (sum_of l) ns ts p past c.loop-template.invariant.by_message ∙ min-eq_left fits in
-    c.min.ensures ∙ ap (λ x. min x c.loop-template.by_message) product ∙ ap (min (min (product_cap event_weights (tree_of s) l) top)) sum ∙ stopped_min top (product_cap event_weights (tree_of s) l) (sum_cap event_weights (tree_of s) l) fits
+    c.min.ensures ∙ ap (λ x. min x c.loop-template.by_message) product ∙ ap (min (min (product_cap event_weights (tree_of s) l) top)) sum
+    ∙ stopped_min top (product_cap event_weights (tree_of s) l) (sum_cap event_weights (tree_of s) l) fits

@@ -8,6 +8,8 @@ invariant-loop-template l =
     let ns = l.self.nodes.items in
     let ts = l.self.templates.items in
     record {
-      by_sequence : max l.by_sequence (in_64_bits (greatest_of (product_of l.limits) ns (drop l.template-index ts))) ≡ in_64_bits (greatest_of (product_of l.limits) ns ts);
-      by_message : max l.by_message (in_64_bits (greatest_of (sum_of l.limits) ns (drop l.template-index ts))) ≡ in_64_bits (greatest_of (sum_of l.limits) ns ts);
+      by_sequence : max l.by_sequence (in_64_bits (greatest_of (product_of l.limits) ns (drop l.template-index ts))) ≡ in_64_bits
+          (greatest_of (product_of l.limits) ns ts);
+      by_message : max l.by_message (in_64_bits (greatest_of (sum_of l.limits) ns (drop l.template-index ts))) ≡ in_64_bits
+          (greatest_of (sum_of l.limits) ns ts);
     }

@@ -23,4 +23,5 @@ returns-clause-found c =
 pub returns-clause-body : goal.returns-clause-body
 returns-clause-body c =
     let ns : List Node = c.args.self.now.nodes.items in
-    c.args.self.now.nodes_name_later_nodes c.args.n c.index.result.now (slice_get_read ns (length ns) c.args.n c.index.result.now refl c.requires c.index.ensures)
+    c.args.self.now.nodes_name_later_nodes c.args.n c.index.result.now
+    (slice_get_read ns (length ns) c.args.n c.index.result.now refl c.requires c.index.ensures)

@@ -43,7 +43,8 @@ pub invariant_of-result-clause-nodes_in_preorder : goal.invariant_of-result-clau
 invariant_of-result-clause-nodes_in_preorder c = c.in_ok-set.set.nodes_in_preorder
 
 pub invariant_of-result-clause-widths_of_nodes : goal.invariant_of-result-clause-widths_of_nodes
-invariant_of-result-clause-widths_of_nodes c = subst (λ xs. AreNodeWidths xs c.in-Ok-segment_widths_of.segment_widths.items) c.deref-3.ensures.value c.in-Ok-segment_widths_of.ensures
+invariant_of-result-clause-widths_of_nodes c = subst (λ xs. AreNodeWidths xs c.in-Ok-segment_widths_of.segment_widths.items)
+    c.deref-3.ensures.value c.in-Ok-segment_widths_of.ensures
 
 pub invariant_of-result-clause-widths_of_templates : goal.invariant_of-result-clause-widths_of_templates
 invariant_of-result-clause-widths_of_templates c =
@@ -101,28 +102,40 @@ message_widths_of-requires c =
     (subst (λ ts. NameNodes (length c.in_ok-set.set.nodes.items) ts) (sym c.deref-4.ensures.value) c.in_ok-set.set.templates_name_nodes)
 
 pub returns-in_default-clause-fault : goal.returns-in_default-clause-fault
-returns-in_default-clause-fault c = memory_fault (parse_document c.args.text.now) c.no_memory.result.code c.no_memory.result.template c.no_memory.ensures.code c.no_memory.ensures.template
+returns-in_default-clause-fault c = memory_fault (parse_document c.args.text.now) c.no_memory.result.code c.no_memory.result.template
+    c.no_memory.ensures.code c.no_memory.ensures.template
 
 pub returns-in_default-clause-first : goal.returns-in_default-clause-first
-returns-in_default-clause-first c = memory_first (parse_document c.args.text.now) c.no_memory.result.code c.no_memory.result.template c.no_memory.ensures.template
+returns-in_default-clause-first c = memory_first (parse_document c.args.text.now) c.no_memory.result.code c.no_memory.result.template
+    c.no_memory.ensures.template
 
 pub returns-in_default-clause-none : goal.returns-in_default-clause-none
 returns-in_default-clause-none c other document t at is = other c.no_memory.ensures.code
 
 pub returns-in_default-segment_widths_of-clause-fault : goal.returns-in_default-segment_widths_of-clause-fault
-returns-in_default-segment_widths_of-clause-fault c = memory_fault (parse_document c.args.text.now) c.no_memory-in_default-segment_widths_of.result.code c.no_memory-in_default-segment_widths_of.result.template c.no_memory-in_default-segment_widths_of.ensures.code c.no_memory-in_default-segment_widths_of.ensures.template
+returns-in_default-segment_widths_of-clause-fault c = memory_fault
+    (parse_document c.args.text.now) c.no_memory-in_default-segment_widths_of.result.code
+    c.no_memory-in_default-segment_widths_of.result.template c.no_memory-in_default-segment_widths_of.ensures.code
+    c.no_memory-in_default-segment_widths_of.ensures.template
 
 pub returns-in_default-segment_widths_of-clause-first : goal.returns-in_default-segment_widths_of-clause-first
-returns-in_default-segment_widths_of-clause-first c = memory_first (parse_document c.args.text.now) c.no_memory-in_default-segment_widths_of.result.code c.no_memory-in_default-segment_widths_of.result.template c.no_memory-in_default-segment_widths_of.ensures.template
+returns-in_default-segment_widths_of-clause-first c = memory_first
+    (parse_document c.args.text.now) c.no_memory-in_default-segment_widths_of.result.code
+    c.no_memory-in_default-segment_widths_of.result.template c.no_memory-in_default-segment_widths_of.ensures.template
 
 pub returns-in_default-segment_widths_of-clause-none : goal.returns-in_default-segment_widths_of-clause-none
 returns-in_default-segment_widths_of-clause-none c other document t at is = other c.no_memory-in_default-segment_widths_of.ensures.code
 
 pub returns-in_default-message_widths_of-clause-fault : goal.returns-in_default-message_widths_of-clause-fault
-returns-in_default-message_widths_of-clause-fault c = memory_fault (parse_document c.args.text.now) c.no_memory-in_default-message_widths_of.result.code c.no_memory-in_default-message_widths_of.result.template c.no_memory-in_default-message_widths_of.ensures.code c.no_memory-in_default-message_widths_of.ensures.template
+returns-in_default-message_widths_of-clause-fault c = memory_fault
+    (parse_document c.args.text.now) c.no_memory-in_default-message_widths_of.result.code
+    c.no_memory-in_default-message_widths_of.result.template c.no_memory-in_default-message_widths_of.ensures.code
+    c.no_memory-in_default-message_widths_of.ensures.template
 
 pub returns-in_default-message_widths_of-clause-first : goal.returns-in_default-message_widths_of-clause-first
-returns-in_default-message_widths_of-clause-first c = memory_first (parse_document c.args.text.now) c.no_memory-in_default-message_widths_of.result.code c.no_memory-in_default-message_widths_of.result.template c.no_memory-in_default-message_widths_of.ensures.template
+returns-in_default-message_widths_of-clause-first c = memory_first
+    (parse_document c.args.text.now) c.no_memory-in_default-message_widths_of.result.code
+    c.no_memory-in_default-message_widths_of.result.template c.no_memory-in_default-message_widths_of.ensures.template
 
 pub returns-in_default-message_widths_of-clause-none : goal.returns-in_default-message_widths_of-clause-none
 returns-in_default-message_widths_of-clause-none c other document t at is = other c.no_memory-in_default-message_widths_of.ensures.code

@@ -21,7 +21,8 @@ there (x ∷ xs) zero h = (x, refl)
 there (x ∷ xs) (suc i) h = there xs i (omega (arith, h))
 
 -- the start handed out stands at its number
-start_here : (t : Templates) (i : ℕ) (s : Start) → i < length t.templates.items → s ≡ get_or t.program.template_starts.items i s → slice_get t.program.template_starts.items i ≡ Some s
+start_here : (t : Templates) (i : ℕ) (s : Start) → i < length t.templates.items → s ≡ get_or t.program.template_starts.items i s
+    → slice_get t.program.template_starts.items i ≡ Some s
 start_here t i s h read = let starts = t.program.template_starts.items in slice_get_read starts (length starts) i s refl (within t i h) read
 
 pub returns-clause-start : goal.returns-clause-start

@@ -50,10 +50,13 @@ pub returns-in_err-count-clause-bytes : goal.returns-in_err-count-clause-bytes
 returns-in_err-count-clause-bytes g c = rw ((err_from_is_err_and c.from_residual-in_err-count.result c.from_residual-in_err-count.ensures.1).1) tt
 
 pub returns-in_err-count-clause-kept : goal.returns-in_err-count-clause-kept
-returns-in_err-count-clause-kept g c = rw ((err_from_is_err_and c.from_residual-in_err-count.result c.from_residual-in_err-count.ensures.1).1) (passed_through g.T.Target.written c.args.self.now c.hand_on.new.self c.write.new.self [] c.hand_on.ensures.kept c.in_ok-hand_on.ensures.empty c.in_err-count.ensures.kept)
+returns-in_err-count-clause-kept g c = rw ((err_from_is_err_and c.from_residual-in_err-count.result
+    c.from_residual-in_err-count.ensures.1).1) (passed_through g.T.Target.written c.args.self.now c.hand_on.new.self c.write.new.self
+    [] c.hand_on.ensures.kept c.in_ok-hand_on.ensures.empty c.in_err-count.ensures.kept)
 
 pub returns-in_err-count-clause-fails : goal.returns-in_err-count-clause-fails
-returns-in_err-count-clause-fails g c = rw ((err_from_is_err_and c.from_residual-in_err-count.result c.from_residual-in_err-count.ensures.1).1) c.in_err-count.ensures.fails
+returns-in_err-count-clause-fails g c = rw ((err_from_is_err_and c.from_residual-in_err-count.result
+    c.from_residual-in_err-count.ensures.1).1) c.in_err-count.ensures.fails
 
 pub returns-in_err-count-clause-stays : goal.returns-in_err-count-clause-stays
 returns-in_err-count-clause-stays g c = rw ((err_from_is_err_and c.from_residual-in_err-count.result c.from_residual-in_err-count.ensures.1).1) tt
@@ -65,7 +68,8 @@ pub returns-then-piece-gt-BLOCK-clause-some : goal.returns-then-piece-gt-BLOCK-c
 returns-then-piece-gt-BLOCK-clause-some g c = c.in_ok-count.ensures.some
 
 pub returns-then-piece-gt-BLOCK-clause-bytes : goal.returns-then-piece-gt-BLOCK-clause-bytes
-returns-then-piece-gt-BLOCK-clause-bytes g c = passed_through g.T.Target.written c.args.self.now c.hand_on.new.self c.write.new.self (take c.in_ok-count.count c.args.piece.now) c.hand_on.ensures.kept c.in_ok-hand_on.ensures.empty c.in_ok-count.ensures.bytes
+returns-then-piece-gt-BLOCK-clause-bytes g c = passed_through g.T.Target.written c.args.self.now c.hand_on.new.self c.write.new.self
+    (take c.in_ok-count.count c.args.piece.now) c.hand_on.ensures.kept c.in_ok-hand_on.ensures.empty c.in_ok-count.ensures.bytes
 
 pub returns-then-piece-gt-BLOCK-clause-stays : goal.returns-then-piece-gt-BLOCK-clause-stays
 returns-then-piece-gt-BLOCK-clause-stays g c = c.in_ok-count.ensures.stays ∙ c.in_ok-hand_on.ensures.stays
@@ -77,7 +81,8 @@ pub returns-clause-some : goal.returns-clause-some
 returns-clause-some g c = λ h. h
 
 pub returns-clause-bytes : goal.returns-clause-bytes
-returns-clause-bytes g c = appends_both _ _ _ [] (take (length c.args.piece.now) c.args.piece.now) c.hand_on.ensures.kept (kept_more g.T.Target.written c.hand_on.new.self c.store-2.new.self _ c.store-2.ensures.kept c.store-2.ensures.target)
+returns-clause-bytes g c = appends_both _ _ _ [] (take (length c.args.piece.now) c.args.piece.now) c.hand_on.ensures.kept
+    (kept_more g.T.Target.written c.hand_on.new.self c.store-2.new.self _ c.store-2.ensures.kept c.store-2.ensures.target)
 
 pub returns-clause-stays : goal.returns-clause-stays
 returns-clause-stays g c = ap g.T.Target.has_failed c.store-2.ensures.target ∙ c.in_ok-hand_on.ensures.stays

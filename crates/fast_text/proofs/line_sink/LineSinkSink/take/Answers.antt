@@ -19,12 +19,14 @@ on_err_same (Ok x) (Err f) same then = absurd (cc)
 pub returns-clause-takes : goal.returns-clause-takes
 returns-clause-takes g c =
     on_ok_same c.finish.result c.stop_where_failed.result c.stop_where_failed.ensures
-    (λ is. takes_line _ _ (event_data c.args.event) refl refl c.new-line.ensures.as_it_is refl c.new-line.ensures.fresh c.event_holds_bytes.ensures c.put_event.ensures c.finish.ensures is)
+    (λ is. takes_line _ _ (event_data c.args.event) refl refl c.new-line.ensures.as_it_is refl c.new-line.ensures.fresh
+    c.event_holds_bytes.ensures c.put_event.ensures c.finish.ensures is)
 
 pub returns-clause-stops : goal.returns-clause-stops
 returns-clause-stops g c =
     on_err_same c.finish.result c.stop_where_failed.result c.stop_where_failed.ensures
-    (λ e is. stops_in_line _ _ (event_data c.args.event) e refl refl c.new-line.ensures.as_it_is refl c.new-line.ensures.fresh c.put_event.ensures c.finish.ensures is)
+    (λ e is. stops_in_line _ _ (event_data c.args.event) e refl refl c.new-line.ensures.as_it_is refl c.new-line.ensures.fresh
+    c.put_event.ensures c.finish.ensures is)
 
 pub shape_of-self : goal.shape_of-self
 shape_of-self g c = sym (c.finish.ensures.same_room ∙ c.put_event.ensures.same_room ∙ c.new-line.ensures.same_room)

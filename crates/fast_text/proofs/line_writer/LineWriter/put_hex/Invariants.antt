@@ -4,7 +4,8 @@ use Rattle.fast_text.specs.meaning.LineWriter.{Writes}
 use Rattle.fast_text.proofs.line_writer.LineWriter.put_hex.Given as goal
 
 abbrev pub invariant-loop-rest : goal.invariant-loop-rest
-invariant-loop-rest g l = (front : List ℕ) × (l.bytes ≡ front ++ l.rest) × Writes g.T.Target.written g.T.Target.has_failed l.fn.self (flat_map hex_byte front) l.self
+invariant-loop-rest g l = (front : List ℕ) × (l.bytes ≡ front ++ l.rest)
+    × Writes g.T.Target.written g.T.Target.has_failed l.fn.self (flat_map hex_byte front) l.self
 
 abbrev pub decreases-loop-rest : goal.decreases-loop-rest
 decreases-loop-rest g l = length l.rest

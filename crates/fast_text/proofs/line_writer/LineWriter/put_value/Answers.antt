@@ -17,11 +17,14 @@ returns-in-I g c =
 pub returns-in-Dec : goal.returns-in-Dec
 returns-in-Dec g c =
     let fits : SFits w64 c.in-Dec.mantissa = search rules in
-    let mantissa : signed_decimal (to_z w64 (of_z w64 c.in-Dec.mantissa)) ≡ signed_decimal c.in-Dec.mantissa = ap signed_decimal (to_z-of_z w64 c.in-Dec.mantissa fits) in
+    let mantissa : signed_decimal (to_z w64 (of_z w64 c.in-Dec.mantissa)) ≡ signed_decimal c.in-Dec.mantissa =
+    ap signed_decimal (to_z-of_z w64 c.in-Dec.mantissa fits) in
     let small : SFits w32 c.in-Dec.exponent = search rules in
     let wide : SFits w64 c.from.result = search rules in
-    let exponent : signed_decimal (to_z w64 (of_z w64 c.from.result)) ≡ signed_decimal c.in-Dec.exponent = ap signed_decimal (to_z-of_z w64 c.from.result wide ∙ c.from.ensures ∙ to_z-of_z w32 c.in-Dec.exponent small) in
-    rw c.in-Dec.is (writes_both (writes_both (writes_both c.put-in-Dec.ensures (writes_same mantissa c.put_signed-in-Dec.ensures)) c.put-in-Dec-2.ensures) (writes_same exponent c.put_signed-in-Dec-2.ensures))
+    let exponent : signed_decimal (to_z w64 (of_z w64 c.from.result)) ≡ signed_decimal c.in-Dec.exponent =
+    ap signed_decimal (to_z-of_z w64 c.from.result wide ∙ c.from.ensures ∙ to_z-of_z w32 c.in-Dec.exponent small) in
+    rw c.in-Dec.is (writes_both (writes_both (writes_both c.put-in-Dec.ensures (writes_same mantissa c.put_signed-in-Dec.ensures))
+    c.put-in-Dec-2.ensures) (writes_same exponent c.put_signed-in-Dec-2.ensures))
 
 pub returns-in-Ascii : goal.returns-in-Ascii
 returns-in-Ascii g c = rw c.in-Ascii.is c.put_text.ensures

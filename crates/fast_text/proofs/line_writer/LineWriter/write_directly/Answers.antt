@@ -8,7 +8,8 @@ pub returns-then-is_ok : goal.returns-then-is_ok
 returns-then-is_ok g c =
     let open_yet : is_ok c.args.self.now.outcome ≡ true = search rules in
     let e = c.write_all-self.ensures in
-    written_directly g.T.Target.written g.T.Target.has_failed _ _ c.args.text.now c.write_all-self.result c.requires c.requires refl refl open_yet refl e.bytes e.part e.fails e.stays
+    written_directly g.T.Target.written g.T.Target.has_failed _ _ c.args.text.now c.write_all-self.result c.requires c.requires refl refl
+    open_yet refl e.bytes e.part e.fails e.stays
 
 pub invariant_of-self : goal.invariant_of-self
 invariant_of-self g c = record { free = λ h. absurd (false≢true h) }

@@ -10,7 +10,8 @@ invariant_of-self c =
     let q = c.args.i / 7 in
     let m = 64 / 2 ^ (c.args.i % 7) in
     let s = some_bit (c.args.i % 7) (omega arith) in
-    subst (λ n. IsBuilt (set cells q (bit_or (get_or cells q 0) m)) n) (sym c.max-self-inside.ensures) (built_more cells c.self.inside.len q m c.self.invariant (omega (arith, c.requires)) s.0 s.1)
+    subst (λ n. IsBuilt (set cells q (bit_or (get_or cells q 0) m)) n) (sym c.max-self-inside.ensures)
+    (built_more cells c.self.inside.len q m c.self.invariant (omega (arith, c.requires)) s.0 s.1)
 
 pub returns : goal.returns
 returns c =
