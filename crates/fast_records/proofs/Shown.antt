@@ -1,8 +1,10 @@
 -- What a sink of records shows.
 use Rattle.std.proofs.Common.{◌≡◌, ◌≢◌, inl, inr, ℕ, ◌-◌, ◌<◌, List, [], ◌∷◌, ◌++◌, length, map, take, refl, sym, ap, subst, ◌∙◌}
-use Rattle.std.proofs.Common.{append-nil, append_assoc, arith, Result, Ok, Err, OnOk, OnErr}
+use Rattle.std.proofs.Common.{◌+◌, append-nil, append_assoc, arith, slice_set, Result, Ok, Err, OnOk, OnErr}
+use Rattle.std.specs.Borrow.{MutBor}
+use Rattle.std.proofs.lemmas.List.{length-set, take_more_set}
 use Rattle.fast_stream.specs.declared.events.Stop.{Stop}
-use Rattle.fast_stream.specs.meaning.Events.{EventData}
+use Rattle.fast_stream.specs.meaning.Events.{EventData, MessageStart, MessageEnd}
 use Rattle.fast_records.specs.declared.records.Record.{Record}
 use Rattle.fast_records.specs.declared.room.Room.{Room}
 use Rattle.fast_records.specs.declared.sink.RecordSink.{RecordSink}
@@ -132,3 +134,56 @@ shows_new s r₀ r waited waits moves no_record no_text in_order unclosed full r
       unclosed = λ none. limit_is ∙ unclosed (sym here ∙ none) ∙ sym same.long;
       full = full_same r (room_of s) (pending waits) (pending s.waiting.now) same here full;
     }
+
+-- Two records are added at once, of the end of a message and of the start of the next: with the first alone the sink is in between.
+pub two_taken : (s new : RecordSink) (a b : Record) (t : ℕ) → s.filled + 1 < s.limit → unplaced a ≡ record_of 0 MessageEnd
+    → unplaced b ≡ record_of 0 (MessageStart t) → new.records.ghost_name ≡ s.records.ghost_name
+    → new.texts ≡ s.texts → new.waiting ≡ s.waiting → new.used ≡ s.used → new.limit ≡ s.limit → new.filled ≡ s.filled + 2
+    → new.records.now ≡ slice_set (slice_set s.records.now s.filled a) (s.filled + 1) b
+    → (between : RecordSink) × TakesRecord s MessageEnd between × TakesRecord between (MessageStart t) new
+two_taken s new a b t room is_end is_start records texts waiting used limit filled records_now =
+    let inside : s.filled + 1 < length s.records.now = let within = s.limit_within in omega (arith, within, room) in
+    let one : List Record = slice_set s.records.now s.filled a in
+    let long : length one ≡ length s.records.now = length-set s.records.now s.filled a in
+    let between : RecordSink = record s {
+      records = record s.records { now = one };
+      filled = s.filled + 1;
+      filled_within = omega (arith, room);
+      limit_within = let within = s.limit_within in omega (arith, within, long);
+    } in (
+      between,
+      record {
+        same = record { records = refl; texts = refl; waiting = refl; long = long };
+        grows = omega arith;
+        shows = shows_put s between MessageEnd (length (texts_in (room_of s))) a [] refl is_end refl (record {
+          had_room = omega (arith, room);
+          grows = omega arith;
+          limit = refl;
+          long = long;
+          records = take_more_set s.records.now s.filled a (omega (arith, inside));
+          texts = sym (append-nil (texts_in (room_of s)));
+        }) refl;
+      },
+      record {
+        same = record {
+          records = records;
+          texts = ap (λ (x : MutBor (List ℕ)). x.ghost_name) texts;
+          waiting = ap (λ (x : MutBor Waiting). x.ghost_name) waiting;
+          long = ap length records_now ∙ length-set one (s.filled + 1) b;
+        };
+        grows = omega (arith, filled);
+        shows = shows_put between new (MessageStart t) (length (texts_in (room_of between))) b [] refl is_start refl (record {
+          had_room = room;
+          grows = omega (arith, filled);
+          limit = limit;
+          long = ap length records_now ∙ length-set one (s.filled + 1) b;
+          records = ap (λ (n : ℕ). take n new.records.now) (filled ∙ more s.filled) ∙ ap (take (s.filled + 1 + 1)) records_now
+              ∙ take_more_set one (s.filled + 1) b (omega (arith, inside, long));
+          texts = ap (λ (n : ℕ). take n new.texts.now) used ∙ ap (λ (x : MutBor (List ℕ)). take s.used x.now) texts
+              ∙ sym (append-nil (texts_in (room_of s)));
+        }) (ap (λ (x : MutBor Waiting). x.now) waiting);
+      },
+    )
+  where
+    more : (n : ℕ) → n + 2 ≡ n + 1 + 1
+    more n = omega arith

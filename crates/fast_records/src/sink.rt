@@ -102,21 +102,6 @@ impl<'a> RecordSink<'a> {
         true
     }
 
-    /// Adds a record without a string at `at`, which is the next and has room.
-    #[inline(always)]
-    fn add(&mut self, at: usize, next: Record)
-        requires next { at ≡ self.old.filled }
-        requires room { at < self.old.limit }
-        ensures same { IsSameSink self.old self.new }
-        ensures waiting { self.new.waiting.now ≡ self.old.waiting.now }
-        ensures filled { self.new.filled ≡ at + 1 }
-        ensures limit { self.new.limit ≡ self.old.limit }
-        ensures adds { Adds next [] (room_of self.old) (room_of self.new) }
-    {
-        self.records[at] = next;
-        self.filled = at + 1;
-    }
-
     /// Adds a record and its string. Returns false, with nothing changed, if there is no room for both.
     #[inline(always)]
     fn put_both(&mut self, next: Record, text: &[u8]) -> bool
@@ -197,7 +182,9 @@ impl<'a> RecordSink<'a> {
         self.keep_back(kind, node, value, exponent)
     }
 
-    /// Adds a field with a string. Not inlined, since the code for other events needs far fewer registers.
+    /// Adds a field with a string. Not inlined, since the code for other events needs far fewer registers; marked as cold so that the
+    /// registers of the decoder's loop are allocated for these.
+    #[cold]
     #[inline(never)]
     fn keep_text(&mut self, kind: u32, node: u32, text: &[u8]) -> Result<(), Stop>
         ensures ok { (e : EventData) → IsTextOf kind node text.now e → OnOk result (TakesRecord self.old e self.new) }
@@ -293,12 +280,14 @@ impl Sink for RecordSink<'_> {
     #[inline(always)]
     fn turn_message(&mut self, left: usize, template: u32) -> bool {
         let at = self.filled;
-        if self.limit - at < 2 {
+        if at + 1 >= self.limit {
             return false;
         }
         let end = self.until.wrapping_sub(left as u64);
-        self.add(at, content(MESSAGE_END, 0, end, 0));
-        self.add(at + 1, content(MESSAGE_START, template, 0, 0));
+        let records = &mut *self.records;
+        records[at] = content(MESSAGE_END, 0, end, 0);
+        records[at + 1] = content(MESSAGE_START, template, 0, 0);
+        self.filled += 2;
         true
     }
 }
