@@ -1,0 +1,88 @@
+// Decodes a stream to records by a call for each packet, for counts of instructions (tools/calls/packets).
+//
+//     packets BYTES ROUNDS TEMPLATES STREAM
+//
+// A packet is as many whole messages as reach BYTES bytes; 0: the whole stream is one piece. Each round is from a reset on. It prints the
+// number of calls and of records of a round; the status is 1 where a round does not end between two messages with as many records.
+#include <fast.h>
+#include <stdio.h>
+#include <stdlib.h>
+
+enum { RECORDS = 4096, TEXTS = 65536 };
+
+static fast_record records[RECORDS];
+static uint8_t texts[TEXTS];
+static size_t calls;
+
+struct content {
+    uint8_t *bytes;
+    size_t len;
+};
+
+static struct content content(const char *path) {
+    struct content is = {NULL, 0};
+    FILE *file = fopen(path, "rb");
+    if (!file) exit(2);
+    size_t room = 0;
+    do {
+        room = room ? 2 * room : 1 << 16;
+        is.bytes = realloc(is.bytes, room);
+        if (!is.bytes) exit(2);
+        is.len += fread(is.bytes + is.len, 1, room - is.len, file);
+    } while (is.len == room);
+    fclose(file);
+    return is;
+}
+
+// Decodes one packet, whose dictionary is that of the packet before. Returns the number of its records. `ends` has the offset of the end
+// of each message of the stream after those of `known`, unless it is null.
+static size_t decode(fast_decoder *decoder, const uint8_t *packet, size_t left, size_t *ends, size_t *known) {
+    size_t written = 0;
+    fast_fed fed;
+    do {
+        fed = fast_decode_packet(decoder, FAST_CONTINUE, packet, left, records, RECORDS, texts, TEXTS);
+        calls++;
+        for (size_t i = 0; ends && i < fed.records; i++) {
+            if (records[i].kind == FAST_MESSAGE_END) ends[(*known)++] = (size_t)records[i].value;
+        }
+        written += fed.records;
+        packet += fed.taken, left -= fed.taken;
+    } while (fed.status == FAST_MORE);
+    if (fed.status != FAST_DONE) exit(1);
+    return written;
+}
+
+// Decodes a stream in packets. Returns the number of its records.
+static size_t round_of(fast_decoder *decoder, struct content stream, size_t bytes, const size_t *ends, size_t known) {
+    size_t written = 0, start = 0;
+    fast_reset_decoder(decoder);
+    calls = 0;
+    for (size_t i = 0; i < known; i++) {
+        if (i + 1 < known && (!bytes || ends[i] - start < bytes)) continue;
+        written += decode(decoder, stream.bytes + start, ends[i] - start, NULL, NULL);
+        start = ends[i];
+    }
+    return written;
+}
+
+int main(int count, char **words) {
+    if (count != 5) return 2;
+    size_t bytes = strtoul(words[1], NULL, 10), rounds = strtoul(words[2], NULL, 10), known = 0;
+    struct content set_text = content(words[3]), stream = content(words[4]);
+    size_t *ends = calloc(stream.len + 1, sizeof *ends);
+    fast_limits limits = fast_default_limits;
+    fast_set *set;
+    fast_decoder *decoder;
+    limits.max_total = UINT32_MAX;
+    if (!ends || fast_read_set(set_text.bytes, set_text.len, &set) != FAST_DONE) return 2;
+    if (fast_open_decoder(set, limits, &decoder) != FAST_DONE) return 2;
+    size_t due = decode(decoder, stream.bytes, stream.len, ends, &known);
+    for (size_t i = 0; i < rounds; i++) {
+        if (round_of(decoder, stream, bytes, ends, known) != due) return 1;
+    }
+    printf("%zu %zu\n", calls, due);
+    fast_close_decoder(&decoder);
+    fast_close_set(&set);
+    free(ends), free(set_text.bytes), free(stream.bytes);
+    return 0;
+}
