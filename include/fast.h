@@ -345,11 +345,11 @@ static inline uint32_t fast_open_encoder(fast_set *set, fast_limits limits, fast
     return fast_encoder_open(handle, limits.max_text, limits.max_elements, limits.max_total, out);
 }
 
-// Encodes one message from its records, in the form in which a decoder writes them: FAST_MESSAGE_START to FAST_MESSAGE_END, strings anywhere in
-// texts, and any value in FAST_MESSAGE_END. Records and texts are not kept. Returns FAST_DONE, and the bytes are appended to those in the encoder that are not taken yet; or
-// FAST_CLOSED where the encoder is null; FAST_MISPLACED where the records are no message, with the number of the first that is no event, or
-// else of the first that is out of place, which is the number of records where one is missing; FAST_E1 to FAST_MESSAGE_R9 where the message
-// is refused; FAST_MESSAGE_MEMORY. A refusal changes nothing, and the next message can be put.
+// Encodes one message from its records, in the form in which a decoder writes them: FAST_MESSAGE_START to FAST_MESSAGE_END, strings anywhere
+// in texts, and any value in FAST_MESSAGE_END. Records and texts are not kept. Returns FAST_DONE, and the bytes are appended to those in the
+// encoder that are not taken yet; or FAST_CLOSED where the encoder is null; FAST_MISPLACED where the records are no message, with the number
+// of the first that is no event, or else of the first that is out of place, which is the number of records where one is missing; FAST_E1 to
+// FAST_MESSAGE_R9 where the message is refused; FAST_MESSAGE_MEMORY. A refusal changes nothing, and the next message can be put.
 static inline fast_put fast_put_message(fast_encoder *encoder, const fast_record *records, size_t records_len,
                                         const uint8_t *texts, size_t texts_len) {
     fast_put put = {0, 0, FAST_CLOSED, 0};

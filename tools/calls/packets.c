@@ -2,11 +2,11 @@
 //
 //     packets BYTES ROUNDS TEMPLATES STREAM
 //
-// A packet is as many whole messages as reach BYTES bytes; 0: the whole stream is one piece. Each round is from a reset on. It prints the
-// number of calls and of records of a round; the status is 1 where a round does not end between two messages with as many records.
+// A packet is as many whole messages as reach BYTES bytes; 0: the whole stream is one piece. Each round starts at a reset. It prints the
+// number of calls and of records of a round. The status is 1 if a packet is refused or ends inside a message, or if a round has another
+// number of records than the whole stream.
+#include "../counts/content.h"
 #include <fast.h>
-#include <stdio.h>
-#include <stdlib.h>
 
 enum { RECORDS = 4096, TEXTS = 65536 };
 
@@ -14,28 +14,8 @@ static fast_record records[RECORDS];
 static uint8_t texts[TEXTS];
 static size_t calls;
 
-struct content {
-    uint8_t *bytes;
-    size_t len;
-};
-
-static struct content content(const char *path) {
-    struct content is = {NULL, 0};
-    FILE *file = fopen(path, "rb");
-    if (!file) exit(2);
-    size_t room = 0;
-    do {
-        room = room ? 2 * room : 1 << 16;
-        is.bytes = realloc(is.bytes, room);
-        if (!is.bytes) exit(2);
-        is.len += fread(is.bytes + is.len, 1, room - is.len, file);
-    } while (is.len == room);
-    fclose(file);
-    return is;
-}
-
-// Decodes one packet, whose dictionary is that of the packet before. Returns the number of its records. `ends` has the offset of the end
-// of each message of the stream after those of `known`, unless it is null.
+// Decodes one packet, which goes on with the dictionary of the one before. Returns the number of its records. Appends the offset at which
+// each message ends to `ends`, of which `known` are there, unless it is null.
 static size_t decode(fast_decoder *decoder, const uint8_t *packet, size_t left, size_t *ends, size_t *known) {
     size_t written = 0;
     fast_fed fed;

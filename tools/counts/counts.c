@@ -4,10 +4,8 @@
 //
 // SINK is 0 to count events, 1 for the checksum, 2 for records, 3 to encode. NUMBER is the bytes of a piece (0: all of them), or the rounds
 // of the encoder. It prints status, bytes consumed, events and sum; of the encoder status, messages, bytes and sum.
+#include "content.h"
 #include <inttypes.h>
-#include <stdio.h>
-#include <stdlib.h>
-#include <string.h>
 
 // crates/fast_bench/src/lib.rt. A slice is a pointer and a length; numbers have the least byte first, as on x86-64.
 void fast_bench_run(const uint8_t *templates, size_t templates_len, const uint8_t *stream, size_t stream_len, size_t piece,
@@ -16,26 +14,6 @@ void fast_bench_encode(const uint8_t *templates, size_t templates_len, const uin
                        uint32_t max_text, uint32_t max_elements, uint32_t max_total, uint64_t out[4]);
 
 enum { MAX_TEXT = 1024, MAX_ELEMENTS = 1000 };
-
-struct content {
-    uint8_t *bytes;
-    size_t len;
-};
-
-static struct content content(const char *path) {
-    struct content is = {NULL, 0};
-    FILE *file = fopen(path, "rb");
-    if (!file) exit(2);
-    size_t room = 0;
-    do {
-        room = room ? 2 * room : 1 << 16;
-        is.bytes = realloc(is.bytes, room);
-        if (!is.bytes) exit(2);
-        is.len += fread(is.bytes + is.len, 1, room - is.len, file);
-    } while (is.len == room);
-    fclose(file);
-    return is;
-}
 
 int main(int count, char **words) {
     if (count != 6) return 2;
