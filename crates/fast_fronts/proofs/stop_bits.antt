@@ -1,5 +1,6 @@
 -- Where an entity ends, in a word of eight bytes.
 pub mod Stopping
 pub mod FrontWords
+pub mod Loaded
 pub mod ShortEntities
 pub mod Endless

@@ -1,7 +1,6 @@
 //! The first entity of a slice as an integer.
 //!
-//! An entity of one byte is by far the most common, and is looked for first. If eight bytes are left and the entity ends among them, it is
-//! read by one load of eight bytes. All others are read byte by byte, out of line.
+//! An entity that ends within eight bytes is read as one word. All others are read byte by byte, out of line.
 
 ghost use Rattle.std.specs.Prelude.{◌≡◌, ◌<◌, ◌≤◌, true, false, if◌then◌else◌, nat_lt, Option, IfSome, IfNone, Some, pos, option_map, length, take};
 ghost use Rattle.fast_wire.specs.meaning.Entities.{HaveNoStop, IsEntity};
@@ -9,10 +8,7 @@ ghost use Rattle.fast_wire.specs.meaning.Integers.{unsigned_up_to, signed_betwee
 ghost use Rattle.fast_wire.specs.device.Words.{IsShortEntity};
 ghost use Rattle.fast_fronts.specs.device.Fronts.{IsFirstInt, first_of};
 
-use crate::words::{
-    ShortEntity, eight_bytes, one_byte, short_entity, short_lowered, short_signed,
-    short_signed_lowered,
-};
+use crate::words::{ShortEntity, short_entity, short_lowered, short_signed, short_signed_lowered};
 use fast_wire::{
     WireFault, judge_nullable_signed, judge_nullable_unsigned, judge_signed, judge_unsigned,
     read_nullable_signed, read_nullable_unsigned, read_signed, read_unsigned,
@@ -58,13 +54,10 @@ pub fn first_nullable_unsigned(bytes: &[u8], strict: bool, top: u64) -> First<Op
 pub fn first_signed(bytes: &[u8], strict: bool, low: i128, top: i128) -> First<i128>
     ensures { IsFirstInt (λ x. Some x) strict (signed_between low top) false result bytes.now }
 {
-    if let Some(sum) = one_byte(bytes) {
-        return front_signed(bytes, sum, 1, strict, low, top);
+    match short_entity(bytes) {
+        Some(ShortEntity { number: sum, len }) => front_signed(bytes, sum, len, strict, low, top),
+        None => long_signed(bytes, strict, low, top),
     }
-    if let Some((sum, len)) = eight_bytes(bytes) {
-        return front_signed(bytes, sum, len, strict, low, top);
-    }
-    long_signed(bytes, strict, low, top)
 }
 
 /// Reads the first entity as a nullable integer in two's complement, from `low` to `top`: `None` is NULL.
@@ -77,13 +70,12 @@ pub fn first_nullable_signed(
 ) -> First<Option<i128>>
     ensures { IsFirstInt (λ x. x) strict (signed_between low top) true result bytes.now }
 {
-    if let Some(sum) = one_byte(bytes) {
-        return front_nullable_signed(bytes, sum, 1, strict, low, top);
+    match short_entity(bytes) {
+        Some(ShortEntity { number: sum, len }) => front_nullable_signed(
+            bytes, sum, len, strict, low, top,
+        ),
+        None => long_nullable_signed(bytes, strict, low, top),
     }
-    if let Some((sum, len)) = eight_bytes(bytes) {
-        return front_nullable_signed(bytes, sum, len, strict, low, top);
-    }
-    long_nullable_signed(bytes, strict, low, top)
 }
 
 /// Returns the result of `first_unsigned` for a short entity with this number and length.

@@ -7,8 +7,7 @@ ghost use Rattle.std.specs.Prelude.{◌≡◌, ◌≤◌, ◌≤ℤ◌, ◌↔�
 ghost use Rattle.fast_wire.specs.meaning.Entities.{number, has_sign, signed};
 ghost use Rattle.fast_wire.specs.meaning.Integers.{Means, IsWithin, unsigned_up_to, signed_between, delta_range};
 ghost use Rattle.fast_wire.specs.meaning.Faulty.{NoneIsOverlong};
-ghost use Rattle.fast_fronts.specs.device.Fronts.{IsFirstInt};
-ghost use Rattle.fast_wire.specs.device.Words.{IsFrontWord};
+ghost use Rattle.fast_fronts.specs.device.Fronts.{IsFirstInt, IsLoaded};
 ghost use Rattle.fast_fronts.specs.declared.fronts.First.TheVariants.{Whole};
 
 use crate::words::{
@@ -29,10 +28,7 @@ pub fn whole_unsigned(
     ensures { IfSome result (λ r. IsFirstInt (λ y. option_map pos y) strict (unsigned_up_to top) nullable
         (Whole r.0 r.1) bytes.now) }
 {
-    let Some(word) = front_word(bytes) else {
-        let sum = one_byte(bytes)?;
-        return Some((meant(sum, nullable), 1));
-    };
+    let word = front_word(bytes);
     let _ = strict;
     if !goes_on(word, bytes) {
         let sum = byte_in(word, bytes)?;
@@ -64,10 +60,7 @@ pub fn whole_signed(
     ensures { IfSome result (λ r. IsFirstInt (λ y. y) strict (signed_between low top) nullable
         (Whole r.0 r.1) bytes.now) }
 {
-    let Some(word) = front_word(bytes) else {
-        let sum = one_byte(bytes)?;
-        return Some((meant_signed(sum, 1, nullable), 1));
-    };
+    let word = front_word(bytes);
     if let Some(sum) = byte_in(word, bytes) {
         return Some((meant_signed(sum, 1, nullable), 1));
     }
@@ -143,7 +136,7 @@ fn meant_integer(n: i64, nullable: bool) -> Option<i64>
 /// so it is read here in neither mode: that spares all others a look at the mode. Both are one test of the byte's sign.
 #[inline(always)]
 fn goes_on(word: u64, bytes: &[u8]) -> bool
-    requires front { IsFrontWord word bytes.now }
+    requires front { IsLoaded word bytes.now }
     ensures { result ≡ true → NoneIsOverlong (λ v. pos (number v)) bytes.now }
 {
     let first = first_in(word, bytes);
@@ -154,7 +147,7 @@ fn goes_on(word: u64, bytes: &[u8]) -> bool
 /// the sign of the next byte.
 #[inline(always)]
 fn is_refused_signed_front(word: u64, bytes: &[u8], strict: bool) -> bool
-    requires front { IsFrontWord word bytes.now }
+    requires front { IsLoaded word bytes.now }
     ensures { result ≡ false → IsTrue strict → NoneIsOverlong signed bytes.now }
 {
     strict && repeats_sign(first_in(word, bytes), second_in(word, bytes))

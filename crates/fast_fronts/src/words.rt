@@ -1,10 +1,11 @@
 //! Entities of at most eight bytes, read as one word.
 
-ghost use Rattle.std.specs.Prelude.{◌≡◌, ℕ, ◌*◌, ◌++◌, ◌<◌, ◌≤◌, true, All, List, IfSome, pos, option_map, length, take, get_or};
+ghost use Rattle.std.specs.Prelude.{◌≡◌, ℕ, ◌*◌, ◌++◌, ◌<◌, ◌≤◌, true, All, List, IfSome, pos, option_map, length, take, replicate, get_or};
 ghost use Rattle.std.specs.Int.{w32, from_le_bytes};
 ghost use Rattle.fast_wire.specs.meaning.Entities.{IsEntity, number, signed};
 ghost use Rattle.fast_wire.specs.meaning.Integers.{Means};
-ghost use Rattle.fast_wire.specs.device.Words.{word_of, IsShortEntity, IsWordInFront, IsFrontWord, IsSpread};
+ghost use Rattle.fast_wire.specs.device.Words.{word_of, IsShortEntity, IsFrontWord, IsSpread};
+ghost use Rattle.fast_fronts.specs.device.Fronts.{IsLoaded};
 
 /// The stop bits of eight bytes.
 const STOP_BITS: u64 = 0x8080_8080_8080_8080;
@@ -26,19 +27,14 @@ pub struct ShortEntity {
 pub fn short_entity(bytes: &[u8]) -> Option<ShortEntity>
     ensures { IfSome result (λ e. IsShortEntity e.number e.len bytes.now) }
 {
-    if let Some(number) = one_byte(bytes) {
+    let word = front_word(bytes);
+    if let Some(number) = byte_in(word, bytes) {
         return Some(ShortEntity { number, len: 1 });
     }
-    if let Some((number, len)) = four_bytes(bytes) {
+    if let Some((number, len)) = four_in(word, bytes) {
         return Some(ShortEntity { number, len });
     }
-    if let Some((number, len)) = few_bytes(bytes) {
-        return Some(ShortEntity { number, len });
-    }
-    if let Some((number, len)) = seven_bytes(bytes) {
-        return Some(ShortEntity { number, len });
-    }
-    let (number, len) = eight_bytes(bytes)?;
+    let (number, len) = eight_in(word, bytes)?;
     Some(ShortEntity { number, len })
 }
 
@@ -54,98 +50,50 @@ pub(crate) fn one_byte(bytes: &[u8]) -> Option<u64>
     Some(u64::from(byte & 0x7f))
 }
 
-/// Returns the number and the length of the first entity, if four bytes are there and it ends among them. Most do: so their number is made
-/// of 32 bits, which leaves no question of its range.
+/// Returns the first eight bytes as one word, the first one the lowest, with zeros for those that are missing. Reading the bytes one by one
+/// and some of them together is then one load. The functions that use the word have the bytes as an argument too, for their clauses.
 #[inline(always)]
-pub(crate) fn four_bytes(bytes: &[u8]) -> Option<(u64, usize)>
-    ensures entity { IfSome result (λ e. IsShortEntity e.0 e.1 bytes.now) }
-    ensures few { IfSome result (λ e. e.1 ≤ 4) }
+pub(crate) fn front_word(bytes: &[u8]) -> u64
+    ensures { IsLoaded result bytes.now }
 {
-    let chunk = *bytes.first_chunk::<4>()?;
-    let stops = u32::from_le_bytes(chunk) & SHORT_STOP_BITS;
-    if stops == 0 {
-        return None;
+    match bytes.first_chunk::<8>() {
+        Some(chunk) => u64::from_le_bytes(*chunk),
+        None => last_word(bytes),
     }
-    let bits = stops.trailing_zeros() + 1;
-    let word = u32::from_be_bytes(chunk) >> (32 - bits);
-    Some((u64::from(packed_short(word)), bits as usize / 8))
 }
 
-/// Returns the number and the length of the first entity, if two or three bytes are there and it ends among them: those of four bytes,
-/// padded with zeros, of which none is a last byte.
-#[inline(always)]
-fn few_bytes(bytes: &[u8]) -> Option<(u64, usize)>
-    ensures { IfSome result (λ e. IsShortEntity e.0 e.1 bytes.now) }
-{
-    let third = match bytes.len() {
-        2 => 0,
-        3 => bytes[2],
-        _ => return None,
-    };
-    let (number, len) = four_bytes(&[bytes[0], bytes[1], third, 0])?;
-    if len > bytes.len() {
-        return None;
-    }
-    Some((number, len))
-}
-
-/// Returns the number and the length of the first entity, if five to seven bytes are there and it ends among them: those of eight bytes,
-/// padded with zeros.
+/// Returns fewer than eight bytes as [`front_word`] does: the last ones of a piece.
 #[cold]
 #[inline(never)]
-fn seven_bytes(bytes: &[u8]) -> Option<(u64, usize)>
-    ensures { IfSome result (λ e. IsShortEntity e.0 e.1 bytes.now) }
+fn last_word(bytes: &[u8]) -> u64
+    requires few { length bytes.now < 8 }
+    ensures { IsLoaded result bytes.now }
 {
-    if bytes.len() < 5 || bytes.len() > 7 {
-        return None;
-    }
-    let mut cells = [0; 8];
-    cells[..bytes.len()].copy_from_slice(bytes);
-    let (number, len) = eight_bytes(&cells)?;
-    if len > bytes.len() {
-        return None;
-    }
-    Some((number, len))
+    let Some(four) = bytes.first_chunk::<4>() else {
+        return u64::from(last_half(bytes));
+    };
+    let high = u64::from(last_half(&bytes[4..]));
+    u64::from(u32::from_le_bytes(*four)) + (high << 32)
 }
 
-/// Returns the number and the length of the first entity, if eight bytes are there and it ends among them.
+/// Returns fewer than four bytes as one word, the first one the lowest, with zeros for those that are missing.
 #[inline(always)]
-pub(crate) fn eight_bytes(bytes: &[u8]) -> Option<(u64, usize)>
-    ensures { IfSome result (λ e. IsShortEntity e.0 e.1 bytes.now) }
+fn last_half(bytes: &[u8]) -> u32
+    requires few { length bytes.now < 4 }
+    ensures { result ≡ from_le_bytes w32 (take 4 (bytes.now ++ replicate 4 0)) }
 {
-    let (word, len) = word_in_front(bytes)?;
-    Some((packed(word), len))
-}
-
-/// Returns the first entity as the lower bytes of a word, and its length, if eight bytes are there and it ends among them.
-#[inline(always)]
-fn word_in_front(bytes: &[u8]) -> Option<(u64, usize)>
-    ensures { IfSome result (λ e. IsWordInFront e.0 e.1 bytes.now) }
-{
-    let chunk = *bytes.first_chunk::<8>()?;
-    let stops = u64::from_le_bytes(chunk) & STOP_BITS;
-    if stops == 0 {
-        return None;
+    match bytes {
+        [a] => u32::from_le_bytes([*a, 0, 0, 0]),
+        [a, b] => u32::from_le_bytes([*a, *b, 0, 0]),
+        [a, b, c] => u32::from_le_bytes([*a, *b, *c, 0]),
+        _ => 0,
     }
-    let bits = stops.trailing_zeros() + 1;
-    let word = u64::from_be_bytes(chunk) >> (64 - bits);
-    Some((word, bits as usize / 8))
-}
-
-/// Returns the eight bytes in front as one word, the first one the lowest, if that many are there. Reading the bytes one by one and some of
-/// them together is then one load. The functions that use the word have the bytes as an argument too, for their clauses.
-#[inline(always)]
-pub(crate) fn front_word(bytes: &[u8]) -> Option<u64>
-    ensures { IfSome result (λ word. IsFrontWord word bytes.now) }
-{
-    let chunk = bytes.first_chunk::<8>()?;
-    Some(u64::from_le_bytes(*chunk))
 }
 
 /// Returns the first byte.
 #[inline(always)]
 pub(crate) fn first_in(word: u64, bytes: &[u8]) -> u8
-    requires front { IsFrontWord word bytes.now }
+    requires front { IsLoaded word bytes.now }
     ensures { result ≡ get_or bytes.now 0 0 }
 {
     let _ = bytes;
@@ -155,27 +103,26 @@ pub(crate) fn first_in(word: u64, bytes: &[u8]) -> u8
 /// Returns the second byte.
 #[inline(always)]
 pub(crate) fn second_in(word: u64, bytes: &[u8]) -> u8
-    requires front { IsFrontWord word bytes.now }
+    requires front { IsLoaded word bytes.now }
     ensures { result ≡ get_or bytes.now 1 0 }
 {
     let _ = bytes;
     (word >> 8 & 0xff) as u8
 }
 
-/// Returns the first four bytes.
+/// Returns the lower four bytes.
 #[inline(always)]
-fn four_of(word: u64, bytes: &[u8]) -> u32
-    requires front { IsFrontWord word bytes.now }
-    ensures { result ≡ from_le_bytes w32 (take 4 bytes.now) }
+fn four_of(word: u64) -> u32
+    ensures { (bytes : List ℕ) → All (λ byte. byte < 256) bytes → IsFrontWord word bytes
+        → result ≡ from_le_bytes w32 (take 4 bytes) }
 {
-    let _ = bytes;
     (word & 0xffff_ffff) as u32
 }
 
 /// Returns the number of the first entity, if it is one byte.
 #[inline(always)]
 pub(crate) fn byte_in(word: u64, bytes: &[u8]) -> Option<u64>
-    requires front { IsFrontWord word bytes.now }
+    requires front { IsLoaded word bytes.now }
     ensures { IfSome result (λ sum. IsShortEntity sum 1 bytes.now) }
 {
     let byte = first_in(word, bytes);
@@ -188,11 +135,11 @@ pub(crate) fn byte_in(word: u64, bytes: &[u8]) -> Option<u64>
 /// Returns the number and the length of the first entity, if it ends among four bytes.
 #[inline(always)]
 pub(crate) fn four_in(word: u64, bytes: &[u8]) -> Option<(u64, usize)>
-    requires front { IsFrontWord word bytes.now }
+    requires front { IsLoaded word bytes.now }
     ensures entity { IfSome result (λ e. IsShortEntity e.0 e.1 bytes.now) }
     ensures few { IfSome result (λ e. e.1 ≤ 4) }
 {
-    let four = four_of(word, bytes);
+    let four = four_of(word);
     let stops = four & SHORT_STOP_BITS;
     if stops == 0 {
         return None;
@@ -206,12 +153,12 @@ pub(crate) fn four_in(word: u64, bytes: &[u8]) -> Option<(u64, usize)>
 /// word before its bytes are packed, which needs fewer steps than to do so for each length afterwards.
 #[inline(always)]
 pub(crate) fn four_signed_in(word: u64, bytes: &[u8]) -> Option<(i64, usize)>
-    requires front { IsFrontWord word bytes.now }
+    requires front { IsLoaded word bytes.now }
     ensures entity { IfSome result (λ e. IsShortEntity (number (take e.1 bytes.now)) e.1 bytes.now
         × (e.0 ≡ signed (take e.1 bytes.now))) }
     ensures few { IfSome result (λ e. e.1 ≤ 4) }
 {
-    let four = four_of(word, bytes);
+    let four = four_of(word);
     let stops = four & SHORT_STOP_BITS;
     if stops == 0 {
         return None;
@@ -236,7 +183,7 @@ fn with_sign(word: u32, bits: u32) -> u32
 /// Returns the number and the length of the first entity, if it ends among the eight bytes. More than four bytes are expected.
 #[inline(always)]
 pub(crate) fn eight_in(word: u64, bytes: &[u8]) -> Option<(u64, usize)>
-    requires front { IsFrontWord word bytes.now }
+    requires front { IsLoaded word bytes.now }
     ensures { IfSome result (λ e. IsShortEntity e.0 e.1 bytes.now) }
 {
     let _ = bytes;
@@ -249,17 +196,6 @@ pub(crate) fn eight_in(word: u64, bytes: &[u8]) -> Option<(u64, usize)>
     Some((packed_whole(low), bits as usize / 8))
 }
 
-/// Packs the lower seven bits of each of eight bytes side by side. Most entities have four bytes at most.
-#[inline(always)]
-fn packed(word: u64) -> u64
-    ensures { (w : List ℕ) → length w ≡ 8 → All (λ byte. byte < 256) w → word ≡ word_of w → result ≡ number w }
-{
-    if word <= 0xffff_ffff {
-        return packed_low(word);
-    }
-    packed_whole(word)
-}
-
 /// Packs the lower seven bits of each of eight bytes side by side, in three steps.
 #[inline(always)]
 fn packed_whole(word: u64) -> u64
@@ -269,17 +205,6 @@ fn packed_whole(word: u64) -> u64
     let pairs = sevens - ((sevens & 0x7f00_7f00_7f00_7f00) >> 1);
     let fours = pairs - ((pairs & 0x3fff_0000_3fff_0000) >> 2) * 3;
     fours - (fours >> 32) * 0xf000_0000
-}
-
-/// Packs the lower seven bits of each of eight bytes side by side, in two steps, if the upper four bytes are zero.
-#[inline(always)]
-fn packed_low(word: u64) -> u64
-    requires low { word ≤ 4294967295 }
-    ensures { (w : List ℕ) → length w ≡ 8 → All (λ byte. byte < 256) w → word ≡ word_of w → result ≡ number w }
-{
-    let sevens = word & 0x7f7f_7f7f;
-    let pairs = sevens - ((sevens & 0x7f00_7f00) >> 1);
-    pairs - (pairs >> 16) * 0xc000
 }
 
 /// Packs the lower seven bits of each of four bytes side by side.

@@ -1,9 +1,10 @@
 -- The first entity of a list of bytes, as an integer.
-use Rattle.std.specs.Prelude.{ℕ, ◌<◌, ◌≤◌, Bool, List, length, take, ℤ, Option, Result, Ok, Err}
+use Rattle.std.specs.Prelude.{◌≡◌, ℕ, ◌++◌, ◌<◌, ◌≤◌, All, Bool, List, length, take, ℤ, Option, Result, Ok, Err}
 use Rattle.fast_wire.specs.meaning.Entities.{HaveNoStop}
 use Rattle.fast_wire.specs.meaning.Integers.{Range, SpellsInt}
 use Rattle.fast_wire.specs.declared.reads.WireFault.{WireFault}
 use Rattle.fast_wire.specs.meaning.Faulty.{IsWrongInt}
+use Rattle.fast_wire.specs.device.Words.{IsFrontWord}
 use Rattle.fast_fronts.specs.declared.fronts.First.{First}
 use Rattle.fast_fronts.specs.declared.fronts.First.TheVariants.{Whole, Wrong, Cut}
 
@@ -17,3 +18,9 @@ IsFirstInt meant strict range nullable Cut bytes = HaveNoStop bytes × (length b
 abbrev pub first_of : {T : Type 0} → Result T WireFault → ℕ → First T
 first_of (Ok x) len = Whole x len
 first_of (Err fault) len = Wrong fault len
+
+-- The word is eight bytes, the first one the lowest: the first of these, and zeros for those that are missing.
+pub record IsLoaded (word : ℕ) (bytes : List ℕ) : Type 0 where
+  pub zeros : List ℕ
+  pub none : All (λ byte. byte ≡ 0) zeros
+  pub front : IsFrontWord word (bytes ++ zeros)

@@ -12,7 +12,7 @@ returns-in-Some-four_signed_in c =
 
 pub returns : goal.returns
 returns c =
-    let i = c.in_ok-sum-2 in
+    let i = c.in_ok-sum in
     let meant = c.meant_signed-number in
     signed_is c.args.strict c.args.nullable c.args.low c.args.top meant.result i.sum i.len c.args.bytes.now i.ensures
     (c.if-is_refused_signed_front.ensures refl) meant.ensures

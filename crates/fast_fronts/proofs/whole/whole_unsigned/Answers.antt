@@ -2,10 +2,10 @@ use Rattle.std.proofs.Common.{refl}
 use Rattle.fast_fronts.proofs.numbers.Whole.{unsigned_is, few_unsigned, small_unsigned, tested_unsigned}
 use Rattle.fast_fronts.proofs.whole.whole_unsigned.Goals as goal
 
-pub returns-in-Some-four_in : goal.returns-in-Some-four_in
-returns-in-Some-four_in c =
-    let i = c.in-Some-four_in in
-    let meant = c.meant-in-Some-four_in in
+pub returns-in-Some : goal.returns-in-Some
+returns-in-Some c =
+    let i = c.in-Some in
+    let meant = c.meant-in-Some in
     let small = few_unsigned i.sum i.len c.args.bytes.now i.ensures.entity i.ensures.few in
     unsigned_is c.args.strict c.args.nullable c.args.top meant.result i.sum i.len c.args.bytes.now i.ensures.entity
     (λ _. c.if-not-goes_on.ensures refl) meant.ensures
@@ -13,7 +13,7 @@ returns-in-Some-four_in c =
 
 pub returns : goal.returns
 returns c =
-    let i = c.in_ok-sum-3 in
+    let i = c.in_ok-sum-2 in
     let meant = c.meant-number in
     unsigned_is c.args.strict c.args.nullable c.args.top meant.result i.sum i.len c.args.bytes.now i.ensures (λ _. c.if-not-goes_on.ensures refl) meant.ensures
     (tested_unsigned meant.result c.args.top (c.if-not-is_up_to.ensures refl))
