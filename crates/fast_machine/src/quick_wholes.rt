@@ -1,4 +1,4 @@
-//! The fast path of fields that are numbers, at the start or the end of a piece, where too few bytes are left for the loop's arms:
+//! The fast path of fields that are numbers, at the start of a piece, or after a byte of a map that is used up, where the loop has no arm:
 //! integers, of which some bytes may be buffered, and decimals under delta, both units at once.
 
 ghost use Rattle.std.specs.Prelude.{◌≡◌, ◌≢◌, ◌⊎◌, ◌+◌, ◌<◌, true, false, ℕ, List, [], Ok, IfSome, IfNone};
