@@ -109,7 +109,7 @@ impl<'t> Machine<'t> {
 
     /// Reads the next instruction as [`Machine::take_short_number`] does, if a byte is left.
     #[inline(always)]
-    pub fn take_last_number<S: Sink>(
+    pub fn take_next_number<S: Sink>(
         &mut self,
         templates: &'t Templates,
         limits: Limits,

@@ -18,18 +18,6 @@ use fast_units::fields::needs_bytes;
 use fast_value::Limits;
 
 impl UnitTaken {
-    /// Returns the result for a unit of this number of bytes, after which the machine goes on.
-    #[inline(always)]
-    pub fn gone_on(bytes: usize) -> UnitTaken
-        ensures bytes { result.bytes ≡ bytes }
-        ensures turn { result.turn ≡ Ok Turn.Silent }
-    {
-        UnitTaken {
-            bytes,
-            turn: Ok(Turn::Silent),
-        }
-    }
-
     /// Returns whether the machine goes on, or the fault at which it stopped.
     #[inline(always)]
     pub fn outcome(&self) -> Result<(), FaultCode>

@@ -351,37 +351,6 @@ module _ {S : Type 0} (takes stops : S → EventData → S → Type 0) (set : Se
       runs_on m s w Handed s' m' on h = h
       runs_on m s w TurnWaits s' m' on h = absurd (on refl)
 
-  -- Fewer bytes are left behind a step that took some.
-  pub fewer_left : (rest : List ℕ) (n k : ℕ) → 0 < n → n ≤ length rest → length rest ≤ k → length (take (length rest - n) (drop n rest)) < k
-  fewer_left rest n k some inside less =
-      let size : length (take (length rest - n) (drop n rest)) ≡ length rest - n = ap length (take_rest rest n) ∙ length-drop n rest in
-      omega (arith, size, some, inside, less)
-
-  -- The same under other names.
-  pub so_far_as : (m : Machine) (piece : List ℕ) (s : S) (rest : List ℕ) {s' : S} {m' : Machine} (s'' : S) (m'' : Machine) → s'' ≡ s'
-      → m'' ≡ m' → IsSoFar m piece s rest s' m' → IsSoFar m piece s rest s'' m''
-  so_far_as m piece s rest {s'} {m'} s'' m'' e f h = subst (λ (x : S). IsSoFar m piece s rest x m'') (sym e)
-      (subst (λ (x : Machine). IsSoFar m piece s rest s' x) (sym f) h)
-
-  -- Steps that took bytes, behind which the machine goes on, are one step.
-  pub so_far_on : (m : Machine) (piece : List ℕ) (s : S) (rest : List ℕ) (q : UnitTaken) (s' : S) (m' : Machine)
-      → q.bytes ≡ length piece - length rest → q.turn ≡ Ok Silent → length rest < length piece → IsSoFar m piece s rest s' m'
-      → IsStep takes stops set l m piece s q s' m'
-  so_far_on m piece s rest q s' m' size is_turn some h =
-      subst (λ (x : ℕ). IsStep takes stops set l m piece s (record { bytes = x; turn = q.turn }) s' m') (sym size)
-      (subst (λ (x : Result Turn FaultCode). IsStep takes stops set l m piece s (record {
-        bytes = length piece - length rest;
-        turn = x;
-      }) s' m') (sym is_turn) (record {
-        within = omega arith;
-        runs = h.runs;
-        supplied = h.turn.supplied;
-        goes_on = h.turn;
-        silent = λ none e. absurd (omega (arith, none, some));
-        handed = λ none e. absurd (omega (arith, none, some));
-        turns = λ way n c. h.turns way n c;
-      }))
-
   -- the last one
   pub so_far_end : (m : Machine) (piece : List ℕ) (s : S) (rest : List ℕ) (mid : S) (b : Machine) (q : UnitTaken)
       (turn : Result Turn FaultCode) (s' : S) (m' : Machine) → q.turn ≡ turn → ((t : Turn) → turn ≡ Ok t → t ≡ TurnWaits)
