@@ -238,6 +238,9 @@ void fast_encoder_close(fast_encoder_handle encoder);
 // Replaces a null buffer: the library wants an address even for nothing.
 static fast_record fast_nothing;
 
+// What a feed returns where the decoder is null.
+static const fast_fed fast_fed_closed = {0, 0, 0, 0, 0, FAST_CLOSED};
+
 // Reads a template set from TOML text in UTF-8, which is not kept; a null text is an empty one. Returns FAST_DONE and sets *out, which the
 // caller closes; FAST_CLOSED where out is null; FAST_NOT_TEXT, FAST_S1 to FAST_SET_MEMORY or FAST_NO_MEMORY, and *out is unchanged.
 static inline uint32_t fast_read_set(const uint8_t *text, size_t text_len, fast_set **out) {
@@ -294,13 +297,12 @@ static inline uint32_t fast_open_decoder(fast_set *set, fast_limits limits, fast
 // where the decoder is null.
 static inline fast_fed fast_feed(fast_decoder *decoder, const uint8_t *piece, size_t piece_len, fast_record *records,
                                  size_t records_len, uint8_t *texts, size_t texts_len) {
-    fast_fed fed = {0, 0, 0, 0, 0, FAST_CLOSED};
+    fast_fed fed;
     fast_decoder_handle handle = {decoder};
     uint8_t *nothing = (uint8_t *)&fast_nothing;
-    if (decoder) {
-        fast_decoder_feed(handle, &handle.at, piece ? piece : nothing, piece ? piece_len : 0, records ? records : &fast_nothing,
-                          records ? records_len : 0, texts ? texts : nothing + 8, texts ? texts_len : 0, &fed);
-    }
+    if (!decoder) return fast_fed_closed;
+    fast_decoder_feed(handle, &handle.at, piece ? piece : nothing, piece ? piece_len : 0, records ? records : &fast_nothing,
+                      records ? records_len : 0, texts ? texts : nothing + 8, texts ? texts_len : 0, &fed);
     return fed;
 }
 
@@ -311,14 +313,12 @@ static inline fast_fed fast_feed(fast_decoder *decoder, const uint8_t *piece, si
 // An empty packet has no messages.
 static inline fast_fed fast_decode_packet(fast_decoder *decoder, uint32_t start, const uint8_t *packet, size_t packet_len,
                                           fast_record *records, size_t records_len, uint8_t *texts, size_t texts_len) {
-    fast_fed fed = {0, 0, 0, 0, 0, FAST_CLOSED};
+    fast_fed fed;
     fast_decoder_handle handle = {decoder};
     uint8_t *nothing = (uint8_t *)&fast_nothing;
-    if (decoder) {
-        fast_decoder_packet(handle, &handle.at, start, packet ? packet : nothing, packet ? packet_len : 0,
-                            records ? records : &fast_nothing, records ? records_len : 0, texts ? texts : nothing + 8,
-                            texts ? texts_len : 0, &fed);
-    }
+    if (!decoder) return fast_fed_closed;
+    fast_decoder_packet(handle, &handle.at, start, packet ? packet : nothing, packet ? packet_len : 0, records ? records : &fast_nothing,
+                        records ? records_len : 0, texts ? texts : nothing + 8, texts ? texts_len : 0, &fed);
     return fed;
 }
 

@@ -32,21 +32,29 @@ static size_t decode(fast_decoder *decoder, const uint8_t *packet, size_t left, 
     return written;
 }
 
-// Decodes a stream in packets. Returns the number of its records.
-static size_t round_of(fast_decoder *decoder, struct content stream, size_t bytes, const size_t *ends, size_t known) {
+// Keeps, of the ends of messages, those of packets. Returns their number.
+static size_t packets_of(size_t *ends, size_t known, size_t bytes) {
+    size_t count = 0, start = 0;
+    for (size_t i = 0; i < known; i++) {
+        if (i + 1 < known && (!bytes || ends[i] - start < bytes)) continue;
+        ends[count++] = start = ends[i];
+    }
+    return count;
+}
+
+// Decodes a stream in packets, by their ends. Returns the number of its records.
+static size_t round_of(fast_decoder *decoder, struct content stream, const size_t *ends, size_t count) {
     size_t written = 0, start = 0;
     fast_reset_decoder(decoder);
     calls = 0;
-    for (size_t i = 0; i < known; i++) {
-        if (i + 1 < known && (!bytes || ends[i] - start < bytes)) continue;
+    for (size_t i = 0; i < count; start = ends[i++]) {
         written += decode(decoder, stream.bytes + start, ends[i] - start, NULL, NULL);
-        start = ends[i];
     }
     return written;
 }
 
-int main(int count, char **words) {
-    if (count != 5) return 2;
+int main(int argc, char **words) {
+    if (argc != 5) return 2;
     size_t bytes = strtoul(words[1], NULL, 10), rounds = strtoul(words[2], NULL, 10), known = 0;
     struct content set_text = content(words[3]), stream = content(words[4]);
     size_t *ends = calloc(stream.len + 1, sizeof *ends);
@@ -57,8 +65,9 @@ int main(int count, char **words) {
     if (!ends || fast_read_set(set_text.bytes, set_text.len, &set) != FAST_DONE) return 2;
     if (fast_open_decoder(set, limits, &decoder) != FAST_DONE) return 2;
     size_t due = decode(decoder, stream.bytes, stream.len, ends, &known);
+    size_t count = packets_of(ends, known, bytes);
     for (size_t i = 0; i < rounds; i++) {
-        if (round_of(decoder, stream, bytes, ends, known) != due) return 1;
+        if (round_of(decoder, stream, ends, count) != due) return 1;
     }
     printf("%zu %zu\n", calls, due);
     fast_close_decoder(&decoder);

@@ -140,6 +140,7 @@ pub extern "C" fn fast_decoder_open(
 }
 
 /// Returns the result of a feed after a packet that has ended inside a message.
+#[cold]
 fn cut_fed(consumed: u64) -> FastFed
     ensures { result ≡ cut_fed consumed }
 {
@@ -153,7 +154,8 @@ fn cut_fed(consumed: u64) -> FastFed
     }
 }
 
-/// Feeds a piece, as far as its events have room.
+/// Feeds a piece, as far as its events have room. Inlined, so that a call for each packet is a single call.
+#[inline(always)]
 fn feed(decoding: &mut Decoding, piece: &[u8], records: &mut [Record], texts: &mut [u8]) -> FastFed
     ensures { Feeds decoding.old piece.now records.new texts.new result decoding.new }
 {
@@ -210,6 +212,7 @@ fn start(decoding: &mut Decoding, is_reset: bool)
 }
 
 /// Feeds the rest of a packet to a decoder, which is reset first if asked for.
+#[inline(always)]
 fn feed_packet(
     decoding: &mut Decoding,
     is_reset: bool,

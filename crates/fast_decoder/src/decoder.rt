@@ -109,6 +109,7 @@ impl<'t> Decoder<'t> {
     /// Reads the next piece of the stream, which may be split anywhere, and passes its events to the sink.
     ///
     /// At a fault the bytes up to its offset (`place`) are consumed, and each further feed returns the same fault, until `reset`.
+    #[inline(always)]
     pub fn feed<S: Sink>(&mut self, piece: &[u8], sink: &mut S) -> Result<(), Fault>
         // The decoder has then read the piece after what it had read before, and the sink receives the events of the piece.
         ensures carried { (w : List ℕ) (es : List EventData) → HasRead self.old w es

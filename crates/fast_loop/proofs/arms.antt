@@ -7,6 +7,7 @@ pub mod Fields
 pub mod Back
 pub mod Ends
 pub mod Starts
+pub mod First
 pub mod Walks
 pub mod Ops
 pub mod Texts

@@ -1,6 +1,6 @@
 //! The loop at the end of a message: the next one begins, if its head is in the piece completely.
 
-ghost use Rattle.std.specs.Prelude.{◌≡◌, ◌⊎◌, ◌+◌, ◌<◌, ◌≤◌, ℕ, [], take, drop, length, slice_get, Some, Ok};
+ghost use Rattle.std.specs.Prelude.{◌≡◌, ◌≢◌, ◌⊎◌, ◌+◌, ◌<◌, ◌≤◌, ℕ, [], take, drop, length, slice_get, Some, Ok, IfSome, IfNone};
 ghost use Rattle.fast_value.specs.meaning.Limits.{bounds};
 ghost use Rattle.fast_tree.specs.declared.instructions.Template.{Template};
 ghost use Rattle.fast_dict.specs.meaning.Slots.{slots_dictionary};
@@ -8,23 +8,98 @@ ghost use Rattle.fast_stream.specs.meaning.Events.{MessageStart, MessageEnd};
 ghost use Rattle.fast_stream.specs.device.GrammarReaders.{reader_of};
 ghost use Rattle.fast_cursor.specs.device.Cursors.{resting};
 ghost use Rattle.fast_cursor.specs.device.Places.{place_left, at_place, IsPlaceOf};
-ghost use Rattle.fast_machine.specs.device.Positions.{placed, set_of, tree_in, IsBehindMap, IsStartIn, IsTurn, CanTurn};
+ghost use Rattle.fast_machine.specs.device.Positions.{placed, set_of, tree_in, IsBehindMap, IsReady, IsStartIn, IsSupplied, IsTurn, CanTurn};
 ghost use Rattle.fast_loop.specs.device.Arms.{HasWent, begun_by};
 ghost use Rattle.fast_machine.specs.device.Starts.{message_from, mapped_by, IsMessageAhead};
-ghost use Rattle.fast_machine.specs.device.TurnsLeft.{Way, most_by, HasTurnsBehind};
+ghost use Rattle.fast_machine.specs.device.TurnsLeft.{Way, most_by, HasTurnsBehind, HasTurnsWaiting, turns_begun_at};
+ghost use Rattle.fast_machine.specs.device.Words.{TakesUnit};
 ghost use Rattle.fast_machine.specs.declared.machine.Machine.{Machine};
 ghost use Rattle.fast_machine.specs.declared.machine.Turn.{Turn};
 ghost use Rattle.fast_loop.specs.declared.spot.Spot.{Spot};
 
 use crate::spot::{Spot, Went};
 use fast_machine::heads::reset_if;
-use fast_machine::machine::{Machine, Waiting};
+use fast_machine::machine::{Machine, Turn, Waiting};
+use fast_machine::quick_units::UnitTaken;
 use fast_machine::settling::{hand, hand_end};
 use fast_machine::turns::Turns;
 use fast_program::Start;
-use fast_stream::{Event, Sink};
+use fast_stream::{Event, FaultCode, Sink};
 use fast_template::Templates;
 use fast_value::Limits;
+
+/// Begins the message that the piece begins with, if the machine is between two messages, the presence map is one byte, and a template has
+/// the identifier. Returns the bytes that were read, and the end of the turn after them.
+#[inline(always)]
+pub fn begin_first<'t, S: Sink>(
+    machine: &mut Machine<'t>,
+    templates: &'t Templates,
+    limits: Limits,
+    piece: &[u8],
+    sink: &mut S,
+) -> Option<UnitTaken>
+    requires ready { IsReady (set_of templates.now) limits machine.old }
+    ensures none { IfNone result ((machine.new ≡ machine.old) × (sink.new ≡ sink.old)) }
+    ensures taken { IfSome result (λ q. TakesUnit S.takes S.stops (set_of templates.now) limits machine.old piece.now
+        sink.old q sink.new machine.new) }
+    ensures on { IfSome result (λ q. q.turn ≢ Ok Turn.Waits) }
+    ensures turns { (way : Way) (n : ℕ) → HasTurnsWaiting way (set_of templates.now) limits n machine.old
+        → IfSome result (λ q. HasTurnsBehind q.turn way (set_of templates.now) limits
+        (1 + n + turns_begun_at machine.old.waiting machine.old.cursor.map way (tree_in (set_of templates.now)) limits)
+        machine.new) }
+{
+    if !machine.is_idle() {
+        return None;
+    }
+    let (bytes, start) = first_message(machine, templates, limits, piece)?;
+    let mut spot = Spot {
+        place: machine.cursor.place(),
+        rest: piece,
+    };
+    let went = message_begins(machine, templates, limits, start, bytes, &mut spot, sink);
+    machine.cursor.set_place(spot.place);
+    Some(UnitTaken {
+        bytes,
+        turn: begun_by(went),
+    })
+}
+
+/// Reads the head of the message that the piece begins with, if its presence map is one byte, and a template has its identifier, which may
+/// be that of the message before. Returns its number of bytes and the start of the template.
+#[inline(always)]
+fn first_message<'t>(
+    machine: &mut Machine<'t>,
+    templates: &'t Templates,
+    limits: Limits,
+    piece: &[u8],
+) -> Option<(usize, &'t Start)>
+    requires supplied { IsSupplied (set_of templates.now) limits machine.old }
+    requires unused { machine.old.entity.bytes ≡ [] }
+    ensures none { IfNone result (machine.new ≡ machine.old) }
+    ensures ahead { IfSome result (λ r. IsMessageAhead (set_of templates.now) limits
+        (slots_dictionary machine.old.slots) (slots_dictionary machine.new.slots) piece.now r.1.now.number r.0) }
+    ensures start { IfSome result (λ r. IsStartIn (set_of templates.now) r.1.now) }
+    ensures supplied { IsSupplied (set_of templates.now) limits machine.new }
+    ensures same { machine.new ≡ record machine.old { slots = machine.new.slots; latest = machine.new.latest } }
+{
+    if let Some(start) = machine.message_again(templates, limits, piece) {
+        return Some((1, start));
+    }
+    machine.next_message(templates, limits, piece)
+}
+
+/// Returns the end of the turn in which an arm began a message.
+#[inline(always)]
+fn begun_by(went: Went) -> Result<Turn, FaultCode>
+    ensures { result ≡ begun_by went }
+{
+    match went {
+        Went::Took => Ok(Turn::Handed),
+        Went::Handed | Went::Silent | Went::Declined | Went::Stopped | Went::Waits => {
+            Err(FaultCode::SinkStopped)
+        }
+    }
+}
 
 /// Ends the message: the next one begins, if its presence map is one byte and its template is known.
 #[inline(always)]

@@ -31,9 +31,6 @@ use fast_stream::{FaultCode, Sink};
 use fast_template::{Operator, Templates};
 use fast_value::{Kind, Limits};
 
-/// The arms of integers read eight bytes at once, so the last integers of a piece are read one after the other on the general path.
-const FEW: usize = 8;
-
 /// Returns the op at a position: the next instruction's, or the end of the innermost segment.
 #[inline(always)]
 fn op_at<'t>(
@@ -55,9 +52,8 @@ fn op_at<'t>(
     place.op()
 }
 
-/// Makes a step on the general path, or several, if few bytes are left: the last integers of a piece. That a field waits for its unit is by
-/// far the most common turn of the others, and is tested first. It is marked as cold so that the loop's registers are allocated for the
-/// arms.
+/// Makes a step on the general path. That a field waits for its unit is by far the most common turn, and is tested first. It is marked as
+/// cold so that the loop's registers are allocated for the arms.
 #[cold]
 #[inline(never)]
 fn general_step<'t, S: Sink>(
@@ -73,33 +69,11 @@ fn general_step<'t, S: Sink>(
         machine.new }
     ensures waits { (t : Turn) → result.turn ≡ Ok t → t ≢ Turn.Waits → machine.new.waiting ≡ Waiting.Field }
 {
-    let mut left = rest;
-    while let Some(quick) = machine.take_last_number(templates, *limits, left, sink) {
-        left = &left[quick.bytes..];
-        if !quick.goes_on() {
-            return UnitTaken {
-                bytes: rest.len() - left.len(),
-                turn: quick.turn,
-            };
-        }
-        if left.len() >= FEW {
-            return UnitTaken::gone_on(rest.len() - left.len());
-        }
+    if let Some(quick) = machine.take_next_number(templates, *limits, rest, sink) {
+        return quick;
     }
     if machine.waits_at_once(templates, *limits, sink) {
-        let step = machine.take_slowly(templates, *limits, left, sink);
-        left = &left[step.bytes..];
-        let bytes = rest.len() - left.len();
-        if step.goes_on() {
-            return UnitTaken::gone_on(bytes);
-        }
-        return UnitTaken {
-            bytes,
-            turn: step.turn,
-        };
-    }
-    if left.len() < rest.len() {
-        return UnitTaken::gone_on(rest.len() - left.len());
+        return machine.take_slowly(templates, *limits, rest, sink);
     }
     machine.step_by_turn(templates, *limits, rest, sink)
 }

@@ -57,8 +57,23 @@ fn is_nothing(taken: usize, filled: usize) -> bool
 }
 
 /// Returns how a call ended, from whether events wait, the decoder's result, whether the whole piece was consumed, and whether nothing was
-/// consumed or written.
+/// consumed or written. Most calls are done.
+#[inline(always)]
 fn outcome_of(waits: bool, answer: Result<(), Fault>, all: bool, nothing: bool) -> Outcome
+    ensures { result ≡ outcome_of waits answer all nothing }
+{
+    if !waits && all {
+        if let Ok(()) = answer {
+            return Outcome::Done;
+        }
+    }
+    other_outcome(waits, answer, all, nothing)
+}
+
+/// Returns how a call ended, as [`outcome_of`] does.
+#[cold]
+#[inline(never)]
+fn other_outcome(waits: bool, answer: Result<(), Fault>, all: bool, nothing: bool) -> Outcome
     ensures { result ≡ outcome_of waits answer all nothing }
 {
     if waits {
@@ -80,6 +95,7 @@ fn outcome_of(waits: bool, answer: Result<(), Fault>, all: bool, nothing: bool) 
 /// A call feeds at most half as many bytes as there are free records, rounded up, and none while events wait. So events seldom have to
 /// wait; those that do wait in memory, at most the cap of a message for each of these bytes. If that allocation fails, the decoder is at
 /// `SinkStopped`.
+#[inline(always)]
 pub fn feed_records(
     decoder: &mut Decoder<'_>,
     waiting: &mut Waiting,

@@ -55,6 +55,7 @@ impl<'a> RecordSink<'a> {
 
     /// Makes a sink over empty buffers, and first moves the events that wait into them, as far as they have room. The sink is for the bytes
     /// that are fed at once of `len`, after `consumed` bytes of the stream.
+    #[inline(always)]
     pub(crate) fn new(
         records: &'a mut [Record],
         texts: &'a mut [u8],

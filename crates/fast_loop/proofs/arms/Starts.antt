@@ -30,7 +30,7 @@ abbrev pub IsStart : Went → Type 0
 IsStart went = (went ≡ Went.Took) ⊎ (went ≡ Went.Stopped)
 
 -- A turn that began a message does not wait.
-begun_on : (went : Went) → IsStart went → begun_by went ≢ Ok Waits
+pub begun_on : (went : Went) → IsStart went → begun_by went ≢ Ok Waits
 begun_on Went.Took is e = cc e
 begun_on Went.Stopped is e = cc e
 begun_on Went.Handed is e = cc e
