@@ -234,14 +234,12 @@ room_by s records texts filled used records_is texts_is filled_is used_is =
     (omega (arith, s.filled_within, s.limit_within, longer, filled_is), omega (arith, s.used_within, wider, used_is))
 
 -- how a call ends, in the words of its contract
-pub outcome_by : (o : Outcome) (waits nothing all none : Bool) (r : Result Unit Fault) (d : DecoderData) (v u : Waiting)
-    → o ≡ outcome_of waits r all nothing → waits ≡ nat_lt 0 (length (pending u)) → v ≡ u → r ≡ answer d.fault → nothing ≡ none
+pub outcome_by : (o : Outcome) (waits nothing all none : Bool) (d : DecoderData) (v u : Waiting)
+    → o ≡ outcome_of waits (answer d.fault) all nothing → waits ≡ nat_lt 0 (length (pending u)) → v ≡ u → nothing ≡ none
     → o ≡ outcome_of (nat_lt 0 (length (pending v))) (answer d.fault) all none
-outcome_by o waits nothing all none r d v u o_is waits_is v_is r_is nothing_is =
-    let b = nat_lt 0 (length (pending v)) in
-    o_is ∙ ap (λ (x : Bool). outcome_of x r all nothing) (waits_is ∙ ap (λ (x : Waiting). nat_lt 0 (length (pending x))) (sym v_is))
-    ∙ ap (λ (q : Result Unit Fault). outcome_of b q all nothing) r_is
-    ∙ ap (λ (x : Bool). outcome_of b (answer d.fault) all x) nothing_is
+outcome_by o waits nothing all none d v u o_is waits_is v_is nothing_is =
+    o_is ∙ ap (λ (x : Bool). outcome_of x (answer d.fault) all nothing) (waits_is ∙ ap (λ (x : Waiting). nat_lt 0 (length (pending x))) (sym v_is))
+    ∙ ap (λ (x : Bool). outcome_of (nat_lt 0 (length (pending v))) (answer d.fault) all x) nothing_is
 
 -- so where the decoder had stopped before
 pub outcome_stopped : (o : Outcome) (waits all : Bool) (taken filled : ℕ) (f : Fault) (d : DecoderData)

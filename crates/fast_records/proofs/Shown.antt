@@ -135,6 +135,23 @@ shows_new s r₀ r waited waits moves no_record no_text in_order unclosed full r
       full = full_same r (room_of s) (pending waits) (pending s.waiting.now) same here full;
     }
 
+-- Nothing waited: the sink shows nothing.
+pub shows_none : (s : RecordSink) (waited : Waiting) → pending waited ≡ [] → s.waiting.now ≡ waited → s.filled ≡ 0 → IsOpen (room_of s)
+    → s.used ≡ 0 → Shows s (pending waited)
+shows_none s waited none waits_is filled_is unclosed used_is =
+    let here : pending s.waiting.now ≡ [] = ap (λ (v : Waiting). pending v) waits_is ∙ none in
+    record {
+      given = [];
+      filled = record {
+        records_are = ap (λ (n : ℕ). map unplaced (take n s.records.now)) filled_is;
+        texts_are = ap (λ (n : ℕ). take n s.texts.now) used_is;
+      };
+      all = none ∙ sym here;
+      in_order = λ _. here;
+      unclosed = λ _. unclosed;
+      full = λ some. absurd (some here);
+    }
+
 -- Two records are added at once, of the end of a message and of the start of the next: with the first alone the sink is in between.
 pub two_taken : (s new : RecordSink) (a b : Record) (t : ℕ) → s.filled + 1 < s.limit → unplaced a ≡ record_of 0 MessageEnd
     → unplaced b ≡ record_of 0 (MessageStart t) → new.records.ghost_name ≡ s.records.ghost_name

@@ -3,4 +3,5 @@ pub mod Due
 pub mod Lent
 pub mod Putting
 pub mod Room
+pub mod Starts
 pub mod Waiting

@@ -56,32 +56,32 @@ fn is_nothing(taken: usize, filled: usize) -> bool
     taken == 0 && filled == 0
 }
 
-/// Returns how a call ended, from whether events wait, the decoder's result, whether the whole piece was consumed, and whether nothing was
-/// consumed or written. Most calls are done.
+/// Returns how a call ended, from whether events wait, the decoder, whether the whole piece was consumed, and whether nothing was consumed or
+/// written. Most calls are done.
 #[inline(always)]
-fn outcome_of(waits: bool, answer: Result<(), Fault>, all: bool, nothing: bool) -> Outcome
-    ensures { result ≡ outcome_of waits answer all nothing }
+fn outcome_of(waits: bool, decoder: &Decoder<'_>, all: bool, nothing: bool) -> Outcome
+    ensures { result ≡ outcome_of waits (answer decoder.now.fault) all nothing }
 {
     if !waits && all {
-        if let Ok(()) = answer {
+        if let None = decoder.fault() {
             return Outcome::Done;
         }
     }
-    other_outcome(waits, answer, all, nothing)
+    other_outcome(waits, decoder, all, nothing)
 }
 
 /// Returns how a call ended, as [`outcome_of`] does.
 #[cold]
 #[inline(never)]
-fn other_outcome(waits: bool, answer: Result<(), Fault>, all: bool, nothing: bool) -> Outcome
-    ensures { result ≡ outcome_of waits answer all nothing }
+fn other_outcome(waits: bool, decoder: &Decoder<'_>, all: bool, nothing: bool) -> Outcome
+    ensures { result ≡ outcome_of waits (answer decoder.now.fault) all nothing }
 {
     if waits {
         return unfinished(nothing);
     }
-    match answer {
-        Err(fault) => Outcome::Fault(fault.code),
-        Ok(()) => if all {
+    match decoder.fault() {
+        Some(fault) => Outcome::Fault(fault.code),
+        None => if all {
             Outcome::Done
         } else {
             unfinished(nothing)
@@ -132,7 +132,7 @@ pub fn feed_records(
     let before = decoder.consumed();
     let mut sink = RecordSink::new(records, texts, waiting, before, piece.len());
     let front = &piece[..fed_at_once(piece.len(), sink.left())];
-    let answer = decoder.feed(front, &mut sink);
+    let _ = decoder.feed(front, &mut sink);
     let taken = (decoder.consumed() - before) as usize;
     let filled = sink.filled();
     Fed {
@@ -141,7 +141,7 @@ pub fn feed_records(
         texts: sink.used(),
         outcome: outcome_of(
             sink.waits(),
-            answer,
+            decoder,
             taken == piece.len(),
             is_nothing(taken, filled),
         ),

@@ -8,6 +8,7 @@ pub mod putting;
 pub mod records;
 mod room;
 pub mod sink;
+mod starting;
 pub mod status;
 pub mod waiting;
 

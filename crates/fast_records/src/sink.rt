@@ -8,8 +8,8 @@ use crate::records::{
     MESSAGE_START, Record, SEQUENCE_END, SEQUENCE_START, SIGNED, UNICODE, UNSIGNED, content,
     text_record,
 };
-use crate::room::Room;
-use crate::waiting::{Waiting, hand_over};
+use crate::starting::started;
+use crate::waiting::Waiting;
 use fast_decoder::{Event, Sink, Stop};
 use fast_value::Scalar;
 
@@ -68,19 +68,16 @@ impl<'a> RecordSink<'a> {
         ensures waiting { result.waiting.ghost_name ≡ waiting.entry.ghost_name }
         ensures shows { Shows result (pending waiting.old) }
     {
-        let mut room = Room::new(&mut *records, &mut *texts);
-        hand_over(&mut room, &mut *waiting);
-        let filled = room.filled();
-        let limit = room.limit();
-        let used = room.used();
+        let start = started(&mut *records, &mut *texts, &mut *waiting);
+        let free = start.limit - start.records;
         RecordSink {
             records,
             texts,
             waiting,
-            filled,
-            limit,
-            used,
-            until: consumed.wrapping_add(fed_at_once(len, limit - filled) as u64),
+            filled: start.records,
+            limit: start.limit,
+            used: start.texts,
+            until: consumed.wrapping_add(fed_at_once(len, free) as u64),
         }
     }
 
