@@ -238,7 +238,7 @@ void fast_encoder_close(fast_encoder_handle encoder);
 // Replaces a null buffer: the library wants an address even for nothing.
 static fast_record fast_nothing;
 
-// What a feed returns where the decoder is null.
+// The result of a feed of a null decoder.
 static const fast_fed fast_fed_closed = {0, 0, 0, 0, 0, FAST_CLOSED};
 
 // Reads a template set from TOML text in UTF-8, which is not kept; a null text is an empty one. Returns FAST_DONE and sets *out, which the

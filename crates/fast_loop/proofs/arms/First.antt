@@ -36,4 +36,6 @@ module _ (set : Set) (l : Limits) (m : Machine) (waits : m.waiting ≡ Map) (non
       subst (λ (map : List ℕ). HasTurnsInMap map way set l n m.turns.count) none (subst (λ (w : Waiting). HasTurnsAt w way set l n m) waits h)
 
   pub idle_begun : (way : Way) → turns_begun_at m.waiting m.cursor.map way (tree_in set) l ≡ most_by way (tree_in set) l
-  idle_begun way = ap (λ (w : Waiting). turns_begun_at w m.cursor.map way (tree_in set) l) waits ∙ ap (λ (map : List ℕ). turns_begun map way (tree_in set) l) none
+  idle_begun way =
+      ap (λ (w : Waiting). turns_begun_at w m.cursor.map way (tree_in set) l) waits
+      ∙ ap (λ (map : List ℕ). turns_begun map way (tree_in set) l) none

@@ -35,4 +35,5 @@ returns-clause-entity c =
     let len = (count_trailing_zeros 32 (short_stops_of four.result) + 1) / 8 in
     let at = it len refl in
     let own = unpadded bytes loaded.zeros (number (take len all)) len loaded.none at.0 in
-    (subst (λ n. IsShortEntity n len bytes) (ap number own.1) own.0, to_z-of_z w64 c.extended.result (record { sfits = c.extended.type_inv }) ∙ at.1 ∙ ap signed own.1)
+    let is = to_z-of_z w64 c.extended.result (record { sfits = c.extended.type_inv }) ∙ at.1 ∙ ap signed own.1 in
+    (subst (λ n. IsShortEntity n len bytes) (ap number own.1) own.0, is)
