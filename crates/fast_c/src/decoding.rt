@@ -2,7 +2,6 @@
 
 ghost use Rattle.std.specs.Prelude.{◌≡◌, not, ◌==◌, IfOk, IfErr};
 ghost use Rattle.fast_decoder.specs.device.InHand.{in_hand};
-ghost use Rattle.fast_records.specs.meaning.Status.{status_number, ended};
 ghost use Rattle.fast_c.specs.declared.decoding.Decoding.{Decoding};
 ghost use Rattle.fast_c.specs.meaning.Opening.{limits_of, IsNotMade, Opens};
 ghost use Rattle.fast_c.specs.meaning.Decoders.{IsMade, IsReset, Starts, Feeds, FeedsPacket, cut_fed, due_info, ends_inside};
@@ -10,7 +9,7 @@ ghost use Rattle.fast_c.specs.meaning.Decoders.{IsMade, IsReset, Starts, Feeds, 
 use crate::sets::SetHandle;
 use crate::{boxed, limits_of};
 use fast_decoder::{Decoder, Due};
-use fast_records::{Outcome, Record, Status, Waiting, feed_records};
+use fast_records::{Record, Status, Waiting, feed_records};
 use fast_value::Limits;
 use std::alloc::Global;
 use std::marker::Model;
@@ -155,17 +154,6 @@ fn cut_fed(consumed: u64) -> FastFed
     }
 }
 
-/// Returns the number of the status of a call that ended so. Most calls are done.
-#[inline(always)]
-fn status_of(outcome: Outcome) -> u32
-    ensures { result ≡ status_number (ended outcome) }
-{
-    match outcome {
-        Outcome::Done => 0,
-        Outcome::More | Outcome::NoRoom | Outcome::Fault(_) => Status::from(outcome).number(),
-    }
-}
-
 /// Feeds a piece, as far as its events have room. Inlined, so that a call for each packet is a single call.
 #[inline(always)]
 fn feed(decoding: &mut Decoding, piece: &[u8], records: &mut [Record], texts: &mut [u8]) -> FastFed
@@ -180,13 +168,14 @@ fn feed(decoding: &mut Decoding, piece: &[u8], records: &mut [Record], texts: &m
         ..
     } = decoding;
     let fed = feed_records(decoder, waiting, piece, records, texts);
+    let status = Status::from(fed.outcome).number();
     FastFed {
         taken: fed.taken as u64,
         records: fed.records as u64,
         texts: fed.texts as u64,
         consumed: decoder.consumed(),
         between: u32::from(decoder.between()),
-        status: status_of(fed.outcome),
+        status,
     }
 }
 
