@@ -26,9 +26,43 @@ pub struct PieceTaken {
     pub outcome: Result<(), FaultCode>,
 }
 
-/// Reads the units of a piece, up to its end, a fault, or the sink's stop.
+/// Reads the units of a piece, up to its end, a fault, or the sink's stop. A piece that ends inside a partial unit, as most do of a string
+/// that arrives byte by byte, is buffered here.
 #[inline(always)]
 pub fn take_all<'t, S: Sink>(
+    machine: &mut Machine<'t>,
+    templates: &'t Templates,
+    limits: Limits,
+    piece: &[u8],
+    sink: &mut S,
+) -> PieceTaken
+    requires ready { IsReady (set_of templates.now) limits machine.old }
+    ensures within { result.bytes ≤ length piece.now }
+    ensures all { IsOk result.outcome → result.bytes ≡ length piece.now }
+    ensures fed { Fed S.takes S.stops (tree_in (set_of templates.now)) limits
+        (waiting_at (meaning (set_of templates.now) limits machine.old)) (take result.bytes piece.now)
+        sink.old result.outcome sink.new (waiting_at (meaning (set_of templates.now) limits machine.new)) }
+    ensures ready { OnOk result.outcome (IsReady (set_of templates.now) limits machine.new) }
+    ensures supplied { IsSupplied (set_of templates.now) limits machine.new }
+    ensures turns { (way : Way) → machine.old.turns.count ≡ 0
+        → HasTurnsWaiting way (set_of templates.now) limits (most_by way (tree_in (set_of templates.now)) limits)
+        machine.old
+        → (machine.new.turns.count ≤ result.bytes * (1 + most_by way (tree_in (set_of templates.now)) limits))
+        × OnOk result.outcome ((k : ℕ) × HasTurnsWaiting way (set_of templates.now) limits k machine.new) }
+{
+    let kept = machine.gather(templates, limits, piece);
+    if kept > 0 {
+        return PieceTaken {
+            bytes: kept,
+            outcome: Ok(()),
+        };
+    }
+    take_units(machine, templates, limits, piece, sink)
+}
+
+/// Reads the units of a piece that is not known to end inside a partial unit.
+#[inline(always)]
+fn take_units<'t, S: Sink>(
     machine: &mut Machine<'t>,
     templates: &'t Templates,
     limits: Limits,
@@ -106,41 +140,9 @@ fn take_some<'t, S: Sink>(
     }
 }
 
-/// Reads as [`take_some`] does, whatever the machine waits for. A piece that ends inside a partial unit, as most do of a string that arrives
-/// byte by byte, is buffered at once.
+/// Reads as [`take_some`] does, whatever the machine waits for.
 #[inline(never)]
 fn take_other<'t, S: Sink>(
-    machine: &mut Machine<'t>,
-    templates: &'t Templates,
-    limits: Limits,
-    rest: &[u8],
-    sink: &mut S,
-) -> PieceTaken
-    requires ready { IsReady (set_of templates.now) limits machine.old }
-    requires some { 0 < length rest.now }
-    ensures some { 0 < result.bytes }
-    ensures within { result.bytes ≤ length rest.now }
-    ensures fed { Fed S.takes S.stops (tree_in (set_of templates.now)) limits
-        (waiting_at (meaning (set_of templates.now) limits machine.old)) (take result.bytes rest.now)
-        sink.old result.outcome sink.new (waiting_at (meaning (set_of templates.now) limits machine.new)) }
-    ensures ready { OnOk result.outcome (IsReady (set_of templates.now) limits machine.new) }
-    ensures supplied { IsSupplied (set_of templates.now) limits machine.new }
-    ensures turns { (way : Way) → IsCountedBy result.outcome way (set_of templates.now) limits result.bytes machine.old
-        machine.new }
-{
-    let kept = machine.gather(templates, limits, rest);
-    if kept > 0 {
-        return PieceTaken {
-            bytes: kept,
-            outcome: Ok(()),
-        };
-    }
-    take_unit(machine, templates, limits, rest, sink)
-}
-
-/// Reads as [`take_some`] does a piece that is not known to end inside a partial unit.
-#[inline(always)]
-fn take_unit<'t, S: Sink>(
     machine: &mut Machine<'t>,
     templates: &'t Templates,
     limits: Limits,

@@ -1,50 +1,54 @@
-use Rattle.std.proofs.Common.{sym, ◌≡◌, ◌+◌, ◌∙◌}
-use Rattle.std.specs.Prelude.{false, is_err}
+-- All of the piece is kept in hand, or its units are taken.
+use Rattle.std.proofs.Common.{sym, ap, ◌∙◌, arith, subst}
+use Rattle.std.specs.Prelude.{◌≡◌, ◌≤◌, ◌*◌, ◌+◌, take}
+use Rattle.fast_machine.specs.declared.machine.Machine.{Machine}
+use Rattle.fast_machine.specs.device.Handing.{Fed, waiting_at}
 use Rattle.fast_machine.specs.device.Positions.{set_of, tree_in, meaning}
-use Rattle.fast_machine.specs.device.Handing.{waiting_at}
-use Rattle.fast_machine.proofs.streams.Feeding.{fed_behind, fed_on, on_ok, within_piece}
-use Rattle.fast_machine.proofs.steps.TurnCounts.{still_spent, after_some, all_paid, spent_paid}
+use Rattle.fast_machine.specs.device.TurnsLeft.{most_by, HasTurnsWaiting}
+use Rattle.fast_loop.proofs.steps.Kept.{IsKeptOf, kept_fed, kept_within, kept_ready, kept_turns}
 use Rattle.fast_loop.proofs.pieces.take_all.Goals as goal
 
-pub returns-then-is_err-clause-fed : goal.returns-then-is_err-clause-fed
-returns-then-is_err-clause-fed g c =
+pub returns-then-kept-gt0 : goal.returns-then-kept-gt0
+returns-then-kept-gt0 g c =
     let set = set_of c.args.templates.now in
     let l = c.args.limits in
-    let taken = c.take_some-taken in
-    fed_behind (tree_in set) l g.S.Sink.takes g.S.Sink.stops (waiting_at (meaning set l c.args.machine.now))
-    (waiting_at (meaning set l c.loop-bytes.machine)) (waiting_at (meaning set l taken.new.machine)) c.args.piece.now
-    c.loop-bytes.bytes taken.result.bytes
-    c.args.sink.now c.loop-bytes.sink taken.new.sink taken.result.outcome c.loop-bytes.invariant.took taken.ensures.fed
-
-pub returns-then-is_err-clause-turns : goal.returns-then-is_err-clause-turns
-returns-then-is_err-clause-turns g c way none h =
-    let set = set_of c.args.templates.now in
-    let l = c.args.limits in
-    let taken = c.take_some-taken in
-    all_paid way set l (c.loop-bytes.bytes + taken.result.bytes) taken.new.machine taken.result.outcome
-    (after_some way set l c.loop-bytes.bytes taken.result.bytes c.loop-bytes.machine taken.new.machine taken.result.outcome
-    (c.loop-bytes.invariant.turns way none h) (taken.ensures.turns way))
-
-pub loop-bytes-preserved : goal.loop-bytes-preserved
-loop-bytes-preserved g c =
-    let takes = g.S.Sink.takes in
-    let stops = g.S.Sink.stops in
-    let set = set_of c.args.templates.now in
-    let l = c.args.limits in
-    let taken = c.take_some-taken in
-    let ok : is_err taken.result.outcome ≡ false = sym c.is_err.ensures.value ∙ c.if-is_err.false in
+    let m = c.args.machine.now in
+    let piece = c.args.piece.now in
+    let a = c.gather-kept.new.self in
+    let k = c.gather-kept.result in
+    let kept : IsKeptOf set l m a piece k = record { kept = c.gather-kept.ensures.kept; none = c.gather-kept.ensures.none } in
+    let (size, got) = kept.kept c.if-kept-gt0.true in
+    let ready = kept_ready set l m a piece k kept c.requires.ready in
+    let same : a.turns.count ≡ m.turns.count = ap (λ (x : Machine). x.turns.count) got.same in
     record {
-      within = within_piece c.args.piece.now c.loop-bytes.bytes taken.result.bytes c.loop-bytes.invariant.within taken.ensures.within;
-      ready = on_ok taken.result.outcome ok taken.ensures.ready;
-      took = fed_on (tree_in set) l takes stops _ _ _ taken.result.outcome _ _ ok
-          (fed_behind (tree_in set) l takes stops (waiting_at (meaning set l c.args.machine.now))
-          (waiting_at (meaning set l c.loop-bytes.machine)) (waiting_at (meaning set l taken.new.machine)) c.args.piece.now
-          c.loop-bytes.bytes taken.result.bytes
-          c.args.sink.now c.loop-bytes.sink taken.new.sink taken.result.outcome c.loop-bytes.invariant.took taken.ensures.fed);
-      turns = λ way none h. still_spent way set l c.loop-bytes.bytes taken.result.bytes c.loop-bytes.machine taken.new.machine
-          taken.result.outcome ok taken.ensures.some (c.loop-bytes.invariant.turns way none h) (taken.ensures.turns way);
+      within = kept_within set l m a piece k kept;
+      all = λ ok. size;
+      fed = kept_fed g.S.Sink.takes g.S.Sink.stops set l c.args.templates.now.nodes_name_later_nodes m a piece k c.args.sink.now kept;
+      ready = ready;
+      supplied = ready.supplied;
+      turns = λ way none h. (
+        subst (λ t. t ≤ k * (1 + most_by way (tree_in set) l)) (sym (same ∙ none)) (omega arith),
+        (most_by way (tree_in set) l, kept_turns set l m a piece k kept way (most_by way (tree_in set) l) h),
+      );
     }
 
-pub returns-clause-turns : goal.returns-clause-turns
-returns-clause-turns g c way none h = spent_paid way (set_of c.args.templates.now) c.args.limits c.loop-bytes.bytes c.loop-bytes.machine
-    (c.loop-bytes.invariant.turns way none h)
+pub returns : goal.returns
+returns g c =
+    let set = set_of c.args.templates.now in
+    let l = c.args.limits in
+    let b = c.gather-kept.new.self in
+    let none = c.if-kept-gt0.false in
+    let same : b ≡ c.args.machine.now = c.gather-kept.ensures.none (omega (arith, none)) in
+    let units = c.take_units in
+    record {
+      within = units.ensures.within;
+      all = units.ensures.all;
+      fed = subst (λ (x : Machine). Fed g.S.Sink.takes g.S.Sink.stops (tree_in set) l (waiting_at (meaning set l x))
+          (take units.result.bytes c.args.piece.now) c.args.sink.now units.result.outcome units.new.sink
+          (waiting_at (meaning set l units.new.machine))) same
+          units.ensures.fed;
+      ready = units.ensures.ready;
+      supplied = units.ensures.supplied;
+      turns = λ way none h. units.ensures.turns way (subst (λ (x : Machine). x.turns.count ≡ 0) (sym same) none)
+          (subst (λ (x : Machine). HasTurnsWaiting way set l (most_by way (tree_in set) l) x) (sym same) h);
+    }

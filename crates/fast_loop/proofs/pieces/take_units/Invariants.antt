@@ -3,7 +3,7 @@ use Rattle.fast_machine.specs.device.Positions.{set_of, tree_in, meaning, IsRead
 use Rattle.fast_machine.specs.device.Handing.{TookEvents, waiting_at}
 use Rattle.fast_machine.specs.device.TurnsLeft.{Way, most_by, HasTurnsWaiting}
 use Rattle.fast_machine.proofs.steps.TurnCounts.{IsSpent}
-use Rattle.fast_loop.proofs.pieces.take_all.Given as goal
+use Rattle.fast_loop.proofs.pieces.take_units.Given as goal
 
 -- the units so far were taken
 abbrev pub invariant-loop-bytes : goal.invariant-loop-bytes
