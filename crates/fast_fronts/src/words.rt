@@ -27,10 +27,10 @@ pub struct ShortEntity {
 pub fn short_entity(bytes: &[u8]) -> Option<ShortEntity>
     ensures { IfSome result (λ e. IsShortEntity e.number e.len bytes.now) }
 {
-    let word = front_word(bytes);
-    if let Some(number) = byte_in(word, bytes) {
+    if let Some(number) = one_byte(bytes) {
         return Some(ShortEntity { number, len: 1 });
     }
+    let word = front_word(bytes);
     if let Some((number, len)) = four_in(word, bytes) {
         return Some(ShortEntity { number, len });
     }
