@@ -154,7 +154,7 @@ fn cut_fed(consumed: u64) -> FastFed
     }
 }
 
-/// Feeds a piece, as far as its events have room. Inlined, so that a call for each packet is a single call.
+/// Feeds a piece, as far as its events have room. Inlined, since callers may call it for each packet of a few bytes.
 #[inline(always)]
 fn feed(decoding: &mut Decoding, piece: &[u8], records: &mut [Record], texts: &mut [u8]) -> FastFed
     ensures { Feeds decoding.old piece.now records.new texts.new result decoding.new }

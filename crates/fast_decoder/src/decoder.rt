@@ -146,7 +146,7 @@ impl<'t> Decoder<'t> {
             self.fault = Some(fault);
             return Err(fault);
         }
-        let taken = take_all(&mut self.machine, self.templates, self.limits, piece, sink);
+        let taken = take_all(&mut self.machine, self.templates, &self.limits, piece, sink);
         self.consumed += taken.bytes as u64;
         match taken.outcome {
             Ok(()) => Ok(()),

@@ -2,5 +2,6 @@
 pub mod Stopping
 pub mod FrontWords
 pub mod Loaded
+pub mod Tails
 pub mod ShortEntities
 pub mod Endless

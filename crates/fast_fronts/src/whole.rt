@@ -10,25 +10,25 @@ ghost use Rattle.fast_wire.specs.meaning.Faulty.{NoneIsOverlong};
 ghost use Rattle.fast_fronts.specs.device.Fronts.{IsFirstInt, IsLoaded};
 ghost use Rattle.fast_fronts.specs.declared.fronts.First.TheVariants.{Whole};
 
+use crate::rest::Rest;
 use crate::words::{
-    byte_in, eight_in, extended, first_in, four_in, four_signed_in, front_word, lowered, one_byte,
-    second_in,
+    byte_in, eight_in, extended, first_in, four_in, four_signed_in, lowered, one_byte, second_in,
 };
 
-/// Reads the first entity as an integer from 0 to `top`, or NULL if `nullable`, with its length: one byte, or up to eight if eight bytes
-/// are there. An entity of up to four bytes is within any `top`. An entity with a byte too many is not read.
+/// Reads the first entity, of up to eight bytes, as an integer from 0 to `top`, or NULL if `nullable`, and returns it with its length. An
+/// entity of up to four bytes is within any `top`. An entity with a byte too many is not read.
 #[inline(always)]
 pub fn whole_unsigned(
-    bytes: &[u8],
+    rest: Rest<'_>,
     nullable: bool,
     strict: bool,
     top: u64,
 ) -> Option<(Option<u64>, usize)>
     requires top { 268435455 ≤ top }
     ensures { IfSome result (λ r. IsFirstInt (λ y. option_map pos y) strict (unsigned_up_to top) nullable
-        (Whole r.0 r.1) bytes.now) }
+        (Whole r.0 r.1) rest.entry.bytes.now) }
 {
-    let word = front_word(bytes);
+    let (word, bytes) = (rest.word(), rest.bytes);
     let _ = strict;
     if !goes_on(word, bytes) {
         let sum = byte_in(word, bytes)?;
@@ -45,11 +45,11 @@ pub fn whole_unsigned(
     Some((number, len))
 }
 
-/// Reads the first entity as an integer in two's complement, from `low` to `top`, or NULL if `nullable`, with its length: one byte, or up
-/// to eight if eight bytes are there. An entity of up to four bytes is within any such range.
+/// Reads the first entity, of up to eight bytes, as an integer in two's complement, from `low` to `top`, or NULL if `nullable`, and returns
+/// it with its length. An entity of up to four bytes is within any such range.
 #[inline(always)]
 pub fn whole_signed(
-    bytes: &[u8],
+    rest: Rest<'_>,
     nullable: bool,
     strict: bool,
     low: i64,
@@ -58,9 +58,9 @@ pub fn whole_signed(
     requires low { low ≤ℤ neg_ℤ (pos 134217728) }
     requires top { pos 134217727 ≤ℤ top }
     ensures { IfSome result (λ r. IsFirstInt (λ y. y) strict (signed_between low top) nullable
-        (Whole r.0 r.1) bytes.now) }
+        (Whole r.0 r.1) rest.entry.bytes.now) }
 {
-    let word = front_word(bytes);
+    let (word, bytes) = (rest.word(), rest.bytes);
     if let Some(sum) = byte_in(word, bytes) {
         return Some((meant_signed(sum, 1, nullable), 1));
     }
@@ -78,13 +78,13 @@ pub fn whole_signed(
     Some((number, len))
 }
 
-/// Reads the first entity as a delta, or NULL if `nullable`, with its length: one byte, or up to eight if eight bytes are there. All of
-/// these are within its range.
+/// Reads the first entity, of up to eight bytes, as a delta, or NULL if `nullable`, and returns it with its length. All of these are within
+/// its range.
 #[inline(always)]
-pub fn whole_delta(bytes: &[u8], nullable: bool, strict: bool) -> Option<(Option<i64>, usize)>
-    ensures { IfSome result (λ r. IsFirstInt (λ y. y) strict delta_range nullable (Whole r.0 r.1) bytes.now) }
+pub fn whole_delta(rest: Rest<'_>, nullable: bool, strict: bool) -> Option<(Option<i64>, usize)>
+    ensures { IfSome result (λ r. IsFirstInt (λ y. y) strict delta_range nullable (Whole r.0 r.1) rest.entry.bytes.now) }
 {
-    whole_signed(bytes, nullable, strict, i64::MIN, i64::MAX)
+    whole_signed(rest, nullable, strict, i64::MIN, i64::MAX)
 }
 
 /// Reads the first entity as a delta, or NULL if `nullable`, if it is one byte.

@@ -65,7 +65,7 @@ pub(crate) fn front_word(bytes: &[u8]) -> u64
 /// Returns fewer than eight bytes as [`front_word`] does: the last ones of a piece.
 #[cold]
 #[inline(never)]
-fn last_word(bytes: &[u8]) -> u64
+pub(crate) fn last_word(bytes: &[u8]) -> u64
     requires few { length bytes.now < 8 }
     ensures { IsLoaded result bytes.now }
 {

@@ -16,6 +16,7 @@ use crate::part_items::whole_subtraction;
 use crate::taken::BegunText;
 use crate::vector_items::whole_size;
 use fast_dict::Slots;
+use fast_fronts::Rest;
 use fast_tree::Operator;
 use fast_units::stages::Stage;
 use fast_units::units::has_stop;
@@ -52,7 +53,7 @@ pub fn begun_vector(
         → IsBegunText kind optional operator entry strict room rest.now slots r) }
     ensures fits { IfSome result (λ r. (r.from ≤ length rest.now) × (length rest.now - r.from ≤ room)) }
 {
-    let (size, from) = whole_size(rest, optional, strict)?;
+    let (size, from) = whole_size(Rest::new(rest), optional, strict)?;
     let size = size?;
     if size > room as u64 || size <= (rest.len() - from) as u64 {
         return None;
@@ -80,7 +81,7 @@ pub fn begun_delta(
     ensures begun { IfSome result (IsBegunText kind optional Operator.Delta entry strict room rest.now slots.now) }
     ensures fits { IfSome result (λ r. (r.from ≤ length rest.now) × (length rest.now - r.from ≤ room)) }
 {
-    let (subtraction, len) = whole_subtraction(rest, optional, strict)?;
+    let (subtraction, len) = whole_subtraction(Rest::new(rest), optional, strict)?;
     let subtraction = subtraction?;
     let left = kept_room(slots, entry as usize, kind, subtraction, room)?;
     let behind = &rest[len..];
@@ -95,7 +96,7 @@ pub fn begun_delta(
             })
         }
         _ => {
-            let (size, bytes) = whole_size(behind, false, strict)?;
+            let (size, bytes) = whole_size(Rest::new(behind), false, strict)?;
             let size = size?;
             if size > left as u64 || size <= (behind.len() - bytes) as u64 {
                 return None;

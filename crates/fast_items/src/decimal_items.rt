@@ -22,7 +22,7 @@ ghost use Rattle.fast_items.specs.device.FieldsAs.{IsSentItem};
 use crate::integer_items::keep_at;
 use crate::taken::TakenItem;
 use fast_dict::{Entry, Slots, Store};
-use fast_fronts::{one_byte_delta, whole_delta, whole_signed};
+use fast_fronts::{Rest, one_byte_delta, whole_delta, whole_signed};
 use fast_tree::Operator;
 use fast_units::fields::Number;
 use fast_units::progress::Progress;
@@ -40,11 +40,11 @@ pub(crate) fn exponent_in(exponent: i64) -> i32
 
 /// Reads an exponent of one byte, or NULL if `optional`.
 #[inline(always)]
-pub(crate) fn short_exponent(rest: &[u8], optional: bool) -> Option<Option<i32>>
+pub(crate) fn short_exponent(rest: Rest<'_>, optional: bool) -> Option<Option<i32>>
     ensures { IfSome result (λ r. (strict : Bool)
-        → IsFirstInt (λ y. y) strict exponent_range optional (Whole r 1) rest.now) }
+        → IsFirstInt (λ y. y) strict exponent_range optional (Whole r 1) rest.entry.bytes.now) }
 {
-    let item = one_byte_delta(rest, optional)?;
+    let item = one_byte_delta(rest.bytes, optional)?;
     match item {
         Some(exponent) => {
             if exponent < -63 || exponent > 63 {
@@ -58,8 +58,8 @@ pub(crate) fn short_exponent(rest: &[u8], optional: bool) -> Option<Option<i32>>
 
 /// Reads a mantissa, and returns it with its length.
 #[inline(always)]
-pub(crate) fn whole_mantissa(rest: &[u8], strict: bool) -> Option<(i64, usize)>
-    ensures { IfSome result (λ r. IsFirstInt (λ y. Some y) strict (signed_range 63) false (Whole r.0 r.1) rest.now) }
+pub(crate) fn whole_mantissa(rest: Rest<'_>, strict: bool) -> Option<(i64, usize)>
+    ensures { IfSome result (λ r. IsFirstInt (λ y. Some y) strict (signed_range 63) false (Whole r.0 r.1) rest.entry.bytes.now) }
 {
     match whole_signed(rest, false, strict, i64::MIN, i64::MAX)? {
         (Some(mantissa), bytes) => Some((mantissa, bytes)),
@@ -69,14 +69,14 @@ pub(crate) fn whole_mantissa(rest: &[u8], strict: bool) -> Option<(i64, usize)>
 
 /// Reads a decimal that is not a delta, or NULL if `optional`.
 #[inline(always)]
-fn whole_decimal(rest: &[u8], optional: bool, strict: bool) -> Option<TakenItem>
+fn whole_decimal(rest: Rest<'_>, optional: bool, strict: bool) -> Option<TakenItem>
     ensures { IfSome result (λ r. IsUnit (reader_of strict (integer exponent_range optional Code.R1 decimal_from))
-        sent_number [] rest.now (Progress.Whole r.item r.bytes)) }
+        sent_number [] rest.entry.bytes.now (Progress.Whole r.item r.bytes)) }
 {
     let item = short_exponent(rest, optional)?;
     match item {
         Some(exponent) => {
-            let (mantissa, bytes) = whole_mantissa(&rest[1..], strict)?;
+            let (mantissa, bytes) = whole_mantissa(rest.skip(1), strict)?;
             Some(TakenItem {
                 item: Some(Number::Decimal { exponent, mantissa }),
                 bytes: 1 + bytes,
@@ -108,11 +108,11 @@ pub fn copied_decimal(
     slots: &mut Slots,
     entry: u32,
     optional: bool,
-    rest: &[u8],
+    rest: Rest<'_>,
     strict: bool,
 ) -> Option<TakenItem>
     requires within { entry < length (slots_dictionary slots.old) }
-    ensures unit { IfSome result (IsSentItem Kind.Decimal optional Operator.Copy entry strict rest.now slots.old
+    ensures unit { IfSome result (IsSentItem Kind.Decimal optional Operator.Copy entry strict rest.entry.bytes.now slots.old
         slots.new) }
     ensures none { IfNone result (slots.new ≡ slots.old) }
     ensures terms { slots_terms slots.new ≡ slots_terms slots.old }
@@ -139,8 +139,8 @@ fn changed_exponent(exponent: i32, delta: i64) -> Option<i32>
 
 /// Returns the mantissa after its delta, and the length of the delta.
 #[inline(always)]
-fn changed_mantissa(mantissa: i64, rest: &[u8], strict: bool) -> Option<(i64, usize)>
-    ensures { IfSome result (λ r. (j : ℤ) × IsFirstInt (λ y. y) strict delta_range false (Whole (Some j) r.1) rest.now
+fn changed_mantissa(mantissa: i64, rest: Rest<'_>, strict: bool) -> Option<(i64, usize)>
+    ensures { IfSome result (λ r. (j : ℤ) × IsFirstInt (λ y. y) strict delta_range false (Whole (Some j) r.1) rest.entry.bytes.now
         × (ranged (signed_range 63) Code.R1 (mantissa +ℤ j) ≡ Ok r.0)) }
 {
     match whole_delta(rest, false, strict)? {
@@ -158,21 +158,21 @@ pub fn changed_decimal(
     slots: &mut Slots,
     entry: u32,
     optional: bool,
-    rest: &[u8],
+    rest: Rest<'_>,
     strict: bool,
 ) -> Option<TakenItem>
     requires within { entry < length (slots_dictionary slots.old) }
-    ensures unit { IfSome result (IsSentItem Kind.Decimal optional Operator.Delta entry strict rest.now slots.old
+    ensures unit { IfSome result (IsSentItem Kind.Decimal optional Operator.Delta entry strict rest.entry.bytes.now slots.old
         slots.new) }
     ensures none { IfNone result (slots.new ≡ slots.old) }
     ensures terms { slots_terms slots.new ≡ slots_terms slots.old }
 {
-    let item = one_byte_delta(rest, optional)?;
+    let item = one_byte_delta(rest.bytes, optional)?;
     match item {
         Some(delta) => {
             let (exponent, mantissa) = held_decimal(slots, entry)?;
             let exponent = changed_exponent(exponent, delta)?;
-            let (mantissa, bytes) = changed_mantissa(mantissa, &rest[1..], strict)?;
+            let (mantissa, bytes) = changed_mantissa(mantissa, rest.skip(1), strict)?;
             let number = Number::Decimal { exponent, mantissa };
             keep_at(slots, entry, Kind::Decimal, number);
             Some(TakenItem {
@@ -193,10 +193,10 @@ pub fn plain_decimal(
     slots: &Slots,
     entry: u32,
     optional: bool,
-    rest: &[u8],
+    rest: Rest<'_>,
     strict: bool,
 ) -> Option<TakenItem>
-    ensures { IfSome result (IsSentItem Kind.Decimal optional Operator.None entry strict rest.now slots.now slots.now) }
+    ensures { IfSome result (IsSentItem Kind.Decimal optional Operator.None entry strict rest.entry.bytes.now slots.now slots.now) }
 {
     let _ = slots;
     let _ = entry;

@@ -17,6 +17,7 @@ ghost use Rattle.fast_units.specs.device.Words.{HasEntryOf, previous_of};
 
 use crate::decimal_items::{exponent_in, short_exponent, whole_mantissa};
 use fast_dict::{Entry, Slots};
+use fast_fronts::Rest;
 use fast_tree::{FieldInstruction, Operator};
 use fast_units::fields::{Number, assign_empty, needs_bytes, number_under};
 use fast_units::short_integers::keep_integer;
@@ -72,11 +73,11 @@ fn known_part(slots: &Slots, field: &FieldInstruction, kind: Kind, bit: bool) ->
 
 /// Reads an exponent of one byte that is sent, or NULL.
 #[inline(always)]
-fn sent_exponent(slots: &Slots, field: &FieldInstruction, rest: &[u8]) -> Option<Option<i32>>
+fn sent_exponent(slots: &Slots, field: &FieldInstruction, rest: Rest<'_>) -> Option<Option<i32>>
     requires kind { field.now.kind ≡ Kind.Int32 }
     requires no_constant { field.now.operator ≢ Operator.Constant }
     ensures part { IfSome result (λ x. (strict : Bool)
-        → IsPartBy true field.now true strict rest.now slots.now x 1) }
+        → IsPartBy true field.now true strict rest.entry.bytes.now slots.now x 1) }
     ensures within { IfSome result (λ x. IfSome x (IsWithin exponent_range)) }
 {
     let _ = slots;
@@ -113,11 +114,11 @@ pub fn exponent_part(
     slots: &Slots,
     field: &FieldInstruction,
     bit: bool,
-    rest: &[u8],
+    rest: Rest<'_>,
 ) -> Option<(Option<i32>, usize)>
     requires kind { field.now.kind ≡ Kind.Int32 }
     requires within { HasEntryOf slots.now field.now }
-    ensures part { IfSome result (λ r. (strict : Bool) → IsPart field.now bit strict rest.now slots.now r.0 r.1) }
+    ensures part { IfSome result (λ r. (strict : Bool) → IsPart field.now bit strict rest.entry.bytes.now slots.now r.0 r.1) }
     ensures within { IfSome result (λ r. IfSome r.0 (IsWithin exponent_range)) }
 {
     if needs_bytes(field, bit) {
@@ -189,14 +190,14 @@ pub fn usual_exponent(
     operator: Operator,
     optional: bool,
     bit: bool,
-    rest: &[u8],
+    rest: Rest<'_>,
 ) -> Option<(Option<i32>, usize)>
     requires usual { IsUsualExponent field.now }
     requires kind { field.now.kind ≡ Kind.Int32 }
     requires operator { field.now.operator ≡ operator }
     requires optional { field.now.optional ≡ optional }
     requires within { HasEntryOf slots.now field.now }
-    ensures part { IfSome result (λ r. (strict : Bool) → IsPart field.now bit strict rest.now slots.now r.0 r.1) }
+    ensures part { IfSome result (λ r. (strict : Bool) → IsPart field.now bit strict rest.entry.bytes.now slots.now r.0 r.1) }
     ensures within { IfSome result (λ r. IfSome r.0 (IsWithin exponent_range)) }
 {
     if bit {
@@ -212,13 +213,13 @@ pub fn usual_exponent(
 fn sent_mantissa(
     slots: &Slots,
     field: &FieldInstruction,
-    rest: &[u8],
+    rest: Rest<'_>,
     strict: bool,
 ) -> Option<(i64, usize)>
     requires kind { field.now.kind ≡ Kind.Int64 }
     requires no_constant { field.now.operator ≢ Operator.Constant }
     requires within { HasEntryOf slots.now field.now }
-    ensures { IfSome result (λ r. IsPartBy true field.now true strict rest.now slots.now (Some r.0) r.1) }
+    ensures { IfSome result (λ r. IsPartBy true field.now true strict rest.entry.bytes.now slots.now (Some r.0) r.1) }
 {
     if field.optional {
         return None;
@@ -244,12 +245,12 @@ pub fn mantissa_part(
     slots: &Slots,
     field: &FieldInstruction,
     bit: bool,
-    rest: &[u8],
+    rest: Rest<'_>,
     strict: bool,
 ) -> Option<(i64, usize)>
     requires kind { field.now.kind ≡ Kind.Int64 }
     requires within { HasEntryOf slots.now field.now }
-    ensures { IfSome result (λ r. IsPart field.now bit strict rest.now slots.now (Some r.0) r.1) }
+    ensures { IfSome result (λ r. IsPart field.now bit strict rest.entry.bytes.now slots.now (Some r.0) r.1) }
 {
     if needs_bytes(field, bit) {
         let (number, bytes) = sent_mantissa(slots, field, rest, strict)?;
@@ -336,10 +337,10 @@ fn exponent_held(number: Option<i32>) -> Entry
 
 /// Reads the delta of a mandatory mantissa, and returns the mantissa after it with its number of bytes. The entry has to hold one.
 #[inline(always)]
-pub fn changed_part(slots: &Slots, entry: u32, rest: &[u8], strict: bool) -> Option<(i64, usize)>
+pub fn changed_part(slots: &Slots, entry: u32, rest: Rest<'_>, strict: bool) -> Option<(i64, usize)>
     requires within { entry < length (slots_dictionary slots.now) }
     ensures { IfSome result (λ r. (field : FieldInstruction) → IsDeltaMantissa field entry
-        → IsPartBy true field true strict rest.now slots.now (Some r.0) r.1) }
+        → IsPartBy true field true strict rest.entry.bytes.now slots.now (Some r.0) r.1) }
 {
     let (delta, bytes) = whole_mantissa(rest, strict)?;
     match slots.held(entry as usize) {

@@ -16,7 +16,7 @@ ghost use Rattle.fast_items.specs.device.IntegerItems.{KeepsItem, IsBehindDelta}
 
 use crate::taken::TakenItem;
 use fast_dict::{Slots, Store};
-use fast_fronts::{whole_delta, whole_signed, whole_unsigned};
+use fast_fronts::{Rest, whole_delta, whole_signed, whole_unsigned};
 use fast_tree::Operator;
 use fast_units::fields::{Number, number_under};
 use fast_value::{Code, Kind};
@@ -91,7 +91,7 @@ pub fn sent_unsigned(
     kind: Kind,
     optional: bool,
     operator: Operator,
-    rest: &[u8],
+    rest: Rest<'_>,
     strict: bool,
     top: u64,
 ) -> Option<TakenItem>
@@ -101,7 +101,7 @@ pub fn sent_unsigned(
     requires no_delta { operator ≢ Operator.Delta }
     requires no_constant { operator ≢ Operator.Constant }
     requires within { IsEntryFor slots.old operator entry }
-    ensures unit { IfSome result (IsSentItem kind optional operator entry strict rest.now slots.old slots.new) }
+    ensures unit { IfSome result (IsSentItem kind optional operator entry strict rest.entry.bytes.now slots.old slots.new) }
     ensures none { IfNone result (slots.new ≡ slots.old) }
     ensures terms { slots_terms slots.new ≡ slots_terms slots.old }
 {
@@ -119,7 +119,7 @@ pub fn sent_signed(
     kind: Kind,
     optional: bool,
     operator: Operator,
-    rest: &[u8],
+    rest: Rest<'_>,
     strict: bool,
     low: i64,
     top: i64,
@@ -130,7 +130,7 @@ pub fn sent_signed(
     requires no_delta { operator ≢ Operator.Delta }
     requires no_constant { operator ≢ Operator.Constant }
     requires within { IsEntryFor slots.old operator entry }
-    ensures unit { IfSome result (IsSentItem kind optional operator entry strict rest.now slots.old slots.new) }
+    ensures unit { IfSome result (IsSentItem kind optional operator entry strict rest.entry.bytes.now slots.old slots.new) }
     ensures none { IfNone result (slots.new ≡ slots.old) }
     ensures terms { slots_terms slots.new ≡ slots_terms slots.old }
 {
@@ -236,12 +236,12 @@ pub fn sent_delta(
     entry: u32,
     kind: Kind,
     optional: bool,
-    rest: &[u8],
+    rest: Rest<'_>,
     strict: bool,
 ) -> Option<TakenItem>
     requires integers { family kind ≡ integers (range_of kind) }
     requires within { IsEntryFor slots.old Operator.Delta entry }
-    ensures unit { IfSome result (IsSentItem kind optional Operator.Delta entry strict rest.now slots.old slots.new) }
+    ensures unit { IfSome result (IsSentItem kind optional Operator.Delta entry strict rest.entry.bytes.now slots.old slots.new) }
     ensures none { IfNone result (slots.new ≡ slots.old) }
     ensures terms { slots_terms slots.new ≡ slots_terms slots.old }
 {

@@ -17,7 +17,7 @@ use crate::joined_parts::{join_ascii, join_vector};
 use crate::taken::TakenText;
 use crate::vector_items::{whole_run, whole_size};
 use fast_dict::Slots;
-use fast_fronts::whole_signed;
+use fast_fronts::{Rest, whole_signed};
 use fast_tree::Operator;
 use fast_units::progress::Progress;
 use fast_units::scratch::Scratch;
@@ -28,11 +28,11 @@ use fast_wire::find_stop;
 /// Reads a subtraction length, or NULL if `nullable`, and returns it with its number of bytes.
 #[inline(always)]
 pub(crate) fn whole_subtraction(
-    rest: &[u8],
+    rest: Rest<'_>,
     nullable: bool,
     strict: bool,
 ) -> Option<(Option<i64>, usize)>
-    ensures { IfSome result (λ r. IsFirstInt (λ y. y) strict (signed_range 31) nullable (Whole r.0 r.1) rest.now) }
+    ensures { IfSome result (λ r. IsFirstInt (λ y. y) strict (signed_range 31) nullable (Whole r.0 r.1) rest.entry.bytes.now) }
 {
     whole_signed(rest, nullable, strict, -2_147_483_648, 2_147_483_647)
 }
@@ -99,7 +99,7 @@ fn vector_part(
     entry: usize,
     kind: Kind,
     subtraction: i64,
-    rest: &[u8],
+    rest: Rest<'_>,
     strict: bool,
     room: usize,
 ) -> Option<usize>
@@ -107,17 +107,17 @@ fn vector_part(
     requires text { family kind ≡ texts }
     requires limit { (slots_terms slots.old).max_text ≡ room }
     requires joined { room ≤ joined.old.capacity }
-    ensures part { IfSome result (λ n. (size len : ℕ) × (n ≡ len + size) × (size ≤ length (drop len rest.now))
-        × IsFirstInt (λ y. option_map pos y) strict (unsigned_range 32) false (Whole (Some size) len) rest.now
-        × IsJoined kind entry subtraction (take size (drop len rest.now)) room (slots_dictionary slots.old)
+    ensures part { IfSome result (λ n. (size len : ℕ) × (n ≡ len + size) × (size ≤ length (drop len rest.entry.bytes.now))
+        × IsFirstInt (λ y. option_map pos y) strict (unsigned_range 32) false (Whole (Some size) len) rest.entry.bytes.now
+        × IsJoined kind entry subtraction (take size (drop len rest.entry.bytes.now)) room (slots_dictionary slots.old)
         (slots_dictionary slots.new)) }
-    ensures within { IfSome result (λ n. n ≤ length rest.now) }
+    ensures within { IfSome result (λ n. n ≤ length rest.entry.bytes.now) }
     ensures none { IfNone result ((slots.new ≡ slots.old) × (joined.new ≡ joined.old)) }
     ensures terms { slots_terms slots.new ≡ slots_terms slots.old }
     ensures capacity { joined.new.capacity ≡ joined.old.capacity }
 {
     let (size, len) = whole_size(rest, false, strict)?;
-    let part = whole_run(&rest[len..], size?, room)?;
+    let part = whole_run(&rest.bytes[len..], size?, room)?;
     join_vector(slots, joined, entry, kind, subtraction, part, room)?;
     Some(len + part.len())
 }
@@ -130,7 +130,7 @@ fn sent_part(
     entry: usize,
     kind: Kind,
     subtraction: i64,
-    rest: &[u8],
+    rest: Rest<'_>,
     strict: bool,
     limits: Limits,
 ) -> Option<usize>
@@ -139,8 +139,8 @@ fn sent_part(
     requires limit { HasTextLimit slots.old limits }
     requires joined { HasRoomFor slots.old joined.old }
     ensures part { IfSome result
-        (λ n. IsSentPart kind entry subtraction strict limits rest.now slots.old slots.new n) }
-    ensures within { IfSome result (λ n. n ≤ length rest.now) }
+        (λ n. IsSentPart kind entry subtraction strict limits rest.entry.bytes.now slots.old slots.new n) }
+    ensures within { IfSome result (λ n. n ≤ length rest.entry.bytes.now) }
     ensures none { IfNone result ((slots.new ≡ slots.old) × (joined.new ≡ joined.old)) }
     ensures terms { slots_terms slots.new ≡ slots_terms slots.old }
     ensures joined { joined.new.capacity ≡ joined.old.capacity }
@@ -148,7 +148,7 @@ fn sent_part(
     let room = limits.max_text;
     match kind {
         Kind::Ascii => {
-            let bytes = ascii_part(slots, joined, entry, subtraction, rest, room)?;
+            let bytes = ascii_part(slots, joined, entry, subtraction, rest.bytes, room)?;
             Some(bytes)
         }
         _ => {
@@ -166,7 +166,7 @@ pub fn sent_delta(
     entry: u32,
     kind: Kind,
     optional: bool,
-    rest: &[u8],
+    rest: Rest<'_>,
     strict: bool,
     limits: Limits,
 ) -> Option<TakenText>
@@ -174,10 +174,10 @@ pub fn sent_delta(
     requires text { family kind ≡ texts }
     requires limit { HasTextLimit slots.old limits }
     requires joined { HasRoomFor slots.old joined.old }
-    ensures unit { IfSome result (IsWholeText kind optional Operator.Delta entry strict limits rest.now slots.old
+    ensures unit { IfSome result (IsWholeText kind optional Operator.Delta entry strict limits rest.entry.bytes.now slots.old
         slots.new) }
     ensures source { IfSome result (λ r. IsKeptSource r.source) }
-    ensures within { IfSome result (λ r. (r.from ≤ r.bytes) × (r.bytes ≤ length rest.now)) }
+    ensures within { IfSome result (λ r. (r.from ≤ r.bytes) × (r.bytes ≤ length rest.entry.bytes.now)) }
     ensures none { IfNone result ((slots.new ≡ slots.old) × (joined.new ≡ joined.old)) }
     ensures terms { slots_terms slots.new ≡ slots_terms slots.old }
     ensures joined { joined.new.capacity ≡ joined.old.capacity }
@@ -190,7 +190,7 @@ pub fn sent_delta(
             bytes: len,
         });
     };
-    let behind = &rest[len..];
+    let behind = rest.skip(len);
     let bytes = sent_part(
         slots,
         joined,

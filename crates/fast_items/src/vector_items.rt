@@ -15,7 +15,7 @@ ghost use Rattle.fast_units.specs.device.Words.{HasTextLimit};
 use crate::joined_parts::put_tail;
 use crate::taken::TakenText;
 use fast_dict::{Slots, Store};
-use fast_fronts::whole_unsigned;
+use fast_fronts::{Rest, whole_unsigned};
 use fast_tree::Operator;
 use fast_units::source::ValueSource;
 use fast_units::texts::{TOP_SIZE, is_text_of};
@@ -23,9 +23,13 @@ use fast_value::{Kind, Limits};
 
 /// Reads the size of a vector, or NULL if `nullable`, and returns it with its number of bytes.
 #[inline(always)]
-pub(crate) fn whole_size(rest: &[u8], nullable: bool, strict: bool) -> Option<(Option<u64>, usize)>
+pub(crate) fn whole_size(
+    rest: Rest<'_>,
+    nullable: bool,
+    strict: bool,
+) -> Option<(Option<u64>, usize)>
     ensures { IfSome result (λ r. IsFirstInt (λ y. option_map pos y) strict (unsigned_range 32) nullable
-        (Whole r.0 r.1) rest.now) }
+        (Whole r.0 r.1) rest.entry.bytes.now) }
 {
     whole_unsigned(rest, nullable, strict, TOP_SIZE)
 }
@@ -49,7 +53,7 @@ pub fn sent_vector(
     kind: Kind,
     optional: bool,
     operator: Operator,
-    rest: &[u8],
+    rest: Rest<'_>,
     strict: bool,
     limits: Limits,
 ) -> Option<TakenText>
@@ -58,9 +62,9 @@ pub fn sent_vector(
     requires sent { operator ≢ Operator.Constant }
     requires unkept { keeps_value operator ≡ false }
     ensures unit { IfSome result (λ r. (entry : ℕ) (slots : Slots)
-        → IsWholeText kind optional operator entry strict limits rest.now slots slots r) }
+        → IsWholeText kind optional operator entry strict limits rest.entry.bytes.now slots slots r) }
     ensures source { IfSome result (λ r. IsLentSource r.source) }
-    ensures within { IfSome result (λ r. (r.from ≤ r.bytes) × (r.bytes ≤ length rest.now)) }
+    ensures within { IfSome result (λ r. (r.from ≤ r.bytes) × (r.bytes ≤ length rest.entry.bytes.now)) }
 {
     let (size, len) = whole_size(rest, optional, strict)?;
     let Some(size) = size else {
@@ -70,7 +74,7 @@ pub fn sent_vector(
             bytes: len,
         });
     };
-    let text = whole_run(&rest[len..], size, limits.max_text)?;
+    let text = whole_run(&rest.bytes[len..], size, limits.max_text)?;
     if !is_text_of(kind, text) {
         return None;
     }
@@ -88,7 +92,7 @@ pub fn sent_tail(
     entry: u32,
     kind: Kind,
     optional: bool,
-    rest: &[u8],
+    rest: Rest<'_>,
     strict: bool,
     limits: Limits,
 ) -> Option<TakenText>
@@ -96,10 +100,10 @@ pub fn sent_tail(
     requires text { family kind ≡ texts }
     requires vector { kind ≢ Kind.Ascii }
     requires limit { HasTextLimit slots.old limits }
-    ensures unit { IfSome result (IsWholeText kind optional Operator.Tail entry strict limits rest.now slots.old
+    ensures unit { IfSome result (IsWholeText kind optional Operator.Tail entry strict limits rest.entry.bytes.now slots.old
         slots.new) }
     ensures source { IfSome result (λ r. IsKeptSource r.source) }
-    ensures within { IfSome result (λ r. (r.from ≤ r.bytes) × (r.bytes ≤ length rest.now)) }
+    ensures within { IfSome result (λ r. (r.from ≤ r.bytes) × (r.bytes ≤ length rest.entry.bytes.now)) }
     ensures none { IfNone result (slots.new ≡ slots.old) }
     ensures terms { slots_terms slots.new ≡ slots_terms slots.old }
 {
@@ -112,7 +116,7 @@ pub fn sent_tail(
             bytes: len,
         });
     };
-    let part = whole_run(&rest[len..], size, limits.max_text)?;
+    let part = whole_run(&rest.bytes[len..], size, limits.max_text)?;
     put_tail(slots, entry as usize, kind, part)?;
     Some(TakenText {
         source: ValueSource::Entry,

@@ -28,13 +28,13 @@ use fast_value::Kind;
 #[inline(always)]
 pub fn kept_or_declined(kept: bool, spot: &mut Spot<'_, '_>) -> Went
     ensures kept { kept ≡ true → (result ≡ Went.Waits) × (spot.new.place ≡ spot.old.place)
-        × (spot.new.rest.now ≡ drop (length spot.old.rest.now) spot.old.rest.now) }
+        × (spot.new.rest.bytes.now ≡ drop (length spot.old.rest.bytes.now) spot.old.rest.bytes.now) }
     ensures declined { kept ≡ false → (result ≡ Went.Declined) × (spot.new ≡ spot.old) }
 {
     if !kept {
         return Went::Declined;
     }
-    spot.rest = &spot.rest[spot.rest.len()..];
+    spot.rest = spot.rest.skip(spot.rest.bytes.len());
     Went::Waits
 }
 

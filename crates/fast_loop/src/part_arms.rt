@@ -1,6 +1,6 @@
 //! The arms of decimals by parts: an exponent and a mantissa, each with an operator of its own.
 
-ghost use Rattle.std.specs.Prelude.{◌≡◌, ◌⊎◌, ℕ, None, ◌<◌, ◌≤◌, true, false, length, Some, option_map};
+ghost use Rattle.std.specs.Prelude.{◌≡◌, ◌+◌, ◌⊎◌, ℕ, None, ◌<◌, ◌≤◌, true, false, length, Some, option_map};
 ghost use Rattle.fast_wire.specs.meaning.Integers.{IsWithin, exponent_range};
 ghost use Rattle.fast_value.specs.declared.settings.Limits.{Limits};
 ghost use Rattle.fast_value.specs.meaning.Values.{scalar_data};
@@ -41,14 +41,14 @@ fn hand_behind<S: Sink>(
 ) -> Went
     requires left { 0 < length (place_left spot.old.place) }
     requires bit { has_bit ≡ true → HasBits spot.old.place }
-    requires within { bytes ≤ length spot.old.rest.now }
+    requires within { bytes ≤ length spot.old.rest.bytes.now }
     ensures went { (set : Set) (l : Limits) (m m1 : Machine) (from : Spot) (f : FieldData) → has_bit ≡ uses_bit f
-        → turns.old ≡ m.turns → from.rest.now ≡ spot.old.rest.now
+        → turns.old ≡ m.turns → from.rest.bytes.now ≡ spot.old.rest.bytes.now
         → IsLedTo set l m m1 from spot.old.place node f (option_map scalar_data value.entry) bytes
         → HasWent S.takes S.stops set l m from sink.old result sink.new (record m1 { turns = turns.new }) spot.new }
 {
     *turns = Turns::after(turns);
-    spot.rest = &spot.rest[bytes..];
+    spot.rest = spot.rest.skip(bytes);
     match pass_value(&mut spot.place, u32::from(node), has_bit, value, sink) {
         Ok(turn) => {
             if bytes > 0 {
@@ -74,15 +74,15 @@ fn pass_absent<S: Sink>(
 ) -> Went
     requires left { 0 < length (place_left spot.old.place) }
     requires bit { HasBits spot.old.place }
-    requires within { bytes ≤ length spot.old.rest.now }
+    requires within { bytes ≤ length spot.old.rest.bytes.now }
     ensures went { (set : Set) (l : Limits) (m m1 : Machine) (from : Spot) (node : ℕ) (f : FieldData) → true ≡ uses_bit f
-        → turns.old ≡ m.turns → from.rest.now ≡ spot.old.rest.now
+        → turns.old ≡ m.turns → from.rest.bytes.now ≡ spot.old.rest.bytes.now
         → IsLedTo set l m m1 from spot.old.place node f None bytes
         → HasWent S.takes S.stops set l m from sink.old result sink.new (record m1 { turns = turns.new }) spot.new }
 {
     let _ = sink;
     *turns = Turns::after(turns);
-    spot.rest = &spot.rest[bytes..];
+    spot.rest = spot.rest.skip(bytes);
     spot.place.pass(true);
     if bytes > 0 {
         return Went::Took;
@@ -104,14 +104,14 @@ fn hand_sent<S: Sink>(
     requires left { 0 < length (place_left spot.old.place) }
     requires bit { has_bit ≡ true → HasBits spot.old.place }
     requires some { 0 < bytes }
-    requires within { bytes ≤ length spot.old.rest.now }
+    requires within { bytes ≤ length spot.old.rest.bytes.now }
     ensures went { (set : Set) (l : Limits) (m m1 : Machine) (from : Spot) (f : FieldData) → has_bit ≡ uses_bit f
-        → turns.old ≡ m.turns → from.rest.now ≡ spot.old.rest.now
+        → turns.old ≡ m.turns → from.rest.bytes.now ≡ spot.old.rest.bytes.now
         → IsLedTo set l m m1 from spot.old.place node f (option_map scalar_data value.entry) bytes
         → HasWent S.takes S.stops set l m from sink.old result sink.new (record m1 { turns = turns.new }) spot.new }
 {
     *turns = Turns::after(turns);
-    spot.rest = &spot.rest[bytes..];
+    spot.rest = spot.rest.skip(bytes);
     let node = u32::from(node);
     match value {
         Some(value) => {
@@ -225,6 +225,16 @@ fn usual_parts_arm<'t, S: Sink>(
     }
 }
 
+/// Returns the number of bytes of both parts of a decimal, which are in front.
+#[inline(always)]
+fn both_len(used: usize, bytes: usize, rest: &[u8]) -> usize
+    requires within { used + bytes ≤ length rest.now }
+    ensures { result ≡ used + bytes }
+{
+    let _ = rest;
+    used + bytes
+}
+
 /// Decodes the mandatory mantissa under delta after an exponent under default or copy of this number of bytes, if any.
 #[inline(always)]
 fn changed_mantissa_arm<'t, S: Sink>(
@@ -249,18 +259,19 @@ fn changed_mantissa_arm<'t, S: Sink>(
     requires entry { mantissa.now.entry ≡ Some entry }
     requires more { HasBits spot.old.place }
     requires bit { bit ≡ bit_at_place machine.old.cursor spot.old.place (field_data exponent.now) }
-    requires part { IsPart exponent.now bit limits.strict spot.old.rest.now machine.old.slots (Some number) used }
+    requires part { IsPart exponent.now bit limits.strict spot.old.rest.bytes.now machine.old.slots (Some number) used }
     requires within { IsWithin exponent_range number }
     ensures went { HasWent S.takes S.stops (set_of templates.now) limits machine.old spot.old sink.old result sink.new
         machine.new spot.new }
 {
-    let behind = &spot.rest[used..];
+    let behind = spot.rest.skip(used);
     let Some((value, bytes)) = changed_part(&machine.slots, entry, behind, limits.strict) else {
         return Went::Declined;
     };
     if !leaves_mantissa(exponent, mantissa, used) {
         return Went::Declined;
     }
+    let len = both_len(used, bytes, spot.rest.bytes);
     keep_exponent(&mut machine.slots, exponent, Some(number), used);
     keep_mantissa(&mut machine.slots, entry, value);
     spot.place.use_bit();
@@ -274,7 +285,7 @@ fn changed_mantissa_arm<'t, S: Sink>(
         node,
         false,
         Some(decimal),
-        used + bytes,
+        len,
         sink,
     )
 }
@@ -333,7 +344,7 @@ fn mantissa_arm<'t, S: Sink>(
         mantissa.now }
     requires more { uses_bit (field_data exponent.now) ≡ true → HasBits spot.old.place }
     requires bit { bit ≡ bit_at_place machine.old.cursor spot.old.place (field_data exponent.now) }
-    requires part { IsPart exponent.now bit limits.strict spot.old.rest.now machine.old.slots (Some number) used }
+    requires part { IsPart exponent.now bit limits.strict spot.old.rest.bytes.now machine.old.slots (Some number) used }
     requires within { IsWithin exponent_range number }
     ensures went { HasWent S.takes S.stops (set_of templates.now) limits machine.old spot.old sink.old result sink.new
         machine.new spot.new }
@@ -343,7 +354,7 @@ fn mantissa_arm<'t, S: Sink>(
     let Some(set) = bit_at(&place, has_bit) else {
         return Went::Declined;
     };
-    let behind = &spot.rest[used..];
+    let behind = spot.rest.skip(used);
     let Some((value, bytes)) = mantissa_part(&machine.slots, mantissa, set, behind, limits.strict)
     else {
         return Went::Declined;
@@ -351,6 +362,7 @@ fn mantissa_arm<'t, S: Sink>(
     if !leaves_mantissa(exponent, mantissa, used) {
         return Went::Declined;
     }
+    let len = both_len(used, bytes, spot.rest.bytes);
     keep_part(
         &mut machine.slots,
         exponent,
@@ -376,7 +388,7 @@ fn mantissa_arm<'t, S: Sink>(
         node,
         has_bit,
         Some(decimal),
-        used + bytes,
+        len,
         sink,
     )
 }

@@ -11,6 +11,7 @@ ghost use Rattle.fast_machine.specs.declared.machine.Turn.{Turn};
 
 use crate::start_arms::begin_first;
 use crate::walking::walk;
+use fast_fronts::Rest;
 use fast_machine::machine::{Machine, Turn};
 use fast_machine::quick_units::UnitTaken;
 use fast_stream::{FaultCode, Sink};
@@ -32,25 +33,25 @@ pub struct PieceTaken {
 pub fn take_all<'t, S: Sink>(
     machine: &mut Machine<'t>,
     templates: &'t Templates,
-    limits: Limits,
+    limits: &Limits,
     piece: &[u8],
     sink: &mut S,
 ) -> PieceTaken
-    requires ready { IsReady (set_of templates.now) limits machine.old }
+    requires ready { IsReady (set_of templates.now) limits.now machine.old }
     ensures within { result.bytes ≤ length piece.now }
     ensures all { IsOk result.outcome → result.bytes ≡ length piece.now }
-    ensures fed { Fed S.takes S.stops (tree_in (set_of templates.now)) limits
-        (waiting_at (meaning (set_of templates.now) limits machine.old)) (take result.bytes piece.now)
-        sink.old result.outcome sink.new (waiting_at (meaning (set_of templates.now) limits machine.new)) }
-    ensures ready { OnOk result.outcome (IsReady (set_of templates.now) limits machine.new) }
-    ensures supplied { IsSupplied (set_of templates.now) limits machine.new }
+    ensures fed { Fed S.takes S.stops (tree_in (set_of templates.now)) limits.now
+        (waiting_at (meaning (set_of templates.now) limits.now machine.old)) (take result.bytes piece.now)
+        sink.old result.outcome sink.new (waiting_at (meaning (set_of templates.now) limits.now machine.new)) }
+    ensures ready { OnOk result.outcome (IsReady (set_of templates.now) limits.now machine.new) }
+    ensures supplied { IsSupplied (set_of templates.now) limits.now machine.new }
     ensures turns { (way : Way) → machine.old.turns.count ≡ 0
-        → HasTurnsWaiting way (set_of templates.now) limits (most_by way (tree_in (set_of templates.now)) limits)
+        → HasTurnsWaiting way (set_of templates.now) limits.now (most_by way (tree_in (set_of templates.now)) limits.now)
         machine.old
-        → (machine.new.turns.count ≤ result.bytes * (1 + most_by way (tree_in (set_of templates.now)) limits))
-        × OnOk result.outcome ((k : ℕ) × HasTurnsWaiting way (set_of templates.now) limits k machine.new) }
+        → (machine.new.turns.count ≤ result.bytes * (1 + most_by way (tree_in (set_of templates.now)) limits.now))
+        × OnOk result.outcome ((k : ℕ) × HasTurnsWaiting way (set_of templates.now) limits.now k machine.new) }
 {
-    let kept = machine.gather(templates, limits, piece);
+    let kept = machine.gather(templates, *limits, piece);
     if kept > 0 {
         return PieceTaken {
             bytes: kept,
@@ -65,23 +66,23 @@ pub fn take_all<'t, S: Sink>(
 fn take_units<'t, S: Sink>(
     machine: &mut Machine<'t>,
     templates: &'t Templates,
-    limits: Limits,
+    limits: &Limits,
     piece: &[u8],
     sink: &mut S,
 ) -> PieceTaken
-    requires ready { IsReady (set_of templates.now) limits machine.old }
+    requires ready { IsReady (set_of templates.now) limits.now machine.old }
     ensures within { result.bytes ≤ length piece.now }
     ensures all { IsOk result.outcome → result.bytes ≡ length piece.now }
-    ensures fed { Fed S.takes S.stops (tree_in (set_of templates.now)) limits
-        (waiting_at (meaning (set_of templates.now) limits machine.old)) (take result.bytes piece.now)
-        sink.old result.outcome sink.new (waiting_at (meaning (set_of templates.now) limits machine.new)) }
-    ensures ready { OnOk result.outcome (IsReady (set_of templates.now) limits machine.new) }
-    ensures supplied { IsSupplied (set_of templates.now) limits machine.new }
+    ensures fed { Fed S.takes S.stops (tree_in (set_of templates.now)) limits.now
+        (waiting_at (meaning (set_of templates.now) limits.now machine.old)) (take result.bytes piece.now)
+        sink.old result.outcome sink.new (waiting_at (meaning (set_of templates.now) limits.now machine.new)) }
+    ensures ready { OnOk result.outcome (IsReady (set_of templates.now) limits.now machine.new) }
+    ensures supplied { IsSupplied (set_of templates.now) limits.now machine.new }
     ensures turns { (way : Way) → machine.old.turns.count ≡ 0
-        → HasTurnsWaiting way (set_of templates.now) limits (most_by way (tree_in (set_of templates.now)) limits)
+        → HasTurnsWaiting way (set_of templates.now) limits.now (most_by way (tree_in (set_of templates.now)) limits.now)
         machine.old
-        → (machine.new.turns.count ≤ result.bytes * (1 + most_by way (tree_in (set_of templates.now)) limits))
-        × OnOk result.outcome ((k : ℕ) × HasTurnsWaiting way (set_of templates.now) limits k machine.new) }
+        → (machine.new.turns.count ≤ result.bytes * (1 + most_by way (tree_in (set_of templates.now)) limits.now))
+        × OnOk result.outcome ((k : ℕ) × HasTurnsWaiting way (set_of templates.now) limits.now k machine.new) }
 {
     let mut bytes = 0;
     while bytes < piece.len() {
@@ -106,23 +107,23 @@ fn take_units<'t, S: Sink>(
 fn take_some<'t, S: Sink>(
     machine: &mut Machine<'t>,
     templates: &'t Templates,
-    limits: Limits,
+    limits: &Limits,
     rest: &[u8],
     sink: &mut S,
 ) -> PieceTaken
-    requires ready { IsReady (set_of templates.now) limits machine.old }
+    requires ready { IsReady (set_of templates.now) limits.now machine.old }
     requires some { 0 < length rest.now }
     ensures some { 0 < result.bytes }
     ensures within { result.bytes ≤ length rest.now }
-    ensures fed { Fed S.takes S.stops (tree_in (set_of templates.now)) limits
-        (waiting_at (meaning (set_of templates.now) limits machine.old)) (take result.bytes rest.now)
-        sink.old result.outcome sink.new (waiting_at (meaning (set_of templates.now) limits machine.new)) }
-    ensures ready { OnOk result.outcome (IsReady (set_of templates.now) limits machine.new) }
-    ensures supplied { IsSupplied (set_of templates.now) limits machine.new }
-    ensures turns { (way : Way) → IsCountedBy result.outcome way (set_of templates.now) limits result.bytes machine.old
+    ensures fed { Fed S.takes S.stops (tree_in (set_of templates.now)) limits.now
+        (waiting_at (meaning (set_of templates.now) limits.now machine.old)) (take result.bytes rest.now)
+        sink.old result.outcome sink.new (waiting_at (meaning (set_of templates.now) limits.now machine.new)) }
+    ensures ready { OnOk result.outcome (IsReady (set_of templates.now) limits.now machine.new) }
+    ensures supplied { IsSupplied (set_of templates.now) limits.now machine.new }
+    ensures turns { (way : Way) → IsCountedBy result.outcome way (set_of templates.now) limits.now result.bytes machine.old
         machine.new }
 {
-    let Some(unit) = begin_first(machine, templates, limits, rest, sink) else {
+    let Some(unit) = begin_first(machine, templates, *limits, rest, sink) else {
         return take_other(machine, templates, limits, rest, sink);
     };
     match unit.turn {
@@ -145,23 +146,23 @@ fn take_some<'t, S: Sink>(
 fn take_other<'t, S: Sink>(
     machine: &mut Machine<'t>,
     templates: &'t Templates,
-    limits: Limits,
+    limits: &Limits,
     rest: &[u8],
     sink: &mut S,
 ) -> PieceTaken
-    requires ready { IsReady (set_of templates.now) limits machine.old }
+    requires ready { IsReady (set_of templates.now) limits.now machine.old }
     requires some { 0 < length rest.now }
     ensures some { 0 < result.bytes }
     ensures within { result.bytes ≤ length rest.now }
-    ensures fed { Fed S.takes S.stops (tree_in (set_of templates.now)) limits
-        (waiting_at (meaning (set_of templates.now) limits machine.old)) (take result.bytes rest.now)
-        sink.old result.outcome sink.new (waiting_at (meaning (set_of templates.now) limits machine.new)) }
-    ensures ready { OnOk result.outcome (IsReady (set_of templates.now) limits machine.new) }
-    ensures supplied { IsSupplied (set_of templates.now) limits machine.new }
-    ensures turns { (way : Way) → IsCountedBy result.outcome way (set_of templates.now) limits result.bytes machine.old
+    ensures fed { Fed S.takes S.stops (tree_in (set_of templates.now)) limits.now
+        (waiting_at (meaning (set_of templates.now) limits.now machine.old)) (take result.bytes rest.now)
+        sink.old result.outcome sink.new (waiting_at (meaning (set_of templates.now) limits.now machine.new)) }
+    ensures ready { OnOk result.outcome (IsReady (set_of templates.now) limits.now machine.new) }
+    ensures supplied { IsSupplied (set_of templates.now) limits.now machine.new }
+    ensures turns { (way : Way) → IsCountedBy result.outcome way (set_of templates.now) limits.now result.bytes machine.old
         machine.new }
 {
-    let unit = machine.take_next(templates, limits, rest, sink);
+    let unit = machine.take_next(templates, *limits, rest, sink);
     match unit.turn {
         Err(code) => PieceTaken {
             bytes: unit.bytes,
@@ -169,7 +170,7 @@ fn take_other<'t, S: Sink>(
         },
         Ok(turn) => match turn {
             Turn::Waits => PieceTaken {
-                bytes: unit.bytes + machine.gather(templates, limits, &rest[unit.bytes..]),
+                bytes: unit.bytes + machine.gather(templates, *limits, &rest[unit.bytes..]),
                 outcome: Ok(()),
             },
             _ => {
@@ -188,20 +189,20 @@ fn take_other<'t, S: Sink>(
 pub fn go_on<'t, S: Sink>(
     machine: &mut Machine<'t>,
     templates: &'t Templates,
-    limits: Limits,
+    limits: &Limits,
     piece: &[u8],
     sink: &mut S,
 ) -> UnitTaken
-    requires turn { CanTurn (set_of templates.now) limits machine.old }
-    ensures step { IsStep S.takes S.stops (set_of templates.now) limits machine.old piece.now sink.old result sink.new
+    requires turn { CanTurn (set_of templates.now) limits.now machine.old }
+    ensures step { IsStep S.takes S.stops (set_of templates.now) limits.now machine.old piece.now sink.old result sink.new
         machine.new }
     ensures ends { (t : Turn) → result.turn ≡ Ok t → t ≡ Turn.Waits }
 {
-    if piece.is_empty() && machine.waits_at_once(templates, limits, sink) {
+    if piece.is_empty() && machine.waits_at_once(templates, *limits, sink) {
         return UnitTaken {
             bytes: 0,
             turn: Ok(Turn::Waits),
         };
     }
-    walk(machine, templates, &limits, piece, sink)
+    walk(machine, templates, limits, Rest::new(piece), sink)
 }

@@ -48,9 +48,9 @@ fn segment_arm<'t, S: Sink>(
 ) -> Went
     requires waits { machine.old.waiting ≡ Waiting.Field }
     requires stopped { IfErr begun (λ code. code ≡ FaultCode.SinkStopped) }
-    ensures went { (m : Machine) (from : Spot) (s : S) (n : ℕ) → spot.old.rest.now ≡ drop n from.rest.now
+    ensures went { (m : Machine) (from : Spot) (s : S) (n : ℕ) → spot.old.rest.bytes.now ≡ drop n from.rest.bytes.now
         → IsAnswer went n
-        → IsStep S.takes S.stops (set_of templates.now) limits (placed m from.place) from.rest.now s
+        → IsStep S.takes S.stops (set_of templates.now) limits (placed m from.place) from.rest.bytes.now s
         (record { bytes = n; turn = opened_result begun }) sink.old (opened_by begun machine.old)
         → HasWent S.takes S.stops (set_of templates.now) limits m from s result sink.new machine.new spot.new }
 {
@@ -62,7 +62,7 @@ fn segment_arm<'t, S: Sink>(
         spot.stand(&machine.cursor, 0);
         return went;
     }
-    let bytes = take_open_map(machine, limits, width, spot.rest);
+    let bytes = take_open_map(machine, limits, width, spot.rest.bytes);
     if bytes == 0 {
         machine.waiting = Waiting::SegmentMap(width);
         spot.stand(&machine.cursor, 0);
@@ -165,7 +165,7 @@ pub fn sequence_arm<'t, S: Sink>(
     };
     let Some(claimed) = claimed else {
         machine.turns = Turns::after(&machine.turns);
-        spot.rest = &spot.rest[bytes..];
+        spot.rest = spot.rest.skip(bytes);
         spot.place.advance();
         return Went::Took;
     };
@@ -208,7 +208,7 @@ fn elements_arm<'t, S: Sink>(
     machine.counted += count;
     machine.cursor.set_place(spot.place);
     machine.cursor.advance();
-    spot.rest = &spot.rest[bytes..];
+    spot.rest = spot.rest.skip(bytes);
     if let Err(_) = hand(sink, Event::SequenceStart { node, count }) {
         spot.stand(&machine.cursor, 0);
         return Went::Stopped;

@@ -21,6 +21,7 @@ ghost use Rattle.fast_loop.specs.device.Arms.{HasWent, IsFieldTaken, IsFieldUnse
 
 use fast_cursor::cursor::Cursor;
 use fast_cursor::place::Place;
+use fast_fronts::Rest;
 use fast_machine::machine::Turn;
 use fast_machine::settling::hand;
 use fast_machine::turns::Turns;
@@ -33,20 +34,20 @@ pub struct Spot<'t, 'p> {
     /// The position in the innermost segment.
     pub place: Place<'t>,
     /// The bytes that are left of the piece.
-    pub rest: &'p [u8],
+    pub rest: Rest<'p>,
 }
 
 impl<'t, 'p> Spot<'t, 'p> {
     /// Moves to the position of the cursor, and past this number of bytes.
     #[inline(always)]
     pub fn stand(&mut self, cursor: &Cursor<'t>, bytes: usize)
-        requires within { bytes ≤ length self.old.rest.now }
+        requires within { bytes ≤ length self.old.rest.bytes.now }
         ensures at { at_place cursor.now self.new.place ≡ cursor.now }
         ensures place { IsPlaceOf cursor.now self.new.place }
-        ensures rest { self.new.rest.now ≡ drop bytes self.old.rest.now }
+        ensures rest { self.new.rest.bytes.now ≡ drop bytes self.old.rest.bytes.now }
     {
         self.place = cursor.place();
-        self.rest = &self.rest[bytes..];
+        self.rest = self.rest.skip(bytes);
     }
 }
 
@@ -159,14 +160,14 @@ pub fn hand_taken<S: Sink>(
 ) -> Went
     requires left { 0 < length (place_left spot.old.place) }
     requires bit { has_bit ≡ true → HasBits spot.old.place }
-    requires within { bytes ≤ length spot.old.rest.now }
+    requires within { bytes ≤ length spot.old.rest.bytes.now }
     ensures went { (set : Set) (l : Limits) (m m1 : Machine) (f : FieldData) → has_bit ≡ uses_bit f
         → turns.old ≡ m.turns → IsFieldTaken set l m m1 spot.old node f (option_map scalar_data value.entry) bytes
         → HasWent S.takes S.stops set l m spot.old sink.old result sink.new (record m1 { turns = turns.new })
         spot.new }
 {
     *turns = Turns::after(turns);
-    spot.rest = &spot.rest[bytes..];
+    spot.rest = spot.rest.skip(bytes);
     let node = u32::from(node);
     match value {
         Some(value) => {

@@ -1,4 +1,4 @@
-//! The loop at the end of a message: the next one begins, if its head is in the piece completely.
+//! The start of a message whose head is in the piece completely: at the start of the piece, and in the loop at the end of the message before.
 
 ghost use Rattle.std.specs.Prelude.{◌≡◌, ◌≢◌, ◌⊎◌, ◌+◌, ◌<◌, ◌≤◌, ℕ, [], take, drop, length, slice_get, Some, Ok, IfSome, IfNone};
 ghost use Rattle.fast_value.specs.meaning.Limits.{bounds};
@@ -18,6 +18,7 @@ ghost use Rattle.fast_machine.specs.declared.machine.Turn.{Turn};
 ghost use Rattle.fast_loop.specs.declared.spot.Spot.{Spot};
 
 use crate::spot::{Spot, Went};
+use fast_fronts::Rest;
 use fast_machine::heads::reset_if;
 use fast_machine::machine::{Machine, Turn, Waiting};
 use fast_machine::quick_units::UnitTaken;
@@ -54,7 +55,7 @@ pub fn begin_first<'t, S: Sink>(
     let (bytes, start) = first_message(machine, templates, limits, piece)?;
     let mut spot = Spot {
         place: machine.cursor.place(),
-        rest: piece,
+        rest: Rest::new(piece),
     };
     let went = message_begins(machine, templates, limits, start, bytes, &mut spot, sink);
     machine.cursor.set_place(spot.place);
@@ -120,10 +121,10 @@ pub fn message_arm<'t, S: Sink>(
         → HasWent S.takes S.stops (set_of templates.now) limits m spot.old sink.old result sink.new machine.new
         spot.new }
 {
-    if let Some(start) = machine.message_again(templates, limits, spot.rest) {
+    if let Some(start) = machine.message_again(templates, limits, spot.rest.bytes) {
         return start_arm(machine, templates, limits, start, spot, sink);
     }
-    if let Err(_) = hand_end(sink, spot.rest.len()) {
+    if let Err(_) = hand_end(sink, spot.rest.bytes.len()) {
         return Went::Stopped;
     }
     other_arm(machine, templates, limits, spot, sink)
@@ -146,14 +147,14 @@ fn start_arm<'t, S: Sink>(
     requires end { place_left spot.old.place ≡ [] }
     requires outermost { machine.old.cursor.frames ≡ [] }
     requires ahead { IsMessageAhead (set_of templates.now) limits (slots_dictionary machine.old.slots)
-        (slots_dictionary machine.old.slots) spot.old.rest.now start.now.number 1 }
+        (slots_dictionary machine.old.slots) spot.old.rest.bytes.now start.now.number 1 }
     requires start { IsStartIn (set_of templates.now) start.now }
     ensures went { (m : Machine) → machine.old ≡ record m { turns = machine.old.turns }
         → machine.old.turns.count ≡ m.turns.count + 1
         → HasWent S.takes S.stops (set_of templates.now) limits m spot.old sink.old result sink.new machine.new
         spot.new }
 {
-    let left = spot.rest.len();
+    let left = spot.rest.bytes.len();
     if sink.turn_message(left, start.number) {
         return message_opens(machine, templates, limits, start, 1, spot, sink);
     }
@@ -182,7 +183,7 @@ fn other_arm<'t, S: Sink>(
         → machine.old.turns.count ≡ m.turns.count + 1 → S.takes s MessageEnd sink.old
         → HasWent S.takes S.stops (set_of templates.now) limits m spot.old s result sink.new machine.new spot.new }
 {
-    let Some((bytes, start)) = machine.next_message(templates, limits, spot.rest) else {
+    let Some((bytes, start)) = machine.next_message(templates, limits, spot.rest.bytes) else {
         return no_message(machine, spot);
     };
     message_begins(machine, templates, limits, start, bytes, spot, sink)
@@ -195,7 +196,7 @@ fn no_message<'t>(machine: &mut Machine<'t>, spot: &mut Spot<'t, '_>) -> Went
     requires end { place_left spot.old.place ≡ [] }
     requires outermost { machine.old.cursor.frames ≡ [] }
     ensures waits { result ≡ Went.Waits }
-    ensures rest { spot.new.rest.now ≡ spot.old.rest.now }
+    ensures rest { spot.new.rest.bytes.now ≡ spot.old.rest.bytes.now }
     ensures place { IsPlaceOf machine.new.cursor spot.new.place }
     ensures at { placed machine.new spot.new.place ≡ record (placed machine.old spot.old.place) {
       waiting = Waiting.Map;
@@ -208,8 +209,7 @@ fn no_message<'t>(machine: &mut Machine<'t>, spot: &mut Spot<'t, '_>) -> Went
 }
 
 /// Waits for the map of a message.
-#[cold]
-#[inline(never)]
+#[inline(always)]
 fn wait_for_message(machine: &mut Machine<'_>)
     ensures { machine.new ≡ record machine.old { waiting = Waiting.Map; cursor = resting machine.old.cursor } }
 {
@@ -230,18 +230,18 @@ fn message_begins<'t, S: Sink>(
 ) -> Went
     requires place { IsPlaceOf machine.old.cursor spot.old.place }
     requires outermost { machine.old.cursor.frames ≡ [] }
-    requires behind { IsBehindMap (set_of templates.now) limits (mapped_by machine.old spot.old.rest.now) }
+    requires behind { IsBehindMap (set_of templates.now) limits (mapped_by machine.old spot.old.rest.bytes.now) }
     requires start { IsStartIn (set_of templates.now) start.now }
-    requires some { 0 < length spot.old.rest.now }
-    requires within { bytes ≤ length spot.old.rest.now }
+    requires some { 0 < length spot.old.rest.bytes.now }
+    requires within { bytes ≤ length spot.old.rest.bytes.now }
     ensures answer { (result ≡ Went.Took) ⊎ (result ≡ Went.Stopped) }
     ensures waits { machine.new.waiting ≡ machine.old.waiting }
     ensures place { IsPlaceOf machine.new.cursor spot.new.place }
-    ensures rest { spot.new.rest.now ≡ drop bytes spot.old.rest.now }
+    ensures rest { spot.new.rest.bytes.now ≡ drop bytes spot.old.rest.bytes.now }
     ensures turn { (t : Template) → slice_get (set_of templates.now).templates start.now.number ≡ Some t
         → IsTurn S.takes S.stops (set_of templates.now) limits
         (reader_of limits.strict (message_from (set_of templates.now) (bounds limits) start.now.number t
-        (slots_dictionary machine.old.slots) (take 1 spot.old.rest.now)))
+        (slots_dictionary machine.old.slots) (take 1 spot.old.rest.bytes.now)))
         sink.old (begun_by result) sink.new (placed machine.new spot.new.place) }
     ensures turns { (way : Way) (n : ℕ)
         → machine.old.turns.count + most_by way (tree_in (set_of templates.now)) limits ≤ n
@@ -250,7 +250,7 @@ fn message_begins<'t, S: Sink>(
 {
     let template = start.number;
     if let Err(_) = hand(sink, Event::MessageStart { template }) {
-        spot.rest = &spot.rest[bytes..];
+        spot.rest = spot.rest.skip(bytes);
         return Went::Stopped;
     }
     message_opens(machine, templates, limits, start, bytes, spot, sink)
@@ -269,28 +269,28 @@ fn message_opens<'t, S: Sink>(
 ) -> Went
     requires place { IsPlaceOf machine.old.cursor spot.old.place }
     requires outermost { machine.old.cursor.frames ≡ [] }
-    requires behind { IsBehindMap (set_of templates.now) limits (mapped_by machine.old spot.old.rest.now) }
+    requires behind { IsBehindMap (set_of templates.now) limits (mapped_by machine.old spot.old.rest.bytes.now) }
     requires start { IsStartIn (set_of templates.now) start.now }
-    requires some { 0 < length spot.old.rest.now }
-    requires within { bytes ≤ length spot.old.rest.now }
+    requires some { 0 < length spot.old.rest.bytes.now }
+    requires within { bytes ≤ length spot.old.rest.bytes.now }
     ensures answer { result ≡ Went.Took }
     ensures waits { machine.new.waiting ≡ machine.old.waiting }
     ensures place { IsPlaceOf machine.new.cursor spot.new.place }
-    ensures rest { spot.new.rest.now ≡ drop bytes spot.old.rest.now }
+    ensures rest { spot.new.rest.bytes.now ≡ drop bytes spot.old.rest.bytes.now }
     ensures same { sink.new ≡ sink.old }
     ensures turn { (s : S) (t : Template) → S.takes s (MessageStart start.now.number) sink.old
         → slice_get (set_of templates.now).templates start.now.number ≡ Some t
         → IsTurn S.takes S.stops (set_of templates.now) limits
         (reader_of limits.strict (message_from (set_of templates.now) (bounds limits) start.now.number t
-        (slots_dictionary machine.old.slots) (take 1 spot.old.rest.now)))
+        (slots_dictionary machine.old.slots) (take 1 spot.old.rest.bytes.now)))
         s (Ok Turn.Handed) sink.new (placed machine.new spot.new.place) }
     ensures turns { (way : Way) (n : ℕ)
         → machine.old.turns.count + most_by way (tree_in (set_of templates.now)) limits ≤ n
         → HasTurnsBehind (Ok Turn.Handed) way (set_of templates.now) limits (1 + n)
         (placed machine.new spot.new.place) }
 {
-    let byte = spot.rest[0];
-    spot.rest = &spot.rest[bytes..];
+    let byte = spot.rest.bytes[0];
+    spot.rest = spot.rest.skip(bytes);
     reset_if(&mut machine.slots, start.reset);
     machine.counted = 0;
     machine

@@ -218,7 +218,7 @@ pub fn ascii_arm<'t, S: Sink>(
                 op,
                 operator,
                 optional,
-                spot.rest,
+                spot.rest.bytes,
                 limits.max_text,
             ) {
                 Some(taken) => {
@@ -235,7 +235,7 @@ pub fn ascii_arm<'t, S: Sink>(
                     )
                 }
                 None => {
-                    let kept = keep_ascii(machine, spot.rest);
+                    let kept = keep_ascii(machine, spot.rest.bytes);
                     kept_or_declined(kept, spot)
                 }
             }

@@ -43,7 +43,7 @@ pub fn vector_arm<'t, S: Sink>(
     let rest = spot.rest;
     match sent_vector(kind, optional, Operator::None, rest, limits.strict, limits) {
         Some(taken) => {
-            let value = lent_at(kind, &rest[taken.from..taken.bytes], taken.source);
+            let value = lent_at(kind, &rest.bytes[taken.from..taken.bytes], taken.source);
             hand_taken(
                 &mut machine.turns,
                 spot,
@@ -55,7 +55,14 @@ pub fn vector_arm<'t, S: Sink>(
             )
         }
         None => {
-            let kept = keep_vector(machine, kind, optional, Operator::None, rest, limits.strict);
+            let kept = keep_vector(
+                machine,
+                kind,
+                optional,
+                Operator::None,
+                rest.bytes,
+                limits.strict,
+            );
             kept_or_declined(kept, spot)
         }
     }
@@ -103,7 +110,14 @@ pub fn part_arm<'t, S: Sink>(
             )
         }
         None => {
-            let kept = keep_delta(machine, op.entry, kind, optional, spot.rest, limits.strict);
+            let kept = keep_delta(
+                machine,
+                op.entry,
+                kind,
+                optional,
+                spot.rest.bytes,
+                limits.strict,
+            );
             kept_or_declined(kept, spot)
         }
     }
@@ -157,7 +171,7 @@ pub fn tail_arm<'t, S: Sink>(
                     )
                 }
                 None => {
-                    let (rest, strict) = (spot.rest, limits.strict);
+                    let (rest, strict) = (spot.rest.bytes, limits.strict);
                     let kept = keep_vector(machine, kind, optional, Operator::Tail, rest, strict);
                     kept_or_declined(kept, spot)
                 }

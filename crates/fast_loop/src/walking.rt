@@ -24,6 +24,7 @@ use crate::spot::{Gone, Spot, Went};
 use crate::text_arms::{ascii_arm, constant_arm};
 use crate::vector_arms::{part_arm, tail_arm, vector_arm};
 use fast_cursor::place::Place;
+use fast_fronts::Rest;
 use fast_machine::machine::{Machine, Turn};
 use fast_machine::quick_units::UnitTaken;
 use fast_program::{Code, Op};
@@ -92,9 +93,9 @@ fn general_arm<'t, S: Sink>(
         machine.new spot.new }
 {
     machine.cursor.set_place(spot.place);
-    let step = general_step(machine, templates, limits, spot.rest, sink);
+    let step = general_step(machine, templates, limits, spot.rest.bytes, sink);
     spot.place = machine.cursor.place();
-    spot.rest = &spot.rest[step.bytes..];
+    spot.rest = spot.rest.skip(step.bytes);
     match step.turn {
         Err(code) => Gone::Ended(Err(code)),
         Ok(turn) => match turn {
@@ -153,11 +154,11 @@ pub fn walk<'t, S: Sink>(
     machine: &mut Machine<'t>,
     templates: &'t Templates,
     limits: &Limits,
-    piece: &[u8],
+    piece: Rest<'_>,
     sink: &mut S,
 ) -> UnitTaken
     requires turn { CanTurn (set_of templates.now) limits.now machine.old }
-    ensures step { IsStep S.takes S.stops (set_of templates.now) limits.now machine.old piece.now sink.old result sink.new
+    ensures step { IsStep S.takes S.stops (set_of templates.now) limits.now machine.old piece.entry.bytes.now sink.old result sink.new
         machine.new }
     ensures ends { (t : Turn) → result.turn ≡ Ok t → t ≡ Turn.Waits }
 {
@@ -287,7 +288,7 @@ pub fn walk<'t, S: Sink>(
                     Gone::Silent => code = op_at(machine, templates, bounds, &spot.place).code,
                     Gone::Ended(outcome) => {
                         return UnitTaken {
-                            bytes: piece.len() - spot.rest.len(),
+                            bytes: piece.bytes.len() - spot.rest.bytes.len(),
                             turn: ended(outcome),
                         };
                     }

@@ -17,7 +17,7 @@ use crate::machine::{Machine, Turn, Waiting};
 use crate::quick_units::UnitTaken;
 use crate::turns::Turns;
 use fast_dict::Entry;
-use fast_fronts::whole_unsigned;
+use fast_fronts::{Rest, whole_unsigned};
 use fast_program::Start;
 use fast_stream::Sink;
 use fast_template::Templates;
@@ -96,7 +96,7 @@ impl<'t> Machine<'t> {
         ensures same { self.new ≡ record self.old { slots = self.new.slots; latest = self.new.latest } }
         ensures terms { slots_terms self.new.slots ≡ slots_terms self.old.slots }
     {
-        let read = whole_unsigned(&rest[1..], false, limits.strict, 4_294_967_295);
+        let read = whole_unsigned(Rest::new(&rest[1..]), false, limits.strict, 4_294_967_295);
         let (claimed, len) = read?;
         let id = claimed?;
         let start = template_with(templates, id as u32, self.latest)?;

@@ -1,4 +1,4 @@
-//! The fast path of fields that are numbers, at the start of a piece, or after a byte of a map that is used up, where the loop has no arm:
+//! The fast path of fields that are numbers, at the start of a piece, or after the last bit of the map's word, where the loop's arms decline:
 //! integers, of which some bytes may be buffered, and decimals under delta, both units at once.
 
 ghost use Rattle.std.specs.Prelude.{◌≡◌, ◌≢◌, ◌⊎◌, ◌+◌, ◌<◌, true, false, ℕ, List, [], Ok, IfSome, IfNone};

@@ -11,7 +11,7 @@ use crate::waiting::{Waiting, hand_over};
 
 /// How much of two buffers is filled by the events that waited.
 #[derive(Clone, Copy)]
-pub(crate) struct Start {
+pub(crate) struct Filled {
     /// The number of records that are filled.
     pub records: usize,
     /// The number of records that may be filled.
@@ -22,12 +22,12 @@ pub(crate) struct Start {
 
 /// Moves the events that wait into empty buffers, as far as they have room. Most often none waits, and nothing is called then.
 #[inline(always)]
-pub(crate) fn started(records: &mut [Record], texts: &mut [u8], waiting: &mut Waiting) -> Start
+pub(crate) fn started(records: &mut [Record], texts: &mut [u8], waiting: &mut Waiting) -> Filled
     ensures within { IsWithin result records.new texts.new }
     ensures shows { (s : RecordSink) → IsStarted result records.new texts.new waiting.new s → Shows s (pending waiting.old) }
 {
     if waiting.is_empty() {
-        return Start {
+        return Filled {
             records: 0,
             limit: records.len(),
             texts: 0,
@@ -39,13 +39,13 @@ pub(crate) fn started(records: &mut [Record], texts: &mut [u8], waiting: &mut Wa
 /// Moves the events that wait as [`started`] does.
 #[cold]
 #[inline(never)]
-fn handed(records: &mut [Record], texts: &mut [u8], waiting: &mut Waiting) -> Start
+fn handed(records: &mut [Record], texts: &mut [u8], waiting: &mut Waiting) -> Filled
     ensures within { IsWithin result records.new texts.new }
     ensures shows { (s : RecordSink) → IsStarted result records.new texts.new waiting.new s → Shows s (pending waiting.old) }
 {
     let mut room = Room::new(&mut *records, &mut *texts);
     hand_over(&mut room, &mut *waiting);
-    Start {
+    Filled {
         records: room.filled(),
         limit: room.limit(),
         texts: room.used(),

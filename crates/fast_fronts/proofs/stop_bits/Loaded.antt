@@ -12,7 +12,7 @@ use Rattle.fast_wire.specs.device.Words.{IsShortEntity}
 use Rattle.fast_fronts.specs.device.Fronts.{IsLoaded}
 use Rattle.fast_wire.proofs.stop_bits.FirstStop.{AreBytes, turned_of, turned-loaded, turned-loaded_short}
 
-abbrev AreZeros : List ℕ → Type 0
+abbrev pub AreZeros : List ℕ → Type 0
 AreZeros w = All (λ byte. byte ≡ 0) w
 
 zero_at : (zeros : List ℕ) → AreZeros zeros → (i : ℕ) → get_or zeros i 0 ≡ 0

@@ -1,5 +1,5 @@
 -- The first entity of a list of bytes, as an integer.
-use Rattle.std.specs.Prelude.{◌≡◌, ℕ, ◌++◌, ◌<◌, ◌≤◌, All, Bool, List, length, take, ℤ, Option, Result, Ok, Err}
+use Rattle.std.specs.Prelude.{◌≡◌, ℕ, ◌+◌, ◌-◌, ◌*◌, ◌/◌, ◌^◌, ◌++◌, ◌<◌, ◌≤◌, All, Bool, List, [], ◌∷◌, length, take, drop, ℤ, Option, Result, Ok, Err}
 use Rattle.fast_wire.specs.meaning.Entities.{HaveNoStop}
 use Rattle.fast_wire.specs.meaning.Integers.{Range, SpellsInt}
 use Rattle.fast_wire.specs.declared.reads.WireFault.{WireFault}
@@ -24,3 +24,12 @@ pub record IsLoaded (word : ℕ) (bytes : List ℕ) : Type 0 where
   pub zeros : List ℕ
   pub none : All (λ byte. byte ≡ 0) zeros
   pub front : IsFrontWord word (bytes ++ zeros)
+
+-- the bytes as a number, the first one the lowest
+abbrev pub little : List ℕ → ℕ
+little [] = 0
+little (byte ∷ w) = little w * 2 ^ 8 + byte
+
+-- The number of the last seven bytes; where there are fewer, these are the upper ones of the seven.
+abbrev pub IsTail : ℕ → List ℕ → Type 0
+IsTail tail bytes = tail / 2 ^ (56 - 8 * length bytes) ≡ little (drop (length bytes - 7) bytes)

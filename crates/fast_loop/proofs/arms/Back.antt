@@ -33,7 +33,7 @@ use Rattle.fast_machine.proofs.streams.Running.{step_unit, step_waits}
 pub record StandsAt (m : Machine) (from to : Spot) (n : ℕ) : Type 0 where
   pub at : at_place m.cursor to.place ≡ m.cursor
   pub place : IsPlaceOf m.cursor to.place
-  pub rest : to.rest.now ≡ drop n from.rest.now
+  pub rest : to.rest.bytes.now ≡ drop n from.rest.bytes.now
 
 -- bytes behind bytes
 pub further : (from mid to : List ℕ) (n k : ℕ) → mid ≡ drop n from → to ≡ drop k mid → to ≡ drop (n + k) from
@@ -42,17 +42,17 @@ further from mid to n k is behind = behind ∙ ap (drop k) is ∙ drop-drop k n 
 module _ {S : Type 0} (takes stops : S → EventData → S → Type 0) (set : Set) (l : Limits) (m : Machine) (from : Spot) (s : S) where
   -- a step to the machine's own place
   placed_step : (m' : Machine) (to : Spot) (n : ℕ) (result : Result Turn FaultCode) (s' : S) → StandsAt m' from to n
-      → IsStep takes stops set l (placed m from.place) from.rest.now s (record {
+      → IsStep takes stops set l (placed m from.place) from.rest.bytes.now s (record {
         bytes = n;
         turn = result;
-      }) s' m' → IsStep takes stops set l (placed m from.place) from.rest.now s (record { bytes = n; turn = result }) s' (placed m' to.place)
-  placed_step m' to n result s' h step = subst (λ (c : CursorData). IsStep takes stops set l (placed m from.place) from.rest.now s (record {
+      }) s' m' → IsStep takes stops set l (placed m from.place) from.rest.bytes.now s (record { bytes = n; turn = result }) s' (placed m' to.place)
+  placed_step m' to n result s' h step = subst (λ (c : CursorData). IsStep takes stops set l (placed m from.place) from.rest.bytes.now s (record {
     bytes = n;
     turn = result;
   }) s' (record m' { cursor = c })) (sym h.at) step
 
   pub went_by : (m' : Machine) (to : Spot) (n : ℕ) (turn : Turn) (s' : S) → StandsAt m' from to n → m'.waiting ≡ Field
-      → IsStep takes stops set l (placed m from.place) from.rest.now s (record {
+      → IsStep takes stops set l (placed m from.place) from.rest.bytes.now s (record {
         bytes = n;
         turn = Ok turn;
       }) s' m' → WentBy takes stops set l m from s n turn s' m' to
@@ -65,16 +65,16 @@ module _ {S : Type 0} (takes stops : S → EventData → S → Type 0) (set : Se
 
   -- It took bytes.
   pub went_took : (m' : Machine) (to : Spot) (n : ℕ) (turn : Turn) (s' : S) → StandsAt m' from to n → m'.waiting ≡ Field → 0 < n → turn ≢ Waits
-      → IsStep takes stops set l (placed m from.place) from.rest.now s (record {
+      → IsStep takes stops set l (placed m from.place) from.rest.bytes.now s (record {
         bytes = n;
         turn = Ok turn;
       }) s' m' → HasWent takes stops set l m from s Went.Took s' m' to
   went_took m' to n turn s' h waits some on step =
-      (n, some, went_by m' to n Handed s' h waits (took_handed takes stops set l (placed m from.place) m' from.rest.now s n turn s' some on step))
+      (n, some, went_by m' to n Handed s' h waits (took_handed takes stops set l (placed m from.place) m' from.rest.bytes.now s n turn s' some on step))
 
   -- The sink stopped.
   pub went_stopped : (m' : Machine) (to : Spot) (n : ℕ) (code : FaultCode) (s' : S) → StandsAt m' from to n → code ≡ SinkStopped
-      → IsStep takes stops set l (placed m from.place) from.rest.now s (record {
+      → IsStep takes stops set l (placed m from.place) from.rest.bytes.now s (record {
         bytes = n;
         turn = Err code;
       }) s' m' → HasWent takes stops set l m from s Went.Stopped s' m' to
@@ -82,7 +82,7 @@ module _ {S : Type 0} (takes stops : S → EventData → S → Type 0) (set : Se
     n,
     h.rest,
     h.place,
-    subst (λ (c : FaultCode). IsStep takes stops set l (placed m from.place) from.rest.now s (record {
+    subst (λ (c : FaultCode). IsStep takes stops set l (placed m from.place) from.rest.bytes.now s (record {
       bytes = n;
       turn = Err c;
     }) s' (placed m' to.place)) stopped (placed_step m' to n (Err code) s' h step),

@@ -121,12 +121,12 @@ module _ {S : Type 0} (takes stops : S → EventData → S → Type 0) (set : Se
       (λ way k c. one_turn way set l k m.turns.count turns.count m.counted m.cursor counts c)
 
 module _ {S : Type 0} (takes stops : S → EventData → S → Type 0) (set : Set) (l : Limits) (m m' : Machine) (from to : Spot) (went : Went)
-    (s : S) (waits : went ≡ Went.Waits) (place : to.place ≡ from.place) (end : to.rest.now ≡ drop (length from.rest.now) from.rest.now)
+    (s : S) (waits : went ≡ Went.Waits) (place : to.place ≡ from.place) (end : to.rest.bytes.now ≡ drop (length from.rest.bytes.now) from.rest.bytes.now)
     (spot : IsAtSpot set l m from.place) (later : NameLaterNodes set.nodes) (n : ℕ) (f : FieldData)
     (at : IsAtField set (at_place m.cursor from.place) n f) (sent : IsSent f (bit_of f (state_of (placed m from.place)))) where
   went_to : (w : Waiting) (t : Scratch) (turns : Turns) → m' ≡ record m { waiting = w; text = t; turns = turns }
-      → IsStep takes stops set l (placed m from.place) from.rest.now s (record {
-        bytes = length from.rest.now;
+      → IsStep takes stops set l (placed m from.place) from.rest.bytes.now s (record {
+        bytes = length from.rest.bytes.now;
         turn = Ok TurnWaits;
       }) s (placed (record m { waiting = w; text = t; turns = turns }) from.place)
       → HasWent takes stops set l m from s went s m' to
@@ -134,32 +134,32 @@ module _ {S : Type 0} (takes stops : S → EventData → S → Type 0) (set : Se
       let b : Machine = record m { waiting = w; text = t; turns = turns } in
       subst (λ (x : Went). HasWent takes stops set l m from s x s m' to) (sym waits)
       (subst (λ (x : Machine). HasWent takes stops set l m from s Went.Waits s x to) (sym same) (
-        length from.rest.now,
+        length from.rest.bytes.now,
         end,
         subst (λ (p : Place). IsPlaceOf m.cursor p) (sym place) spot.place,
-        subst (λ (p : Place). IsStep takes stops set l (placed m from.place) from.rest.now s (record {
-          bytes = length from.rest.now;
+        subst (λ (p : Place). IsStep takes stops set l (placed m from.place) from.rest.bytes.now s (record {
+          bytes = length from.rest.bytes.now;
           turn = Ok TurnWaits;
         }) s (placed b p)) (sym place) step,
       ))
 
   -- The arm has kept the bytes of a text that has begun.
-  pub begun_went : (r : BegunText) → IsKeptFrom m m' from.rest.now r
-      → HasBegun l.strict (bounds l) f (previous_at f.entry (slots_dictionary m.slots)) from.rest.now r.stage r.from
+  pub begun_went : (r : BegunText) → IsKeptFrom m m' from.rest.bytes.now r
+      → HasBegun l.strict (bounds l) f (previous_at f.entry (slots_dictionary m.slots)) from.rest.bytes.now r.stage r.from
       → HasWent takes stops set l m from s went s m' to
   begun_went r kept h =
       let some = h.some in
       let within = h.within in
       went_to (Bytes r.stage) m'.text m'.turns kept.same
-      (begun_step takes stops set l (placed m from.place) later spot.can n f at sent m'.text m'.turns kept.room kept.turn from.rest.now
+      (begun_step takes stops set l (placed m from.place) later spot.can n f at sent m'.text m'.turns kept.room kept.turn from.rest.bytes.now
       (omega (arith, some, within)) s r.stage r.from h kept.text)
 
   -- The arm has kept an ASCII text.
-  pub ascii_went : IsAsciiFirst f → IsKeptAs Text m m' from.rest.now → 0 < length from.rest.now
-      → ((nullable : Bool) → ascii_text nullable l.max_text from.rest.now [] cut) → HasWent takes stops set l m from s went s m' to
+  pub ascii_went : IsAsciiFirst f → IsKeptAs Text m m' from.rest.bytes.now → 0 < length from.rest.bytes.now
+      → ((nullable : Bool) → ascii_text nullable l.max_text from.rest.bytes.now [] cut) → HasWent takes stops set l m from s went s m' to
   ascii_went first kept some front =
       went_to Text m'.text m'.turns kept.same
-      (ascii_step takes stops set l (placed m from.place) later spot.can n f at sent m'.text m'.turns kept.room kept.turn from.rest.now
+      (ascii_step takes stops set l (placed m from.place) later spot.can n f at sent m'.text m'.turns kept.room kept.turn from.rest.bytes.now
       some s first (front f.optional) kept.text)
 
 -- The arm has kept the rest, or has done nothing.

@@ -37,9 +37,9 @@ module _ {S : Type 0} (takes stops : S → EventData → S → Type 0) (set : Se
   pub placed_turn : (s : S) (result : Result Turn FaultCode) (s' : S) (m' : Machine) → result ≢ Ok Silent
       → IsTurn takes stops set l (turning set l a) s result s' m'
       → ((way : Way) (k : ℕ) → HasTurns way set l 1 k a → HasTurnsBehind result way set l k m')
-      → IsStep takes stops set l (placed m from.place) from.rest.now s (record { bytes = 0; turn = result }) s' m'
+      → IsStep takes stops set l (placed m from.place) from.rest.bytes.now s (record { bytes = 0; turn = result }) s' m'
   placed_turn s result s' m' on turn turns =
-      turn_step takes stops set l (placed m from.place) from.rest.now s result s' m'
+      turn_step takes stops set l (placed m from.place) from.rest.bytes.now s result s' m'
       (subst (λ (r : Reader Dictionary). IsTurn takes stops set l r s result s' m') turning_here turn) (λ e. absurd (on e))
       (λ way k h. turns way k (turn_counted way k h))
 
@@ -61,14 +61,14 @@ module _ {S : Type 0} (takes stops : S → EventData → S → Type 0) (set : Se
     pub message_begun : (s mid : S) (q : UnitTaken) (s' : S) (b' m' : Machine) → takes s MessageEnd mid → IsTakenTo takes stops set l (meaning set l (record a {
       waiting = Map;
       cursor = c;
-    })) from.rest.now mid q.bytes q.turn s' b'
+    })) from.rest.bytes.now mid q.bytes q.turn s' b'
         → ((way : Way) (k : ℕ) → HasTurnsInMap c.map way set l k a.turns.count
         → HasTurnsBehind q.turn way set l (1 + k + turns_begun c.map way (tree_in set) l) b')
-        → q.turn ≢ Ok Waits → m' ≡ record b' { waiting = Field } → IsStep takes stops set l (placed m from.place) from.rest.now s q s' m'
+        → q.turn ≢ Ok Waits → m' ≡ record b' { waiting = Field } → IsStep takes stops set l (placed m from.place) from.rest.bytes.now s q s' m'
     message_begun s mid q s' b' m' taken unit turns on is =
         let end = ended s mid taken in
-        step_waits takes stops set l (placed m from.place) from.rest.now s q.bytes q.turn s' b' m' Field is on
-        (unit_step takes stops set l (placed m from.place) (record a { waiting = Map; cursor = c }) from.rest.now s mid q s' b'
+        step_waits takes stops set l (placed m from.place) from.rest.bytes.now s q.bytes q.turn s' b' m' Field is on
+        (unit_step takes stops set l (placed m from.place) (record a { waiting = Map; cursor = c }) from.rest.bytes.now s mid q s' b'
         (subst (λ (r : Reader Dictionary). Hands takes stops r s (Ok tt) mid (meaning set l (record a {
           waiting = Map;
           cursor = c;

@@ -101,7 +101,7 @@ pub item_taken : (t : Templates) (l : Limits) (m : Machine) (from : Spot) (op : 
     (coded : IsFieldOp (set_of t) op kind operator optional) (x : Node) (found : slice_get t.nodes.items op.node ≡ Some x)
     (slots : Slots) (r : TakenItem) → operator ≢ Constant → (operator_uses_bit operator optional ≡ false)
     ⊎ (first_bit (bits_left (at_place m.cursor from.place)) ≡ true) → slots_terms slots ≡ slots_terms m.slots
-    → IsSentItem kind optional operator op.entry l.strict from.rest.now m.slots slots r
+    → IsSentItem kind optional operator op.entry l.strict from.rest.bytes.now m.slots slots r
     → IsFieldTaken (set_of t) l m (record m { slots = slots }) from op.node
     (field_of t l m from.place op kind operator optional spot at coded x found) (option_map number_data r.item) r.bytes
 item_taken t l m from op kind operator optional spot at coded x found slots r varies stands terms h =

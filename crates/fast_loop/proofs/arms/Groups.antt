@@ -56,7 +56,7 @@ group_always set l m from node body next = record {
 }
 
 -- A group whose bit is set is there.
-pub group_by_bit : (set : Set) (l : Limits) (m : Machine) (from to : Spot) (node : ℕ) (body : List ℕ) → to.rest.now ≡ from.rest.now
+pub group_by_bit : (set : Set) (l : Limits) (m : Machine) (from to : Spot) (node : ℕ) (body : List ℕ) → to.rest.bytes.now ≡ from.rest.bytes.now
     → place_left to.place ≡ place_left from.place
     → bits_left (at_place m.cursor to.place) ≡ later_bits (bits_left (at_place m.cursor from.place))
     → at_place m.cursor to.place ≡ record (at_place m.cursor from.place) { used = (at_place m.cursor to.place).used }
@@ -78,9 +78,9 @@ module _ {S : Type 0} (takes stops : S → EventData → S → Type 0) (set : Se
       → IsTurn takes stops set l (reader_of l.strict (group_from set (bounds l) node body (slots_dictionary m.slots) m.counted c)) s result s' m'
       → ((way : Way) (k : ℕ) (may : Bool) → IsAtGroup set c node may body → IsWithinTurns way set l 1 k t.count m.counted c
       → HasTurnsBehind result way set l k m')
-      → IsStep takes stops set l (placed m from.place) from.rest.now s (record { bytes = 0; turn = result }) s' m'
+      → IsStep takes stops set l (placed m from.place) from.rest.bytes.now s (record { bytes = 0; turn = result }) s' m'
   entered_step to h c is optional next s result s' m' on turn turns =
-      turn_step takes stops set l (placed m from.place) from.rest.now s result s' m'
+      turn_step takes stops set l (placed m from.place) from.rest.bytes.now s result s' m'
       (turn_as takes stops set l (turning set l (placed m from.place)) _ s result s' m'
       (h.begins ∙ ap (λ (x : CursorData). reader_of l.strict (group_from set (bounds l) node body (slots_dictionary m.slots) m.counted x)) (sym is)) turn)
       (λ e. absurd (on e))
@@ -100,7 +100,7 @@ module _ {S : Type 0} (takes stops : S → EventData → S → Type 0) (set : Se
       → first_bit (bits_left (at_place m.cursor from.place)) ≡ false
       → at_place m.cursor p ≡ record (at_place m.cursor from.place) { left = drop 1 (at_place m.cursor from.place).left; used = (at_place m.cursor p).used }
       → bits_left (at_place m.cursor p) ≡ later_bits (bits_left (at_place m.cursor from.place)) → (s : S)
-      → IsStep takes stops set l (placed m from.place) from.rest.now s (record { bytes = 0; turn = Ok Silent }) s (placed (record m { turns = t }) p)
+      → IsStep takes stops set l (placed m from.place) from.rest.bytes.now s (record { bytes = 0; turn = Ok Silent }) s (placed (record m { turns = t }) p)
   absent_group p can next first past later s =
       let before = placed m from.place in
       let counting : Machine = record before { turns = t } in
@@ -118,7 +118,7 @@ module _ {S : Type 0} (takes stops : S → EventData → S → Type 0) (set : Se
         mapped = can.mapped;
         unused = can.unused;
       } in
-      turn_step takes stops set l before from.rest.now s (Ok Silent) s (placed (record m { turns = t }) p)
+      turn_step takes stops set l before from.rest.bytes.now s (Ok Silent) s (placed (record m { turns = t }) p)
       (group_absent takes stops set l counting mid (at_place m.cursor p) node body s ready next first refl later past)
       (λ e. (next.2, ap (λ (x : CursorData). x.left) past))
       (λ way k w. passed way set l k t.count t.count m.counted m.counted before.cursor (at_place m.cursor p)

@@ -80,7 +80,7 @@ module _ {S : Type 0} (takes stops : S → EventData → S → Type 0) (set : Se
       (reader_of l.strict (going_on set (bounds l) (slots_dictionary m1.slots) m.counted (at_place m.cursor q))) waits
 
   known : n ≡ 0 → turning set l before ≡ read_on
-  known none = (subst (λ (k : ℕ). TurnsTo (turning set l before) (take k from.rest.now) read_on) none h.turns).becomes
+  known none = (subst (λ (k : ℕ). TurnsTo (turning set l before) (take k from.rest.bytes.now) read_on) none h.turns).becomes
 
   past_from : (result : Result Turn FaultCode) → OnOk result (IsPast (at_place m.cursor p) (at_place m.cursor q))
       → OnOk result (IsPast before.cursor after.cursor)
@@ -92,17 +92,17 @@ module _ {S : Type 0} (takes stops : S → EventData → S → Type 0) (set : Se
 
   led_step : (s : S) (result : Result Turn FaultCode) (s' : S) → MovesOn s result s'
       → OnOk result (IsPast (at_place m.cursor p) (at_place m.cursor q)) → result ≢ Ok Waits → (n ≡ 0) ⊎ (0 < n)
-      → IsStep takes stops set l before from.rest.now s (record { bytes = n; turn = result }) s' after
+      → IsStep takes stops set l before from.rest.bytes.now s (record { bytes = n; turn = result }) s' after
   led_step s result s' moves past on (inl none) =
-      subst (λ (k : ℕ). IsStep takes stops set l before from.rest.now s (record { bytes = k; turn = result }) s' after) (sym none)
-      (turn_step takes stops set l before from.rest.now s result s' after
+      subst (λ (k : ℕ). IsStep takes stops set l before from.rest.bytes.now s (record { bytes = k; turn = result }) s' after) (sym none)
+      (turn_step takes stops set l before from.rest.bytes.now s result s' after
       (turn_moved takes stops set l (turning set l before) read_on s result s' keeping after (known none)
       (moves (meaning set l after)) can_keep refl refl (past_from result past) on)
       (λ e. (h.some, past_left before.cursor after.cursor result (past_from result past) e))
       (λ way k c. finished way set l k keeping after h.instruction result h.next refl (past_from result past) on
       (one_turn way set l k m.turns.count t.count m.counted before.cursor counts c)))
   led_step s result s' moves past on (inr some) =
-      bytes_step takes stops set l before after from.rest.now s n read_on result s' some h.within h.turns
+      bytes_step takes stops set l before after from.rest.bytes.now s n read_on result s' some h.within h.turns
       (record {
         moves = moves (meaning set l after);
         supplied = supplied_moved set l keeping after can_keep.supplied refl refl;
@@ -111,19 +111,19 @@ module _ {S : Type 0} (takes stops : S → EventData → S → Type 0) (set : Se
       (λ way k c. finished way set l k keeping after h.instruction result h.next refl (past_from result past) on
       (one_turn way set l k m.turns.count t.count m.counted before.cursor counts c))
 
-  module _ (to : Spot) (s : S) (turn : Turn) (s' : S) (rest : to.rest.now ≡ drop n from.rest.now) (same : to.place ≡ q)
+  module _ (to : Spot) (s : S) (turn : Turn) (s' : S) (rest : to.rest.bytes.now ≡ drop n from.rest.bytes.now) (same : to.place ≡ q)
       (moves : MovesOn s (Ok turn) s') (past : IsPast (at_place m.cursor p) (at_place m.cursor q)) (on : turn ≢ Waits) where
     -- Past it without a byte.
     pub led_went : n ≡ 0 → WentBy takes stops set l m from s 0 turn s' (record m1 { turns = t }) to
     led_went none = subst (λ (x : Machine). WentBy takes stops set l m from s 0 turn s' (record x { turns = t }) to) (sym h.kept) (record {
-      rest = rest ∙ ap (λ (k : ℕ). drop k from.rest.now) none;
+      rest = rest ∙ ap (λ (k : ℕ). drop k from.rest.bytes.now) none;
       waits = h.spot.waits;
       place = subst (λ (x : Place). IsPlaceOf m.cursor x) (sym same) place;
-      step = subst (λ (x : Place). IsStep takes stops set l before from.rest.now s (record {
+      step = subst (λ (x : Place). IsStep takes stops set l before from.rest.bytes.now s (record {
         bytes = 0;
         turn = Ok turn;
       }) s' (placed (record kept { turns = t }) x)) (sym same)
-          (subst (λ (k : ℕ). IsStep takes stops set l before from.rest.now s (record {
+          (subst (λ (k : ℕ). IsStep takes stops set l before from.rest.bytes.now s (record {
             bytes = k;
             turn = Ok turn;
           }) s' after) none (led_step s (Ok turn) s' moves past (λ e. on (cc e)) (inl none)));
@@ -138,22 +138,24 @@ module _ {S : Type 0} (takes stops : S → EventData → S → Type 0) (set : Se
         rest = rest;
         waits = h.spot.waits;
         place = subst (λ (x : Place). IsPlaceOf m.cursor x) (sym same) place;
-        step = subst (λ (x : Place). IsStep takes stops set l before from.rest.now s (record {
+        step = subst (λ (x : Place). IsStep takes stops set l before from.rest.bytes.now s (record {
           bytes = n;
           turn = Ok Handed;
         }) s' (placed (record kept { turns = t }) x)) (sym same)
-            (took_handed takes stops set l before after from.rest.now s n turn s' some on (led_step s (Ok turn) s' moves past (λ e. on (cc e)) (inr some)));
+            (took_handed takes stops set l before after from.rest.bytes.now s n turn s' some on
+            (led_step s (Ok turn) s' moves past (λ e. on (cc e)) (inr some)));
       },
     )
 
   -- The sink stopped at its value.
-  pub led_stopped : (w : List ℕ) (s s' : S) → w ≡ drop n from.rest.now → MovesOn s (Err SinkStopped) s' → (n ≡ 0) ⊎ (0 < n)
-      → (k : ℕ) × (w ≡ drop k from.rest.now) × IsPlaceOf m1.cursor q × IsStep takes stops set l before from.rest.now s (record {
+  pub led_stopped : (w : List ℕ) (s s' : S) → w ≡ drop n from.rest.bytes.now → MovesOn s (Err SinkStopped) s' → (n ≡ 0) ⊎ (0 < n)
+      → (k : ℕ) × (w ≡ drop k from.rest.bytes.now) × IsPlaceOf m1.cursor q × IsStep takes stops set l before from.rest.bytes.now s (record {
         bytes = k;
         turn = Err SinkStopped;
       }) s' (placed (record m1 { turns = t }) q)
   led_stopped w s s' rest moves some =
-      subst (λ (x : Machine). (k : ℕ) × (w ≡ drop k from.rest.now) × IsPlaceOf x.cursor q × IsStep takes stops set l before from.rest.now s (record {
+      subst (λ (x : Machine). (k : ℕ) × (w ≡ drop k from.rest.bytes.now) × IsPlaceOf x.cursor q × IsStep takes stops set l before from.rest.bytes.now
+      s (record {
         bytes = k;
         turn = Err SinkStopped;
       }) s' (placed (record x { turns = t }) q))

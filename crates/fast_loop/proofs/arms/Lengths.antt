@@ -105,7 +105,7 @@ length_turns set l m node f body rest x n next sent (some, within, gives) =
 pub length_taken : (set : Set) (l : Limits) (m : Machine) (from : Spot) (node : ℕ) (f : FieldData) (body : List ℕ) (optional : Bool)
     (x : Option ℕ) (n : ℕ) → IsAtSpot set l m from.place
     → IsAtSequence set (at_place m.cursor from.place) node f body → IsFieldAs f UInt32 optional no_operator 0 → Serves set.entries (slots_terms m.slots) f
-    → IsFirstInt (λ y. option_map pos y) l.strict (unsigned_up_to 4294967295) optional (First.Whole x n) from.rest.now
+    → IsFirstInt (λ y. option_map pos y) l.strict (unsigned_up_to 4294967295) optional (First.Whole x n) from.rest.bytes.now
     → IsLengthTaken set l m from node f body (option_map U x) n
 length_taken set l m from node f body optional x n spot next so serves first =
     let before = placed m from.place in
@@ -115,7 +115,7 @@ length_taken set l m from node f body optional x n spot next so serves first =
     let keeps : KeepsItem UInt32 no_operator 0 m.slots m.slots (length_item x) =
     λ g may be served. ap (λ e. write_at e (item_held UInt32 (length_item x)) (slots_dictionary m.slots))
     (sym (no_entry g served (ap keeps_value be.operator))) in
-    let unit = sent_item UInt32 optional no_operator 0 l.strict from.rest.now m.slots m.slots (option_map pos x) (record {
+    let unit = sent_item UInt32 optional no_operator 0 l.strict from.rest.bytes.now m.slots m.slots (option_map pos x) (record {
       item = length_item x;
       bytes = n;
     }) refl (λ e. cc e) (λ e. cc e) first (same x) keeps f (bounds l) [] so here in
@@ -125,7 +125,7 @@ length_taken set l m from node f body optional x n spot next so serves first =
       no_bit = no_bit;
       some = unit.0;
       within = unit.1;
-      turns = length_turns set l before node f body from.rest.now x n next (sent_by_bit f (state_of before) false varies no_bit (inl refl)) unit;
+      turns = length_turns set l before node f body from.rest.bytes.now x n next (sent_by_bit f (state_of before) false varies no_bit (inl refl)) unit;
     }
   where
     same : (x : Option ℕ) → sent_number (length_item x) ≡ sent_integer UInt32 (option_map pos x)
@@ -138,7 +138,7 @@ pub sequence_taken : (t : Templates) (l : Limits) (m : Machine) (from : Spot) (o
     → IsAtSpot (set_of t) l m from.place → IsAtOp (set_of t) from.place op
     → ((y : Node) → slice_get t.nodes.items op.node ≡ Some y → IsSequenceCoded optional y.shape)
     → node ≡ op.node → slice_get t.nodes.items node ≡ Some v → v.shape ≡ Sequence length body → ns ≡ body.items
-    → IsFirstInt (λ y. option_map pos y) l.strict (unsigned_up_to 4294967295) optional (First.Whole x n) from.rest.now
+    → IsFirstInt (λ y. option_map pos y) l.strict (unsigned_up_to 4294967295) optional (First.Whole x n) from.rest.bytes.now
     → IsLengthTaken (set_of t) l m from node (field_data length) ns (option_map U x) n
 sequence_taken t l m from op node v x body ns optional y n spot at coded same there shape items first =
     let set = set_of t in
@@ -188,9 +188,9 @@ module _ {S : Type 0} (takes stops : S → EventData → S → Type 0) (set : Se
   length_step : (s : S) (result : Result Turn FaultCode) (s' : S) (m' : Machine)
       → IsTurn takes stops set l (length_from set l before node value f body) s result s' m'
       → ((way : Way) (k : ℕ) → IsWithinTurns way set l 1 k t.count m.counted before.cursor → HasTurnsBehind result way set l k m')
-      → IsStep takes stops set l before from.rest.now s (record { bytes = n; turn = result }) s' m'
+      → IsStep takes stops set l before from.rest.bytes.now s (record { bytes = n; turn = result }) s' m'
   length_step s result s' m' turn turns =
-      bytes_step takes stops set l before m' from.rest.now s n
+      bytes_step takes stops set l before m' from.rest.bytes.now s n
       (length_from set l before node value f body) result s' h.some h.within h.turns turn
       (λ way k c. turns way k (counted_turn way k c))
 
@@ -200,7 +200,7 @@ module _ {S : Type 0} (takes stops : S → EventData → S → Type 0) (set : Se
 
   module _ (c : CursorData) (is : c ≡ record before.cursor { left = drop 1 before.cursor.left }) where
     -- Without a length there is no sequence.
-    pub absent_step : value ≡ None → (s : S) → IsStep takes stops set l before from.rest.now s (record {
+    pub absent_step : value ≡ None → (s : S) → IsStep takes stops set l before from.rest.bytes.now s (record {
       bytes = n;
       turn = Ok Silent;
     }) s (record counting { cursor = c })
@@ -234,7 +234,7 @@ module _ {S : Type 0} (takes stops : S → EventData → S → Type 0) (set : Se
 
       -- The sink stops at its beginning,
       pub stopped_step : (s : S) (code : FaultCode) (s' : S) → (code ≡ SinkStopped) × stops s (SequenceStart node count) s'
-          → IsStep takes stops set l before from.rest.now s (record {
+          → IsStep takes stops set l before from.rest.bytes.now s (record {
             bytes = n;
             turn = Err code;
           }) s' behind_it
@@ -247,7 +247,7 @@ module _ {S : Type 0} (takes stops : S → EventData → S → Type 0) (set : Se
       pub elements_step : (s mid : S) (begun : Result ℕ FaultCode) (s' : S) (m' : Machine) → takes s (SequenceStart node count) mid
           → IsTurn takes stops set l (elements_of set l behind_it count body) mid (opened_result begun) s' (opened_by begun m')
           → ((way : Way) (k : ℕ) → HasTurnsFrom way set l k count body behind_it → HasTurnsBehind (opened_result begun) way set l k (opened_by begun m'))
-          → IsStep takes stops set l before from.rest.now s (record { bytes = n; turn = opened_result begun }) s' (opened_by begun m')
+          → IsStep takes stops set l before from.rest.bytes.now s (record { bytes = n; turn = opened_result begun }) s' (opened_by begun m')
       elements_step s mid begun s' m' taken turn turns =
           length_step s (opened_result begun) s' (opened_by begun m')
           (turn_more takes stops set l (length_from set l before node value f body) (elements_of set l behind_it count body)

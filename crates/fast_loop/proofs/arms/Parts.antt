@@ -2,7 +2,7 @@
 use Rattle.std.proofs.Common.{refl, sym, ap, ◌∙◌, subst, inl, inr, arith}
 use Rattle.std.specs.Prelude.{◌≡◌, ◌⊎◌, ℕ, zero, suc, ◌+◌, ◌-◌, ◌<◌, ◌≤◌, Bool, true, false, List, [], length, take, drop, slice_get, ℤ}
 use Rattle.std.specs.Prelude.{Option, Some, None, Ok, option_map, if◌then◌else◌}
-use Rattle.std.proofs.lemmas.List.{length-drop, take_rest}
+use Rattle.std.proofs.lemmas.List.{length-drop}
 use Rattle.std.proofs.Math.Seq.{take-add}
 use Rattle.fast_wire.specs.meaning.Integers.{IsWithin, exponent_range}
 use Rattle.fast_wire.specs.meaning.Maps.{first_bit, later_bits}
@@ -138,13 +138,12 @@ pub part_within : (field : FieldInstruction) (bit s : Bool) (rest : List ℕ) (s
 part_within field bit s rest seen x n h = within_by (needs_bytes field.operator bit) field bit s rest seen x n h
 
 -- So are those of both, of which the second stands behind the first.
-pub both_within : (e f : FieldInstruction) (bit set_bit s : Bool) (rest : List ℕ) (seen : Slots) (x y : ℤ) (used n : ℕ)
-    → IsPart e bit s rest seen (Some x) used → IsPart f set_bit s (take (length rest - used) (drop used rest)) seen (Some y) n
-    → used + n ≤ length rest
-both_within e f bit set_bit s rest seen x y used n first second =
+pub both_within : (e f : FieldInstruction) (bit set_bit s : Bool) (rest behind : List ℕ) (seen : Slots) (x y : ℤ) (used n : ℕ)
+    → behind ≡ drop used rest → IsPart e bit s rest seen (Some x) used → IsPart f set_bit s behind seen (Some y) n → used + n ≤ length rest
+both_within e f bit set_bit s rest behind seen x y used n is first second =
     let u = part_within e bit s rest seen (Some x) used first in
-    let v = part_within f set_bit s (take (length rest - used) (drop used rest)) seen (Some y) n second in
-    let size : length (take (length rest - used) (drop used rest)) ≡ length rest - used = ap length (take_rest rest used) ∙ length-drop used rest in
+    let v = part_within f set_bit s behind seen (Some y) n second in
+    let size : length behind ≡ length rest - used = ap length is ∙ length-drop used rest in
     omega (arith, u, v, size)
 
 module _ (set : Set) (l : Limits) (m : Machine) (from : Spot) (node : ℕ) (e f : FieldInstruction) (at : IsAtDecimal set l m from.place node e f) where
@@ -188,18 +187,20 @@ module _ (set : Set) (l : Limits) (m : Machine) (from : Spot) (node : ℕ) (e f 
       bits = if uses_bit exponent then later_bits bits else bits;
     }
 
-    exponent_leads : (x : Option ℤ) → IsPart e bit l.strict from.rest.now m.slots x used → (0 < used → KeepsPart e m.slots mid x) → (used ≡ 0 → mid ≡ m.slots)
-        → Turns (turning set l before) (take used from.rest.now) (reader_of l.strict (behind_exponent (option_map number_data (part_item x), state_between)))
+    exponent_leads : (x : Option ℤ) → IsPart e bit l.strict from.rest.bytes.now m.slots x used
+        → (0 < used → KeepsPart e m.slots mid x) → (used ≡ 0 → mid ≡ m.slots)
+        → Turns (turning set l before) (take used from.rest.bytes.now)
+        (reader_of l.strict (behind_exponent (option_map number_data (part_item x), state_between)))
     exponent_leads x part kept left =
         turns_as (parts_next set l before node exponent mantissa at.next) refl
-        (part_leads l.strict (bounds l) e bit from.rest.now m.slots m.slots mid m.counted bits behind_exponent x used is_bit (record {
+        (part_leads l.strict (bounds l) e bit from.rest.bytes.now m.slots m.slots mid m.counted bits behind_exponent x used is_bit (record {
           serves = exponent_serves;
           same = refl;
         }) part kept
         (λ none. sym (ap slots_dictionary (left none))))
 
     -- Without an exponent there is no decimal.
-    pub absent_led : IsPart e bit l.strict from.rest.now m.slots None used → (0 < used → KeepsPart e m.slots mid None)
+    pub absent_led : IsPart e bit l.strict from.rest.bytes.now m.slots None used → (0 < used → KeepsPart e m.slots mid None)
         → (used ≡ 0 → mid ≡ m.slots) → IsLedTo set l m (record m { slots = mid }) from from.place node exponent None used
     absent_led part kept left = record {
       spot = at.spot;
@@ -210,7 +211,7 @@ module _ (set : Set) (l : Limits) (m : Machine) (from : Spot) (node : ℕ) (e f 
       next = at.next.3;
       left = refl;
       place = at.spot.place;
-      within = part_within e bit l.strict from.rest.now m.slots None used part;
+      within = part_within e bit l.strict from.rest.bytes.now m.slots None used part;
       turns = exponent_leads None part kept left;
     }
 
@@ -227,12 +228,12 @@ module _ (set : Set) (l : Limits) (m : Machine) (from : Spot) (node : ℕ) (e f 
       }
 
       mantissa_leads : set_bit ≡ bit_of mantissa state_between → IsAsSeen f m.slots mid
-          → IsPart f set_bit l.strict (drop used from.rest.now) m.slots (Some y) n → (0 < n → KeepsPart f mid new (Some y))
+          → IsPart f set_bit l.strict (drop used from.rest.bytes.now) m.slots (Some y) n → (0 < n → KeepsPart f mid new (Some y))
           → (n ≡ 0 → new ≡ mid)
-          → Turns (reader_of l.strict (field_in (bounds l) mantissa state_between >>= behind_mantissa)) (take n (drop used from.rest.now))
+          → Turns (reader_of l.strict (field_in (bounds l) mantissa state_between >>= behind_mantissa)) (take n (drop used from.rest.bytes.now))
           (reader_of l.strict (handed_then node (behind set l before) (Some (Dec x y)) state_behind))
       mantissa_leads is_set seen part kept left =
-          part_leads l.strict (bounds l) f set_bit (drop used from.rest.now) m.slots mid new m.counted state_between.bits behind_mantissa
+          part_leads l.strict (bounds l) f set_bit (drop used from.rest.bytes.now) m.slots mid new m.counted state_between.bits behind_mantissa
           (Some y) n is_set seen part kept
           (λ none. sym (ap slots_dictionary (left none)))
 
@@ -262,11 +263,11 @@ module _ (set : Set) (l : Limits) (m : Machine) (from : Spot) (node : ℕ) (e f 
             }))) (sym behind_bit)
 
         -- The decimal.
-        pub decimal_led : IsWithin exponent_range x → IsPart e bit l.strict from.rest.now m.slots (Some x) used
+        pub decimal_led : IsWithin exponent_range x → IsPart e bit l.strict from.rest.bytes.now m.slots (Some x) used
             → (0 < used → KeepsPart e m.slots mid (Some x)) → (used ≡ 0 → mid ≡ m.slots)
             → set_bit ≡ bit_at_place m.cursor p mantissa → (0 < used → (q : PreviousData) (d : Dictionary)
             → previous_at mantissa.entry (write_at exponent.entry q d) ≡ previous_at mantissa.entry d)
-            → IsPart f set_bit l.strict (drop used from.rest.now) m.slots (Some y) n → (0 < n → KeepsPart f mid new (Some y))
+            → IsPart f set_bit l.strict (drop used from.rest.bytes.now) m.slots (Some y) n → (0 < n → KeepsPart f mid new (Some y))
             → (n ≡ 0 → new ≡ mid) → slots_terms new ≡ slots_terms mid → IsPlaceOf m.cursor p
             → IsLedTo set l m (record m { slots = new }) from p node mantissa (Some (Dec x y)) (used + n)
         decimal_led inside first kept left is_set own second kept_too left_too terms_too place = record {
@@ -279,14 +280,14 @@ module _ (set : Set) (l : Limits) (m : Machine) (from : Spot) (node : ℕ) (e f 
           left = same;
           place = place;
           within =
-              let u = part_within e bit l.strict from.rest.now m.slots (Some x) used first in
-              let v = part_within f set_bit l.strict (drop used from.rest.now) m.slots (Some y) n second in
-              let size = length-drop used from.rest.now in
+              let u = part_within e bit l.strict from.rest.bytes.now m.slots (Some x) used first in
+              let v = part_within f set_bit l.strict (drop used from.rest.bytes.now) m.slots (Some y) n second in
+              let size = length-drop used from.rest.bytes.now in
               omega (arith, u, v, size);
           turns =
               subst (λ (w : List ℕ). Turns (turning set l before) w
               (reader_of l.strict (value_then set (bounds l) node (Some (Dec x y)) mantissa (slots_dictionary new) m.counted
-              (at_place m.cursor p)))) (sym (take-add used n from.rest.now))
+              (at_place m.cursor p)))) (sym (take-add used n from.rest.bytes.now))
               (turns_run (turns_as refl (sym (mantissa_next inside)) (exponent_leads (Some x) first kept left))
               (turns_as refl (sym decimal_behind) (mantissa_leads (bit_behind is_set) (record {
                 serves = serves_as mid f terms at.mantissa;

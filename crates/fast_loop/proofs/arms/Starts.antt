@@ -46,7 +46,7 @@ module _ {S : Type 0} (takes stops : S → EventData → S → Type 0) (set : Se
   cleared = record a.cursor { map = []; used = 0; ends = 8 }
 
   -- No message begins yet.
-  pub none_went : (went : Went) (m' : Machine) (to : Spot) → went ≡ Went.Waits → to.rest.now ≡ from.rest.now → IsPlaceOf m'.cursor to.place
+  pub none_went : (went : Went) (m' : Machine) (to : Spot) → went ≡ Went.Waits → to.rest.bytes.now ≡ from.rest.bytes.now → IsPlaceOf m'.cursor to.place
       → placed m' to.place ≡ record a {
         waiting = Map;
         cursor = record a.cursor { map = []; used = 0; ends = 8 };
@@ -59,16 +59,16 @@ module _ {S : Type 0} (takes stops : S → EventData → S → Type 0) (set : Se
         0,
         rest,
         place,
-        subst (λ (x : Machine). IsStep takes stops set l (placed m from.place) from.rest.now s (record {
+        subst (λ (x : Machine). IsStep takes stops set l (placed m from.place) from.rest.bytes.now s (record {
           bytes = 0;
           turn = Ok Waits;
         }) mid x) (sym is) step,
       )
 
   -- by the answer
-  as_went : (went : Went) (n : ℕ) (s' : S) (m' : Machine) (to : Spot) → IsStart went → 0 < n → to.rest.now ≡ drop n from.rest.now
+  as_went : (went : Went) (n : ℕ) (s' : S) (m' : Machine) (to : Spot) → IsStart went → 0 < n → to.rest.bytes.now ≡ drop n from.rest.bytes.now
       → m'.waiting ≡ Field → IsPlaceOf m'.cursor to.place
-      → IsStep takes stops set l (placed m from.place) from.rest.now s (record {
+      → IsStep takes stops set l (placed m from.place) from.rest.bytes.now s (record {
         bytes = n;
         turn = begun_by went;
       }) s' (placed m' to.place) → HasWent takes stops set l m from s went s' m' to
@@ -85,19 +85,19 @@ module _ {S : Type 0} (takes stops : S → EventData → S → Type 0) (set : Se
 
   -- A message begins.
   pub start_went : (number n : ℕ) (d : Dictionary) (went : Went) (s' : S) (m' : Machine) (to : Spot)
-      → IsMessageAhead set l (slots_dictionary a.slots) d from.rest.now number n → IsStart went
-      → to.rest.now ≡ drop n from.rest.now → m'.waiting ≡ Field → IsPlaceOf m'.cursor to.place
+      → IsMessageAhead set l (slots_dictionary a.slots) d from.rest.bytes.now number n → IsStart went
+      → to.rest.bytes.now ≡ drop n from.rest.bytes.now → m'.waiting ≡ Field → IsPlaceOf m'.cursor to.place
       → ((t : Template) → slice_get set.templates number ≡ Some t
-      → IsTurn takes stops set l (reader_of l.strict (message_from set (bounds l) number t d (take 1 from.rest.now))) mid
+      → IsTurn takes stops set l (reader_of l.strict (message_from set (bounds l) number t d (take 1 from.rest.bytes.now))) mid
       (begun_by went) s' (placed m' to.place))
       → ((way : Way) (k : ℕ) → a.turns.count + most_by way (tree_in set) l ≤ k → HasTurnsBehind (begun_by went) way set l (1 + k) (placed m' to.place))
       → HasWent takes stops set l m from s went s' m' to
   start_went number n d went s' m' to ahead is rest waits place turn turns =
       let x : Machine = placed m' to.place in
       let waiting : Machine = record a { waiting = Map; cursor = cleared } in
-      let unit : IsTakenTo takes stops set l (meaning set l waiting) from.rest.now mid n (begun_by went) s' x =
-      begun_to takes stops set l (meaning set l waiting) (slots_dictionary a.slots) from.rest.now n
-      (reader_of l.strict (message_from set (bounds l) number ahead.template d (take 1 from.rest.now))) mid (begun_by went) s' x
+      let unit : IsTakenTo takes stops set l (meaning set l waiting) from.rest.bytes.now mid n (begun_by went) s' x =
+      begun_to takes stops set l (meaning set l waiting) (slots_dictionary a.slots) from.rest.bytes.now n
+      (reader_of l.strict (message_from set (bounds l) number ahead.template d (take 1 from.rest.bytes.now))) mid (begun_by went) s' x
       refl ahead.some ahead.within ahead.turns (turn ahead.template ahead.found) in
       as_went went n s' m' to is ahead.some rest waits place
       (message_begun takes stops set l m a from same counts cleared can end outermost refl s mid (record { bytes = n; turn = begun_by went }) s' x x taken unit

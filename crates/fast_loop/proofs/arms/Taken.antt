@@ -123,7 +123,7 @@ module _ {S : Type 0} (takes stops : S → EventData → S → Type 0) (set : Se
         (state_past f (write_at f.entry h.outcome.next (slots_dictionary m.slots)) m.counted before.cursor)) h.is_value
         ∙ ap (λ (d : Dictionary). handed_then node on value (state_past f d m.counted before.cursor)) (sym h.next)
 
-    field_turns : TurnsTo (turning set l before) (take n from.rest.now) read_on
+    field_turns : TurnsTo (turning set l before) (take n from.rest.bytes.now) read_on
     field_turns =
         turns_as (field_here set l before f node h.sent h.at) (sym (ap (reader_of l.strict) settled))
         (turns_done (λ o. reader_of l.strict (behind_field set (bounds l) before f node o)) h.turns)
@@ -131,9 +131,9 @@ module _ {S : Type 0} (takes stops : S → EventData → S → Type 0) (set : Se
     -- What a turn behind the field moves makes a step of both.
     pub taken_step : (s : S) (result : Result Turn FaultCode) (s' : S) → Moves takes stops read_on s result s' (turning set l behind) (meaning set l behind)
         → OnOk result (IsPast (at_place m.cursor from.place) (at_place m.cursor p)) → result ≢ Ok Waits
-        → IsStep takes stops set l before from.rest.now s (record { bytes = n; turn = result }) s' behind
+        → IsStep takes stops set l before from.rest.bytes.now s (record { bytes = n; turn = result }) s' behind
     taken_step s result s' moves past on =
-        bytes_step before behind from.rest.now s n read_on result s' h.some h.within field_turns
+        bytes_step before behind from.rest.bytes.now s n read_on result s' h.some h.within field_turns
         (record {
           moves = moves;
           supplied = supplied_moved set l keeping behind can_keep.supplied refl refl;
@@ -161,13 +161,13 @@ module _ {S : Type 0} (takes stops : S → EventData → S → Type 0) (set : Se
   -- The field, and the turn behind it.
   went_step : (s : S) (result : Result Turn FaultCode) (s' : S) → MovesOn s result s'
       → OnOk result (IsPast (at_place m.cursor from.place) (at_place m.cursor p)) → result ≢ Ok Waits
-      → IsStep takes stops set l (placed m from.place) from.rest.now s (record { bytes = n; turn = result }) s' (placed (record kept { turns = t }) p)
+      → IsStep takes stops set l (placed m from.place) from.rest.bytes.now s (record { bytes = n; turn = result }) s' (placed (record kept { turns = t }) p)
   went_step s result s' moves past on =
       taken_step takes stops set l m m1.slots m1.text m1.joined t from p node f value n taken_kept counts s result s'
       (moves (meaning set l (placed (record kept { turns = t }) p))) past on
 
   -- The arm took the field.
-  pub taken_went : (to : Spot) (s : S) (turn : Turn) (s' : S) → to.rest.now ≡ drop n from.rest.now → to.place ≡ p → MovesOn s (Ok turn) s'
+  pub taken_went : (to : Spot) (s : S) (turn : Turn) (s' : S) → to.rest.bytes.now ≡ drop n from.rest.bytes.now → to.place ≡ p → MovesOn s (Ok turn) s'
       → IsPast (at_place m.cursor from.place) (at_place m.cursor p) → turn ≢ Waits
       → HasWent takes stops set l m from s Went.Took s' (record m1 { turns = t }) to
   taken_went to s turn s' rest same moves past on = subst
@@ -178,24 +178,24 @@ module _ {S : Type 0} (takes stops : S → EventData → S → Type 0) (set : Se
           rest = rest;
           waits = h.spot.waits;
           place = subst (λ (x : Place). IsPlaceOf m.cursor x) (sym same) place;
-          step = subst (λ (x : Place). IsStep takes stops set l (placed m from.place) from.rest.now s (record {
+          step = subst (λ (x : Place). IsStep takes stops set l (placed m from.place) from.rest.bytes.now s (record {
             bytes = n;
             turn = Ok Handed;
           }) s' (placed (record kept { turns = t }) x)) (sym same)
-              (took_handed takes stops set l (placed m from.place) (placed (record kept { turns = t }) p) from.rest.now s n turn s' h.some on
+              (took_handed takes stops set l (placed m from.place) (placed (record kept { turns = t }) p) from.rest.bytes.now s n turn s' h.some on
               (went_step s (Ok turn) s' moves past (λ e. on (cc e))));
         },
       )
 
   -- The sink stopped at its value.
-  pub taken_stopped : (w : List ℕ) (s s' : S) → w ≡ drop n from.rest.now → MovesOn s (Err SinkStopped) s'
-      → (k : ℕ) × (w ≡ drop k from.rest.now) × IsPlaceOf m1.cursor p × IsStep takes stops set l (placed m from.place) from.rest.now s (record {
+  pub taken_stopped : (w : List ℕ) (s s' : S) → w ≡ drop n from.rest.bytes.now → MovesOn s (Err SinkStopped) s'
+      → (k : ℕ) × (w ≡ drop k from.rest.bytes.now) × IsPlaceOf m1.cursor p × IsStep takes stops set l (placed m from.place) from.rest.bytes.now s (record {
         bytes = k;
         turn = Err SinkStopped;
       }) s' (placed (record m1 { turns = t }) p)
   taken_stopped w s s' rest moves =
-      subst (λ (x : Machine). (k : ℕ) × (w ≡ drop k from.rest.now) × IsPlaceOf x.cursor p
-      × IsStep takes stops set l (placed m from.place) from.rest.now s (record {
+      subst (λ (x : Machine). (k : ℕ) × (w ≡ drop k from.rest.bytes.now) × IsPlaceOf x.cursor p
+      × IsStep takes stops set l (placed m from.place) from.rest.bytes.now s (record {
         bytes = k;
         turn = Err SinkStopped;
       }) s' (placed (record x { turns = t }) p))

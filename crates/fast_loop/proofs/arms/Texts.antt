@@ -80,10 +80,10 @@ pub text_taken : (t : Templates) (l : Limits) (m : Machine) (from : Spot) (op : 
     ⊎ (first_bit (bits_left (at_place m.cursor from.place)) ≡ true)
     → slots_terms slots ≡ slots_terms m.slots → text.capacity ≡ m.text.capacity → joined.capacity ≡ m.joined.capacity
     → GivesWhole (reader_in m.slots l.strict (bounds l) (field_of t l m from.place op kind operator optional spot at coded x found))
-    (field_of t l m from.place op kind operator optional spot at coded x found) from.rest.now (slots_dictionary m.slots)
+    (field_of t l m from.place op kind operator optional spot at coded x found) from.rest.bytes.now (slots_dictionary m.slots)
     (slots_dictionary slots) scratch source first n
     → value ≡ value_at source (field_of t l m from.place op kind operator optional spot at coded x found) (slots_dictionary slots) scratch
-    (drop first (take n from.rest.now))
+    (drop first (take n from.rest.bytes.now))
     → IsFieldTaken (set_of t) l m (record m {
       slots = slots;
       text = text;

@@ -118,13 +118,13 @@ module _ {S : Type 0} (takes stops : S → EventData → S → Type 0) (set : Se
 
   went_step : (s : S) (result : Result Turn FaultCode) (s' : S) → MovesOn s result s'
       → OnOk result (IsPast (at_place m.cursor from.place) (at_place m.cursor p)) → result ≢ Ok Waits
-      → IsStep takes stops set l (placed m from.place) from.rest.now s (record { bytes = 0; turn = result }) s' (placed (record kept { turns = t }) p)
+      → IsStep takes stops set l (placed m from.place) from.rest.bytes.now s (record { bytes = 0; turn = result }) s' (placed (record kept { turns = t }) p)
   went_step s result s' moves past on =
-      unsent_step takes stops set l m m1.slots t from.place p node f bit value unsent_kept counts from.rest.now s result s'
+      unsent_step takes stops set l m m1.slots t from.place p node f bit value unsent_kept counts from.rest.bytes.now s result s'
       (moves (meaning set l (placed (record kept { turns = t }) p))) past on
 
   -- The arm went past the field.
-  pub unsent_went : (to : Spot) (s : S) (turn : Turn) (s' : S) → to.rest.now ≡ from.rest.now → to.place ≡ p → MovesOn s (Ok turn) s'
+  pub unsent_went : (to : Spot) (s : S) (turn : Turn) (s' : S) → to.rest.bytes.now ≡ from.rest.bytes.now → to.place ≡ p → MovesOn s (Ok turn) s'
       → IsPast (at_place m.cursor from.place) (at_place m.cursor p) → turn ≢ Waits
       → WentBy takes stops set l m from s 0 turn s' (record m1 { turns = t }) to
   unsent_went to s turn s' rest same moves past on = subst
@@ -132,7 +132,7 @@ module _ {S : Type 0} (takes stops : S → EventData → S → Type 0) (set : Se
         rest = rest;
         waits = h.spot.waits;
         place = subst (λ (x : Place). IsPlaceOf m.cursor x) (sym same) place;
-        step = subst (λ (x : Place). IsStep takes stops set l (placed m from.place) from.rest.now s (record {
+        step = subst (λ (x : Place). IsStep takes stops set l (placed m from.place) from.rest.bytes.now s (record {
           bytes = 0;
           turn = Ok turn;
         }) s' (placed (record kept { turns = t }) x)) (sym same)
@@ -141,13 +141,14 @@ module _ {S : Type 0} (takes stops : S → EventData → S → Type 0) (set : Se
 
   -- The sink stopped at its value.
   pub unsent_stopped : (s s' : S) → MovesOn s (Err SinkStopped) s'
-      → (k : ℕ) × (from.rest.now ≡ drop k from.rest.now) × IsPlaceOf m1.cursor p × IsStep takes stops set l (placed m from.place) from.rest.now s (record {
+      → (k : ℕ) × (from.rest.bytes.now ≡ drop k from.rest.bytes.now) × IsPlaceOf m1.cursor p × IsStep takes stops set l (placed m from.place)
+      from.rest.bytes.now s (record {
         bytes = k;
         turn = Err SinkStopped;
       }) s' (placed (record m1 { turns = t }) p)
   unsent_stopped s s' moves =
-      subst (λ (x : Machine). (k : ℕ) × (from.rest.now ≡ drop k from.rest.now) × IsPlaceOf x.cursor p
-      × IsStep takes stops set l (placed m from.place) from.rest.now s (record {
+      subst (λ (x : Machine). (k : ℕ) × (from.rest.bytes.now ≡ drop k from.rest.bytes.now) × IsPlaceOf x.cursor p
+      × IsStep takes stops set l (placed m from.place) from.rest.bytes.now s (record {
         bytes = k;
         turn = Err SinkStopped;
       }) s' (placed (record x { turns = t }) p))

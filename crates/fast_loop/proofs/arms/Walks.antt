@@ -51,19 +51,19 @@ module _ {S : Type 0} (takes stops : S → EventData → S → Type 0) (set : Se
 
   module _ (n : ℕ) (turn : Turn) (s' : S) (m' : Machine) (to : Spot) (w : WentBy takes stops set l m from s n turn s' m' to) where
     -- So many bytes less are left.
-    pub went_left : length to.rest.now ≡ length from.rest.now - n
-    went_left = ap length w.rest ∙ length-drop n from.rest.now
+    pub went_left : length to.rest.bytes.now ≡ length from.rest.bytes.now - n
+    went_left = ap length w.rest ∙ length-drop n from.rest.bytes.now
 
-    pub went_within : n ≤ length from.rest.now
+    pub went_within : n ≤ length from.rest.bytes.now
     went_within = w.step.within
 
     -- A step more.
     pub went_far : (m0 : Machine) (piece : List ℕ) (s0 : S) → turn ≢ Waits
-        → IsSoFar takes stops set l m0 piece s0 from.rest.now s (placed m from.place)
-        → IsSoFar takes stops set l m0 piece s0 to.rest.now s' (placed m' to.place)
+        → IsSoFar takes stops set l m0 piece s0 from.rest.bytes.now s (placed m from.place)
+        → IsSoFar takes stops set l m0 piece s0 to.rest.bytes.now s' (placed m' to.place)
     went_far m0 piece s0 on far =
-        subst (λ (x : List ℕ). IsSoFar takes stops set l m0 piece s0 x s' (placed m' to.place)) (take_rest from.rest.now n ∙ sym w.rest)
-        (so_far_step takes stops set l m0 piece s0 from.rest.now s (placed m from.place) (record {
+        subst (λ (x : List ℕ). IsSoFar takes stops set l m0 piece s0 x s' (placed m' to.place)) (take_rest from.rest.bytes.now n ∙ sym w.rest)
+        (so_far_step takes stops set l m0 piece s0 from.rest.bytes.now s (placed m from.place) (record {
           bytes = n;
           turn = Ok turn;
         }) turn s' (placed m' to.place) refl on far w.step)
@@ -71,31 +71,31 @@ module _ {S : Type 0} (takes stops : S → EventData → S → Type 0) (set : Se
   -- A step in the general way, whose machine stands at its own place.
   pub step_at : (cur : CursorData) (n : ℕ) (turn : Result Turn FaultCode) (q : UnitTaken) (s' : S) (b : Machine) (p : Place)
       → cur ≡ at_place m.cursor from.place → q.bytes ≡ n → q.turn ≡ turn → at_place b.cursor p ≡ b.cursor
-      → IsStep takes stops set l (record m { cursor = cur }) from.rest.now s q s' b
-      → IsStep takes stops set l (placed m from.place) from.rest.now s (record { bytes = n; turn = turn }) s' (placed b p)
+      → IsStep takes stops set l (record m { cursor = cur }) from.rest.bytes.now s q s' b
+      → IsStep takes stops set l (placed m from.place) from.rest.bytes.now s (record { bytes = n; turn = turn }) s' (placed b p)
   step_at cur n turn q s' b p e f g h step =
-      subst (λ (x : CursorData). IsStep takes stops set l (placed m from.place) from.rest.now s (record {
+      subst (λ (x : CursorData). IsStep takes stops set l (placed m from.place) from.rest.bytes.now s (record {
         bytes = n;
         turn = turn;
       }) s' (record b { cursor = x })) (sym h)
-      (subst (λ (x : CursorData). IsStep takes stops set l (record m { cursor = x }) from.rest.now s (record { bytes = n; turn = turn }) s' b) e
-      (subst (λ (x : Result Turn FaultCode). IsStep takes stops set l (record m { cursor = cur }) from.rest.now s (record { bytes = n; turn = x }) s' b) g
-      (subst (λ (k : ℕ). IsStep takes stops set l (record m { cursor = cur }) from.rest.now s (record { bytes = k; turn = q.turn }) s' b) f step)))
+      (subst (λ (x : CursorData). IsStep takes stops set l (record m { cursor = x }) from.rest.bytes.now s (record { bytes = n; turn = turn }) s' b) e
+      (subst (λ (x : Result Turn FaultCode). IsStep takes stops set l (record m { cursor = cur }) from.rest.bytes.now s (record { bytes = n; turn = x }) s' b) g
+      (subst (λ (k : ℕ). IsStep takes stops set l (record m { cursor = cur }) from.rest.bytes.now s (record { bytes = k; turn = q.turn }) s' b) f step)))
 
   -- The last one.
   pub gone_end : (n : ℕ) (outcome : Result Unit FaultCode) (s' : S) (m' : Machine) (w : List ℕ) (m0 : Machine) (piece : List ℕ) (s0 : S)
-      → w ≡ drop n from.rest.now
-      → IsStep takes stops set l (placed m from.place) from.rest.now s (record {
+      → w ≡ drop n from.rest.bytes.now
+      → IsStep takes stops set l (placed m from.place) from.rest.bytes.now s (record {
         bytes = n;
         turn = ended outcome;
-      }) s' m' → IsSoFar takes stops set l m0 piece s0 from.rest.now s (placed m from.place)
+      }) s' m' → IsSoFar takes stops set l m0 piece s0 from.rest.bytes.now s (placed m from.place)
       → IsStep takes stops set l m0 piece s0 (record { bytes = length piece - length w; turn = ended outcome }) s' m'
   gone_end n outcome s' m' w m0 piece s0 rest step far =
       subst (λ (x : List ℕ). IsStep takes stops set l m0 piece s0 (record {
         bytes = length piece - length x;
         turn = ended outcome;
-      }) s' m') (take_rest from.rest.now n ∙ sym rest)
-      (so_far_end takes stops set l m0 piece s0 from.rest.now s (placed m from.place) (record {
+      }) s' m') (take_rest from.rest.bytes.now n ∙ sym rest)
+      (so_far_end takes stops set l m0 piece s0 from.rest.bytes.now s (placed m from.place) (record {
         bytes = n;
         turn = ended outcome;
       }) (ended outcome) s' m' refl (by outcome) far step)

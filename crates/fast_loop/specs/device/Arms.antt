@@ -68,10 +68,10 @@ pub record IsAtSpot (set : Set) (l : Limits) (m : Machine) (p : Place) : Type 0 
 -- A step from there on, which reads this number of bytes, and ends with this result.
 pub record WentBy {S : Type 0} (takes stops : S → EventData → S → Type 0) (set : Set) (l : Limits) (m : Machine) (from : Spot) (s : S)
     (n : ℕ) (turn : Turn) (s' : S) (m' : Machine) (to : Spot) : Type 0 where
-  pub rest : to.rest.now ≡ drop n from.rest.now
+  pub rest : to.rest.bytes.now ≡ drop n from.rest.bytes.now
   pub waits : m'.waiting ≡ Field
   pub place : IsPlaceOf m'.cursor to.place
-  pub step : IsStep takes stops set l (placed m from.place) from.rest.now s (record { bytes = n; turn = Ok turn }) s' (placed m' to.place)
+  pub step : IsStep takes stops set l (placed m from.place) from.rest.bytes.now s (record { bytes = n; turn = Ok turn }) s' (placed m' to.place)
 
 -- The effect of an arm, by its result.
 abbrev pub HasWent : {S : Type 0} → (S → EventData → S → Type 0) → (S → EventData → S → Type 0) → Set → Limits → Machine → Spot → S → Went
@@ -81,12 +81,14 @@ HasWent takes stops set l m from s Went.Handed s' m' to = WentBy takes stops set
 HasWent takes stops set l m from s Went.Silent s' m' to = WentBy takes stops set l m from s 0 Silent s' m' to
 HasWent takes stops set l m from s Went.Declined s' m' to = (m' ≡ m) × (to ≡ from) × (s' ≡ s)
 HasWent takes stops set l m from s Went.Stopped s' m' to =
-    (n : ℕ) × (to.rest.now ≡ drop n from.rest.now) × IsPlaceOf m'.cursor to.place × IsStep takes stops set l (placed m from.place) from.rest.now s (record {
+    (n : ℕ) × (to.rest.bytes.now ≡ drop n from.rest.bytes.now) × IsPlaceOf m'.cursor to.place × IsStep takes stops set l (placed m from.place)
+    from.rest.bytes.now s (record {
       bytes = n;
       turn = Err SinkStopped;
     }) s' (placed m' to.place)
 HasWent takes stops set l m from s Went.Waits s' m' to =
-    (n : ℕ) × (to.rest.now ≡ drop n from.rest.now) × IsPlaceOf m'.cursor to.place × IsStep takes stops set l (placed m from.place) from.rest.now s (record {
+    (n : ℕ) × (to.rest.bytes.now ≡ drop n from.rest.bytes.now) × IsPlaceOf m'.cursor to.place × IsStep takes stops set l (placed m from.place)
+    from.rest.bytes.now s (record {
       bytes = n;
       turn = Ok Waits;
     }) s' (placed m' to.place)
@@ -109,7 +111,7 @@ HasGone takes stops set l m from s Gone.Took s' m' to = (n : ℕ) × (0 < n) × 
 HasGone takes stops set l m from s Gone.Handed s' m' to = WentBy takes stops set l m from s 0 Handed s' m' to
 HasGone takes stops set l m from s Gone.Silent s' m' to = WentBy takes stops set l m from s 0 Silent s' m' to
 HasGone takes stops set l m from s (Gone.Ended outcome) s' m' to =
-    (n : ℕ) × (to.rest.now ≡ drop n from.rest.now) × IsStep takes stops set l (placed m from.place) from.rest.now s (record {
+    (n : ℕ) × (to.rest.bytes.now ≡ drop n from.rest.bytes.now) × IsStep takes stops set l (placed m from.place) from.rest.bytes.now s (record {
       bytes = n;
       turn = ended outcome;
     }) s' m'
@@ -125,9 +127,10 @@ pub record IsFieldTaken (set : Set) (l : Limits) (m m' : Machine) (from : Spot) 
   pub at : IsAtField set (at_place m.cursor from.place) node f
   pub sent : IsSent f (bit_of f (state_in (slots_dictionary m.slots) m.counted (at_place m.cursor from.place)))
   pub some : 0 < n
-  pub within : n ≤ length from.rest.now
+  pub within : n ≤ length from.rest.bytes.now
   pub outcome : Outcome
-  pub turns : Turns (reader_of l.strict (field_term (bounds l) f (previous_at f.entry (slots_dictionary m.slots)) true)) (take n from.rest.now) (Done outcome)
+  pub turns : Turns (reader_of l.strict (field_term (bounds l) f (previous_at f.entry (slots_dictionary m.slots)) true))
+      (take n from.rest.bytes.now) (Done outcome)
   pub is_value : outcome.value ≡ value
   pub next : slots_dictionary m'.slots ≡ write_at f.entry outcome.next (slots_dictionary m.slots)
 
@@ -138,14 +141,14 @@ pub record IsLengthTaken (set : Set) (l : Limits) (m : Machine) (from : Spot) (n
   pub at : IsAtSequence set (at_place m.cursor from.place) node f body
   pub no_bit : uses_bit f ≡ false
   pub some : 0 < n
-  pub within : n ≤ length from.rest.now
-  pub turns : Turns (turning set l (placed m from.place)) (take n from.rest.now)
+  pub within : n ≤ length from.rest.bytes.now
+  pub turns : Turns (turning set l (placed m from.place)) (take n from.rest.bytes.now)
       (reader_of l.strict (length_then set (bounds l) node value f body (slots_dictionary m.slots) m.counted
       (at_place m.cursor from.place)))
 
 -- From the first spot to the second the bit of the next instruction is used, if it has one: a group that is present.
 pub record IsGroupHere (set : Set) (l : Limits) (m : Machine) (from to : Spot) (node : ℕ) (body : List ℕ) : Type 0 where
-  pub rest : to.rest.now ≡ from.rest.now
+  pub rest : to.rest.bytes.now ≡ from.rest.bytes.now
   pub left : place_left to.place ≡ place_left from.place
   pub begins : turning set l (placed m from.place) ≡ reader_of l.strict
       (group_from set (bounds l) node body (slots_dictionary m.slots) m.counted (at_place m.cursor to.place))

@@ -58,6 +58,6 @@ pub record IsLedTo (set : Set) (l : Limits) (m m' : Machine) (from : Spot) (p : 
   pub next : body_in set (place_left from.place) ≡ step instruction (body_in set (drop 1 (place_left from.place)))
   pub left : place_left p ≡ place_left from.place
   pub place : IsPlaceOf m.cursor p
-  pub within : n ≤ length from.rest.now
-  pub turns : Turns (turning set l (placed m from.place)) (take n from.rest.now)
+  pub within : n ≤ length from.rest.bytes.now
+  pub turns : Turns (turning set l (placed m from.place)) (take n from.rest.bytes.now)
       (reader_of l.strict (value_then set (bounds l) node value f (slots_dictionary m'.slots) m.counted (at_place m.cursor p)))

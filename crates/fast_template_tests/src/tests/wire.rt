@@ -9,8 +9,9 @@ ghost use Rattle.fast_wire.specs.meaning.Entities.{IsEntity};
 use WireFault::{D2, R6};
 use arrayvec::ArrayVec;
 use fast_fronts::{
-    First, first_nullable_signed, first_nullable_unsigned, first_signed, first_unsigned,
-    quick_nullable_signed, quick_nullable_unsigned, quick_signed, quick_unsigned, short_entity,
+    First, Rest, first_nullable_signed, first_nullable_unsigned, first_signed, first_unsigned,
+    one_byte_delta, quick_nullable_signed, quick_nullable_unsigned, quick_signed, quick_unsigned,
+    short_entity, whole_delta, whole_signed, whole_unsigned,
 };
 use fast_wire::{
     Entity, Step, WireFault, read_nullable_signed, read_nullable_unsigned, read_signed,
@@ -337,6 +338,39 @@ fn entities_that_end_a_piece(rt: HostRuntime) {
         ends_as(&[1, 0, 0, 0, 0, 0, 0x81], 0x400_0000_0001),
         ends_as(&[1, 0, 0, 0, 0, 0, 0, 0x81], 0x2_0000_0000_0001),
         short_entity(&[1, 0, 0, 0, 0, 1]).is_none(),
+    ];
+    expect_each(&rt, &are_right, &[]);
+}
+
+/// Reads the integers of a piece, each from what is left of it. Returns their sum, and the number of bytes that are left after the last.
+fn summed(piece: &[u8]) -> (u64, usize) {
+    let mut rest = Rest::new(piece);
+    let mut sum: u64 = 0;
+    for _ in piece {
+        let Some((Some(number), len)) = whole_unsigned(rest, false, true, U32_TOP) else {
+            break;
+        };
+        sum = sum.wrapping_add(number);
+        rest = rest.skip(len);
+    }
+    (sum, rest.bytes.len())
+}
+
+#[test]
+fn integers_that_are_left(rt: HostRuntime) {
+    let are_right = [
+        summed(&[]) == (0, 0),
+        summed(&[0x81]) == (1, 0),
+        summed(&[1, 0, 0x81, 0x82, 3]) == (0x4003, 1),
+        summed(&[1, 0x80, 1, 0, 0x80, 0x83, 4, 0x80]) == (0x4283, 0),
+        summed(&[
+            1, 0, 0x80, 1, 0x80, 1, 0, 0, 0x80, 1, 0, 0x80, 1, 0x80, 0x85,
+        ]) == (0x20_8105, 0),
+        whole_signed(Rest::new(&[0x7f, 0x80]), false, false, i64::MIN, i64::MAX)
+            == Some((Some(-128), 2)),
+        whole_delta(Rest::new(&[0x80, 0x81]).skip(1), true, false) == Some((Some(0), 1)),
+        whole_delta(Rest::new(&[0x80]), true, false) == Some((None, 1)),
+        one_byte_delta(&[0xff], false) == Some(Some(-1)),
     ];
     expect_each(&rt, &are_right, &[]);
 }

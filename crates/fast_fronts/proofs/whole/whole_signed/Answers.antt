@@ -6,14 +6,16 @@ pub returns-in-Some-four_signed_in : goal.returns-in-Some-four_signed_in
 returns-in-Some-four_signed_in c =
     let i = c.in-Some-four_signed_in in
     let x = c.meant_integer.result in
-    let means = means_of_few c.args.nullable x i.number i.len c.args.bytes.now i.ensures.entity.0 i.ensures.few i.ensures.entity.1 c.meant_integer.ensures in
-    integer_is c.args.strict c.args.nullable c.args.low c.args.top x i.len c.args.bytes.now i.ensures.entity.0 (c.if-is_refused_signed_front.ensures refl) means
-    (few_integer c.args.nullable x i.len c.args.low c.args.top c.args.bytes.now i.ensures.entity.0 i.ensures.few means c.requires.low c.requires.top)
+    let means = means_of_few c.args.nullable x i.number i.len c.args.rest.bytes.now i.ensures.entity.0 i.ensures.few i.ensures.entity.1
+    c.meant_integer.ensures in
+    integer_is c.args.strict c.args.nullable c.args.low c.args.top x i.len c.args.rest.bytes.now i.ensures.entity.0
+    (c.if-is_refused_signed_front.ensures refl) means
+    (few_integer c.args.nullable x i.len c.args.low c.args.top c.args.rest.bytes.now i.ensures.entity.0 i.ensures.few means c.requires.low c.requires.top)
 
 pub returns : goal.returns
 returns c =
     let i = c.in_ok-sum in
     let meant = c.meant_signed-number in
-    signed_is c.args.strict c.args.nullable c.args.low c.args.top meant.result i.sum i.len c.args.bytes.now i.ensures
+    signed_is c.args.strict c.args.nullable c.args.low c.args.top meant.result i.sum i.len c.args.rest.bytes.now i.ensures
     (c.if-is_refused_signed_front.ensures refl) meant.ensures
     (tested_signed meant.result c.args.low c.args.top c.ranges.low c.ranges.top (c.if-not-is_between.ensures refl))

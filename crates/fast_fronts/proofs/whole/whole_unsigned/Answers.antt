@@ -6,8 +6,8 @@ pub returns-in-Some : goal.returns-in-Some
 returns-in-Some c =
     let i = c.in-Some in
     let meant = c.meant-in-Some in
-    let small = few_unsigned i.sum i.len c.args.bytes.now i.ensures.entity i.ensures.few in
-    unsigned_is c.args.strict c.args.nullable c.args.top meant.result i.sum i.len c.args.bytes.now i.ensures.entity
+    let small = few_unsigned i.sum i.len c.args.rest.bytes.now i.ensures.entity i.ensures.few in
+    unsigned_is c.args.strict c.args.nullable c.args.top meant.result i.sum i.len c.args.rest.bytes.now i.ensures.entity
     (λ _. c.if-not-goes_on.ensures refl) meant.ensures
     (small_unsigned c.args.nullable meant.result i.sum c.args.top meant.ensures small c.requires.top)
 
@@ -15,5 +15,6 @@ pub returns : goal.returns
 returns c =
     let i = c.in_ok-sum-2 in
     let meant = c.meant-number in
-    unsigned_is c.args.strict c.args.nullable c.args.top meant.result i.sum i.len c.args.bytes.now i.ensures (λ _. c.if-not-goes_on.ensures refl) meant.ensures
+    unsigned_is c.args.strict c.args.nullable c.args.top meant.result i.sum i.len c.args.rest.bytes.now i.ensures (λ _. c.if-not-goes_on.ensures refl)
+    meant.ensures
     (tested_unsigned meant.result c.args.top (c.if-not-is_up_to.ensures refl))

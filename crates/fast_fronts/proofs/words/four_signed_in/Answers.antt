@@ -1,4 +1,4 @@
-use Rattle.std.proofs.Common.{◌++◌, ◌+◌, ◌/◌, ◌∙◌, refl, ap, subst, length, take}
+use Rattle.std.proofs.Common.{◌++◌, ◌+◌, ◌/◌, ◌∙◌, refl, ap, subst, take}
 use Rattle.std.proofs.lemmas.Int.{to_z-of_z}
 use lib.Count.{count_trailing_zeros}
 use mir.Syntax.{w64}

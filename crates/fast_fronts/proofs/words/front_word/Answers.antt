@@ -1,4 +1,4 @@
-use Rattle.std.proofs.Common.{◌≡◌, [], ◌∙◌, ◌++◌, ap, subst, sym, append-nil}
+use Rattle.std.proofs.Common.{◌≡◌, [], ◌∙◌, ap, subst, sym, append-nil}
 use Rattle.std.specs.Int.{w64, from_le_bytes}
 use Rattle.std.proofs.lemmas.List.Elements.{All-nil}
 use Rattle.fast_wire.specs.device.Words.{IsFrontWord}

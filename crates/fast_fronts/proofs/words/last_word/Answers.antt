@@ -1,4 +1,4 @@
-use Rattle.std.proofs.Common.{◌≡◌, ◌+◌, ◌-◌, ◌*◌, ◌^◌, ◌<◌, ◌%◌, ◌++◌, ◌∙◌, ℕ, refl, sym, subst, ap, length, take, drop, replicate, length-append, arith}
+use Rattle.std.proofs.Common.{◌≡◌, ◌+◌, ◌-◌, ◌*◌, ◌<◌, ◌%◌, ◌++◌, ◌∙◌, ℕ, refl, sym, subst, ap, length, take, drop, replicate, length-append, arith}
 use Rattle.std.specs.Int.{w32, w64, from_le_bytes}
 use Rattle.std.proofs.lemmas.List.{take_all, length-drop, length-take-le}
 use Rattle.fast_fronts.proofs.stop_bits.Loaded.{few_bytes, more_bytes, halves, padded}

@@ -1,5 +1,5 @@
 -- The units before the last stand whole, and the last goes on behind the piece.
-use Rattle.std.proofs.Common.{◌≡◌, ◌-◌, ◌<◌, ◌≤◌, subst, arith, [], drop, length, List, ℕ}
+use Rattle.std.proofs.Common.{◌≡◌, ◌∙◌, ◌-◌, ◌<◌, ◌≤◌, subst, arith, [], drop, length, List, ℕ}
 use Rattle.std.specs.Prelude.{false, Some, option_map, pos}
 use Rattle.std.proofs.lemmas.List.{take_rest, length-drop}
 use Rattle.fast_fronts.specs.device.Fronts.{IsFirstInt}
@@ -18,8 +18,10 @@ returns-else-not-is_text_front-clause-begun c f l same is serves =
     let a = c.in_ok-subtraction.len in
     let k = c.in_ok-subtraction-2.subtraction in
     let left = c.in_ok-left.left in
+    let sent = subst (λ (w : List ℕ). IsFirstInt (λ y. y) c.args.strict (signed_range 31) c.args.optional
+    (First.Whole c.in_ok-subtraction.subtraction a) w) c.new.ensures c.in_ok-subtraction.ensures in
     let given : IsFirstInt (λ y. y) c.args.strict (signed_range 31) c.args.optional (First.Whole (Some k) a) rest =
-    rw c.in_ok-subtraction-2.was at c.in_ok-subtraction.ensures in
+    rw c.in_ok-subtraction-2.was at sent in
     let open_front : ascii_text false left (drop a rest) [] cut =
     subst (λ w. ascii_text false left w [] cut) (take_rest rest a)
     (c.is_text_front.ensures.«open» c.if-not-is_text_front.false false) in
@@ -34,11 +36,13 @@ returns-else-size-behind c =
     let k = c.in_ok-subtraction-2.subtraction in
     let left = c.in_ok-left.left in
     let size = c.in_ok-size-in_default-2.size in
+    let sent = subst (λ (w : List ℕ). IsFirstInt (λ y. y) c.args.strict (signed_range 31) c.args.optional
+    (First.Whole c.in_ok-subtraction.subtraction a) w) c.new.ensures c.in_ok-subtraction.ensures in
     let given : IsFirstInt (λ y. y) c.args.strict (signed_range 31) c.args.optional (First.Whole (Some k) a) rest =
-    rw c.in_ok-subtraction-2.was at c.in_ok-subtraction.ensures in
+    rw c.in_ok-subtraction-2.was at sent in
     let sized : IsFirstInt (λ y. option_map pos y) c.args.strict (unsigned_range 32) false (First.Whole (Some size) b) (drop a rest)
     = subst (λ (w : List ℕ). IsFirstInt (λ y. option_map pos y) c.args.strict (unsigned_range 32) false (First.Whole (Some size) b) w)
-    (take_rest rest a) (rw c.in_ok-size-in_default-2.was at c.in_ok-size-in_default.ensures) in
+    (c.new-in_default.ensures ∙ take_rest rest a) (rw c.in_ok-size-in_default-2.was at c.in_ok-size-in_default.ensures) in
     let fits : size ≤ left = c.if-size-left.false in
     let within : a ≤ length rest = given.0 in
     let behind : length (drop a rest) ≡ length rest - a = length-drop a rest in

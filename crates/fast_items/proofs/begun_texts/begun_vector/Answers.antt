@@ -16,9 +16,11 @@ returns-clause-begun c entry slots f l is_room is serves =
     let a = c.in_ok-size.from in
     let size = c.in_ok-size-2.size in
     let d = slots_dictionary slots in
+    let first = subst (λ w. IsFirstInt (λ y. option_map pos y) c.args.strict (unsigned_range 32) c.args.optional (First.Whole c.in_ok-size.size a) w)
+    c.new.ensures c.in_ok-size.ensures in
     let given : IsFirstInt (λ y. option_map pos y) c.args.strict (unsigned_range 32) f.optional (First.Whole (Some size) a) rest
     = subst (λ (b : Bool). IsFirstInt (λ y. option_map pos y) c.args.strict (unsigned_range 32) b (First.Whole (Some size) a) rest)
-    (sym is.optional) (rw c.in_ok-size-2.was at c.in_ok-size.ensures) in
+    (sym is.optional) (rw c.in_ok-size-2.was at first) in
     vector_begun c.args.strict l f rest d d rest From.Absent (ap family is.kind ∙ c.requires.text)
     (λ e. c.requires.vector (sym is.kind ∙ e)) (λ e. c.requires.whole (sym is.operator ∙ e))
     (λ e. c.requires.sent (sym is.operator ∙ e)) size a given

@@ -1,11 +1,14 @@
 -- Both sums are kept; NULL changes nothing.
-use Rattle.std.proofs.Common.{◌≡◌, refl, sym, ap, ◌∙◌, rules, to_z, of_z, FitsSigned, ◌+ℤ◌}
+use Rattle.std.proofs.Common.{◌≡◌, refl, sym, subst, ap, ◌∙◌, rules, to_z, of_z, FitsSigned, ◌+ℤ◌}
 use Rattle.std.specs.Int.{w32, w64}
-use Rattle.std.specs.Prelude.{Some, Ok}
+use Rattle.std.specs.Prelude.{false, Some, Ok}
+use Rattle.std.proofs.lemmas.List.{take_rest}
+use Rattle.fast_fronts.specs.device.Fronts.{IsFirstInt}
+use Rattle.fast_fronts.specs.declared.fronts.First.TheVariants.{Whole}
 use Rattle.fast_wire.specs.meaning.Integers.{exponent_range, signed_range}
 use Rattle.fast_value.specs.declared.codes.Code.TheVariants.{R1}
 use Rattle.fast_value.specs.declared.kinds.Kind.TheVariants.{Decimal}
-use Rattle.fast_value.specs.meaning.Kinds.{Dec}
+use Rattle.fast_value.specs.meaning.Kinds.{Dec, delta_range}
 use Rattle.fast_dict.specs.meaning.Dictionary.{previous_at, assigned, write_at}
 use Rattle.fast_dict.specs.meaning.Operators.{ranged}
 use Rattle.fast_dict.specs.meaning.Slots.{slots_dictionary}
@@ -22,7 +25,10 @@ returns-in_ok-mantissa-in-Some-clause-unit c = λ f l scratch is serves.
     let k = to_z w64 (of_z w64 c.in-Some.delta) in
     let x = to_z w32 (of_z w32 c.in_ok-exponent-in-Some-2.exponent) in
     let y = to_z w64 (of_z w64 c.in_ok-mantissa-in-Some.mantissa) in
-    let (j, second, inside) = c.in_ok-mantissa-in-Some.ensures in
+    let rest = c.args.rest.bytes.now in
+    let (j, first, inside) = c.in_ok-mantissa-in-Some.ensures in
+    let second = subst (λ w. IsFirstInt (λ z. z) c.args.strict delta_range false (Whole (Some j) c.in_ok-mantissa-in-Some.bytes) w)
+    (c.skip.ensures ∙ sym (take_rest rest 1)) first in
     let k_fits : FitsSigned w64 c.in-Some.delta = search rules in
     let x_fits : FitsSigned w32 c.in_ok-exponent-in-Some-2.exponent = search rules in
     let y_fits : FitsSigned w64 c.in_ok-mantissa-in-Some.mantissa = search rules in
@@ -35,21 +41,18 @@ returns-in_ok-mantissa-in-Some-clause-unit c = λ f l scratch is serves.
     let exponent : ranged exponent_range R1 (e +ℤ k) ≡ Ok x = c.in_ok-exponent-in-Some-2.ensures
     ∙ ap (λ z. Ok z) (sym (again w32 c.in_ok-exponent-in-Some-2.exponent x_fits)) in
     let mantissa : ranged (signed_range 63) R1 (m +ℤ j) ≡ Ok y = inside ∙ ap (λ z. Ok z) (sym (again w64 c.in_ok-mantissa-in-Some.mantissa y_fits)) in
-    changed_unit c.args.strict c.args.optional l f c.args.rest.now old new scratch e m k j x y c.in_ok-item.item 1
+    changed_unit c.args.strict c.args.optional l f rest old new scratch e m k j x y c.in_ok-item.item 1
     c.in_ok-mantissa-in-Some.bytes is.kind is.optional is.operator held some
     (c.in_ok-item.ensures c.args.strict) exponent second mantissa kept
 
 pub returns-in-None-clause-unit : goal.returns-in-None-clause-unit
 returns-in-None-clause-unit c = λ f l scratch is serves.
-    null_unit c.args.strict c.args.optional l f c.args.rest.now
+    null_unit c.args.strict c.args.optional l f c.args.rest.bytes.now
     (slots_dictionary c.args.slots.now) scratch c.in_ok-item.item 1 is.kind is.optional is.operator c.in-None.is
     (c.in_ok-item.ensures c.args.strict)
 
-pub slice_bounds-changed_mantissa-start : goal.slice_bounds-changed_mantissa-start
-slice_bounds-changed_mantissa-start c = (c.in_ok-item.ensures c.args.strict).0
-
-pub slice_bounds-changed_mantissa-count : goal.slice_bounds-changed_mantissa-count
-slice_bounds-changed_mantissa-count c = (c.in_ok-item.ensures c.args.strict).0
+pub skip-requires : goal.skip-requires
+skip-requires c = (c.in_ok-item.ensures c.args.strict).0
 
 pub returns-in_err-item-clause-unit : goal.returns-in_err-item-clause-unit
 returns-in_err-item-clause-unit c = rw c.from_residual.ensures tt

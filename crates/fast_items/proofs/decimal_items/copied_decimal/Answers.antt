@@ -21,7 +21,7 @@ returns-in-Some-clause-unit c = λ f l scratch is serves.
     let kept : new ≡ write_at f.entry (assigned f.kind (number_data n)) old =
     c.keep_at.ensures.entry ∙ ap (λ e. write_at e (assigned Decimal (number_data n)) old) (sym (is.entry refl))
     ∙ ap (λ k. write_at f.entry (assigned k (number_data n)) old) (sym is.kind) in
-    decimal_unit c.args.strict c.args.optional l f c.args.rest.now old new scratch c.in_ok-taken.taken.item c.in_ok-taken.taken.bytes
+    decimal_unit c.args.strict c.args.optional l f c.args.rest.bytes.now old new scratch c.in_ok-taken.taken.item c.in_ok-taken.taken.bytes
     is.kind is.optional no_delta no_constant c.in_ok-taken.ensures
     (subst (λ i. IsDecided (decide f (previous_at f.entry old) true (sent_number i)) f old new (Ok (source_of i))) (sym c.in-Some.is)
     (value_decided f serves (no_texts f is.kind) old new (number_data n) (source_of (Some n)) no_delta no_constant kept (item_value (Some n) f)))
@@ -33,7 +33,7 @@ returns-in-None-clause-unit c = λ f l scratch is serves.
     let no_delta : f.operator ≢ Delta = subst (λ o. o ≢ Delta) (sym is.operator) (λ x. absurd (cc x)) in
     let no_constant : f.operator ≢ Constant = subst (λ o. o ≢ Constant) (sym is.operator) (λ x. absurd (cc x)) in
     let left : new ≡ write_at f.entry empty old = c.set_empty.ensures.entry ∙ ap (λ e. write_at e empty old) (sym (is.entry refl)) in
-    decimal_unit c.args.strict c.args.optional l f c.args.rest.now old new scratch c.in_ok-taken.taken.item c.in_ok-taken.taken.bytes
+    decimal_unit c.args.strict c.args.optional l f c.args.rest.bytes.now old new scratch c.in_ok-taken.taken.item c.in_ok-taken.taken.bytes
     is.kind is.optional no_delta no_constant c.in_ok-taken.ensures
     (subst (λ i. IsDecided (decide f (previous_at f.entry old) true (sent_number i)) f old new (Ok (source_of i))) (sym c.in-None.is)
     (null_decided f serves (no_texts f is.kind) old new no_delta no_constant left))

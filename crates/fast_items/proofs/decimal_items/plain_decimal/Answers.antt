@@ -21,9 +21,9 @@ pub returns : goal.returns
 returns c = by c.whole_decimal.result c.whole_decimal.ensures
   where
     by : (o : Option TakenItem) → IfSome o (λ r. IsUnit (reader_of c.args.strict (integer exponent_range c.args.optional R1 decimal_from))
-        sent_number [] c.args.rest.now (Whole r.item r.bytes))
-        → IfSome o (IsSentItem Decimal c.args.optional Op.None c.args.entry c.args.strict c.args.rest.now c.args.slots.now c.args.slots.now)
+        sent_number [] c.args.rest.bytes.now (Whole r.item r.bytes))
+        → IfSome o (IsSentItem Decimal c.args.optional Op.None c.args.entry c.args.strict c.args.rest.bytes.now c.args.slots.now c.args.slots.now)
     by None h = tt
     by (Some r) h = λ f l scratch is serves.
-        plain_unit c.args.strict c.args.optional Op.None c.args.entry l f c.args.rest.now
+        plain_unit c.args.strict c.args.optional Op.None c.args.entry l f c.args.rest.bytes.now
         (slots_dictionary c.args.slots.now) scratch r.item r.bytes is serves (inl refl) h

@@ -14,10 +14,12 @@ returns-else-exponent-gt63 c = λ strict.
     let fits : FitsSigned w32 c.exponent_in.result = search rules in
     let same : c.in_ok-item.item ≡ Some x = c.in-Some.is ∙ ap Some (search rules ∙ sym (again w32 c.exponent_in.result fits)) in
     let within : IsWithin exponent_range x = search rules in
-    first_exponent strict c.args.optional c.args.rest.now (Some x) 1
-    (subst (λ (y : Option ℤ). IsFirstInt (λ z. z) strict delta_range c.args.optional (Whole y 1) c.args.rest.now) same (c.in_ok-item.ensures strict)) within
+    first_exponent strict c.args.optional c.args.rest.bytes.now (Some x) 1
+    (subst (λ (y : Option ℤ). IsFirstInt (λ z. z) strict delta_range c.args.optional (Whole y 1) c.args.rest.bytes.now) same
+    (c.in_ok-item.ensures strict)) within
 
 pub returns-in-None : goal.returns-in-None
 returns-in-None c = λ strict.
-    first_exponent strict c.args.optional c.args.rest.now None 1
-    (subst (λ (y : Option ℤ). IsFirstInt (λ z. z) strict delta_range c.args.optional (Whole y 1) c.args.rest.now) c.in-None.is (c.in_ok-item.ensures strict)) tt
+    first_exponent strict c.args.optional c.args.rest.bytes.now None 1
+    (subst (λ (y : Option ℤ). IsFirstInt (λ z. z) strict delta_range c.args.optional (Whole y 1) c.args.rest.bytes.now) c.in-None.is
+    (c.in_ok-item.ensures strict)) tt

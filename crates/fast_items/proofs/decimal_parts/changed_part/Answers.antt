@@ -22,8 +22,8 @@ returns-in_ok-sum-in-Int64 c = λ field is.
     let within : IsWithin (signed_range 63) sum = search rules in
     let own : previous_at (Some c.args.entry) (slots_dictionary c.args.slots.now) ≡ assigned Int64 (I base) = search rules in
     let summed : base +ℤ j ≡ sum = search rules in
-    part_changed field c.args.strict c.args.rest.now c.args.slots.now base j sum c.in_ok-delta.bytes
+    part_changed field c.args.strict c.args.rest.bytes.now c.args.slots.now base j sum c.in_ok-delta.bytes
     is.kind is.delta is.mandatory (ap (λ e. previous_at e (slots_dictionary c.args.slots.now)) is.entry ∙ own) summed within
-    (delta_first c.args.strict c.args.rest.now j c.in_ok-delta.bytes
-    (subst (λ (y : ℤ). IsFirstInt (λ z. Some z) c.args.strict (signed_range 63) false (First.Whole y c.in_ok-delta.bytes) c.args.rest.now)
+    (delta_first c.args.strict c.args.rest.bytes.now j c.in_ok-delta.bytes
+    (subst (λ (y : ℤ). IsFirstInt (λ z. Some z) c.args.strict (signed_range 63) false (First.Whole y c.in_ok-delta.bytes) c.args.rest.bytes.now)
     (sym (again w64 c.in_ok-delta.delta fits)) c.in_ok-delta.ensures))

@@ -9,10 +9,10 @@ use Rattle.fast_items.proofs.decimal_parts.mantissa_part.Goals as goal
 pub returns-then-needs_bytes : goal.returns-then-needs_bytes
 returns-then-needs_bytes c =
     let fits : FitsSigned w64 c.in_ok-number.number = search rules in
-    subst (λ (b : Bool). IsPartBy b c.args.field.now c.args.bit c.args.strict c.args.rest.now c.args.slots.now
+    subst (λ (b : Bool). IsPartBy b c.args.field.now c.args.bit c.args.strict c.args.rest.bytes.now c.args.slots.now
     (Some (to_z w64 (of_z w64 c.in_ok-number.number))) c.in_ok-number.bytes)
     (sym c.if-needs_bytes.true ∙ c.needs_bytes.ensures.needed)
-    (subst (λ (y : ℤ). IsPartBy true c.args.field.now c.args.bit c.args.strict c.args.rest.now c.args.slots.now
+    (subst (λ (y : ℤ). IsPartBy true c.args.field.now c.args.bit c.args.strict c.args.rest.bytes.now c.args.slots.now
     (Some y) c.in_ok-number.bytes) (sym (again w64 c.in_ok-number.number fits)) c.in_ok-number.ensures)
 
 pub returns-in-Some : goal.returns-in-Some
@@ -21,5 +21,6 @@ returns-in-Some c =
     let known : IsPartKnown c.args.field.now c.args.bit c.args.slots.now (Some (to_z w64 (of_z w64 c.in-Some.number))) =
     subst (λ (x : Option ℤ). IsPartKnown c.args.field.now c.args.bit c.args.slots.now x)
     (c.in-Some.is ∙ ap Some (sym (again w64 c.in-Some.number fits))) c.in_ok-number-2.ensures in
-    subst (λ (b : Bool). IsPartBy b c.args.field.now c.args.bit c.args.strict c.args.rest.now c.args.slots.now (Some (to_z w64 (of_z w64 c.in-Some.number))) 0)
+    subst (λ (b : Bool). IsPartBy b c.args.field.now c.args.bit c.args.strict c.args.rest.bytes.now c.args.slots.now
+    (Some (to_z w64 (of_z w64 c.in-Some.number))) 0)
     (sym c.if-needs_bytes.false ∙ c.needs_bytes.ensures.needed) (refl, known)

@@ -13,16 +13,16 @@ pub returns-in_default : goal.returns-in_default
 returns-in_default c = by c.short_exponent.result c.short_exponent.ensures
   where
     by : (o : Option (Option ℤ)) → IfSome o (λ r. (strict : Bool)
-        → IsFirstInt (λ y. y) strict exponent_range c.args.field.now.optional (First.Whole r 1) c.args.rest.now)
+        → IsFirstInt (λ y. y) strict exponent_range c.args.field.now.optional (First.Whole r 1) c.args.rest.bytes.now)
         → record {
-          part : IfSome o (λ x. (strict : Bool) → IsPartBy true c.args.field.now true strict c.args.rest.now c.args.slots.now x 1);
+          part : IfSome o (λ x. (strict : Bool) → IsPartBy true c.args.field.now true strict c.args.rest.bytes.now c.args.slots.now x 1);
           within : IfSome o (λ x. IfSome x (IsWithin exponent_range));
         }
     by None h = record { part = tt; within = tt }
     by (Some x) h = record {
       part = λ strict.
-          part_whole c.args.field.now strict c.args.rest.now c.args.slots.now Int32 x 1 c.requires.kind refl
+          part_whole c.args.field.now strict c.args.rest.bytes.now c.args.slots.now Int32 x 1 c.requires.kind refl
           (exponent_sent x) c.in_default.not-Delta c.requires.no_constant
-          (exponent_first strict c.args.field.now.optional c.args.rest.now x 1 (h strict));
+          (exponent_first strict c.args.field.now.optional c.args.rest.bytes.now x 1 (h strict));
       within = (h true).1.fits;
     }

@@ -23,12 +23,12 @@ returns-in_ok-sum-in-Some c =
     let within : IsWithin (signed_range 63) sum = search rules in
     let mandatory : c.args.field.now.optional ≡ false = search rules in
     let summed : base +ℤ j ≡ sum = search rules in
-    part_changed c.args.field.now c.args.strict c.args.rest.now c.args.slots.now base j sum c.in_ok-number.bytes
+    part_changed c.args.field.now c.args.strict c.args.rest.bytes.now c.args.slots.now base j sum c.in_ok-number.bytes
     c.requires.kind c.in-Delta.is mandatory
     (c.in_ok-base-in-Delta.ensures ∙ ap (λ (x : Option ℤ). item_held Int64 (part_item x)) (c.in-Some.is ∙ ap Some (sym (again w64 c.in-Some.base base_fits))))
     summed within
-    (delta_first c.args.strict c.args.rest.now j c.in_ok-number.bytes
-    (subst (λ (y : ℤ). IsFirstInt (λ y. Some y) c.args.strict (signed_range 63) false (First.Whole y c.in_ok-number.bytes) c.args.rest.now)
+    (delta_first c.args.strict c.args.rest.bytes.now j c.in_ok-number.bytes
+    (subst (λ (y : ℤ). IsFirstInt (λ y. Some y) c.args.strict (signed_range 63) false (First.Whole y c.in_ok-number.bytes) c.args.rest.bytes.now)
     (sym (again w64 c.in_ok-number.number fits)) c.in_ok-number.ensures))
 
 pub returns-in_default : goal.returns-in_default
@@ -36,8 +36,9 @@ returns-in_default c =
     let fits : FitsSigned w64 c.in_ok-number.number = search rules in
     let mandatory : c.args.field.now.optional ≡ false = search rules in
     let j = to_z w64 (of_z w64 c.in_ok-number.number) in
-    part_whole c.args.field.now c.args.strict c.args.rest.now c.args.slots.now Int64 (Some j) c.in_ok-number.bytes c.requires.kind refl
+    part_whole c.args.field.now c.args.strict c.args.rest.bytes.now c.args.slots.now Int64 (Some j) c.in_ok-number.bytes c.requires.kind refl
     (mantissa_sent (Some j)) c.in_default.not-Delta c.requires.no_constant
-    (subst (λ (b : Bool). IsFirstInt (λ y. y) c.args.strict (signed_range 63) b (First.Whole (Some j) c.in_ok-number.bytes) c.args.rest.now) (sym mandatory)
-    (subst (λ (y : ℤ). IsFirstInt (λ y. Some y) c.args.strict (signed_range 63) false (First.Whole y c.in_ok-number.bytes) c.args.rest.now)
+    (subst (λ (b : Bool). IsFirstInt (λ y. y) c.args.strict (signed_range 63) b (First.Whole (Some j) c.in_ok-number.bytes) c.args.rest.bytes.now)
+    (sym mandatory)
+    (subst (λ (y : ℤ). IsFirstInt (λ y. Some y) c.args.strict (signed_range 63) false (First.Whole y c.in_ok-number.bytes) c.args.rest.bytes.now)
     (sym (again w64 c.in_ok-number.number fits)) c.in_ok-number.ensures))

@@ -15,12 +15,13 @@ returns-then-bit c =
     let field = c.args.field.now in
     record {
       part = λ strict.
-          subst (λ (b : Bool). IsPartBy b field c.args.bit strict c.args.rest.now c.args.slots.now x 1)
+          subst (λ (b : Bool). IsPartBy b field c.args.bit strict c.args.rest.bytes.now c.args.slots.now x 1)
           (sym (usual_sent field c.args.bit true c.requires.usual c.if-bit.true))
-          (part_whole field strict c.args.rest.now c.args.slots.now Int32 x 1 c.requires.kind refl (exponent_sent x)
+          (part_whole field strict c.args.rest.bytes.now c.args.slots.now Int32 x 1 c.requires.kind refl (exponent_sent x)
           (usual_no_delta field c.requires.usual) (usual_no_constant field c.requires.usual)
-          (exponent_first strict field.optional c.args.rest.now x 1
-          (subst (λ o. IsFirstInt (λ y. y) strict exponent_range o (Whole x 1) c.args.rest.now) (sym c.requires.optional) (c.in_ok-exponent.ensures strict))));
+          (exponent_first strict field.optional c.args.rest.bytes.now x 1
+          (subst (λ o. IsFirstInt (λ y. y) strict exponent_range o (Whole x 1) c.args.rest.bytes.now) (sym c.requires.optional)
+          (c.in_ok-exponent.ensures strict))));
       within = (c.in_ok-exponent.ensures true).1.fits;
     }
 
@@ -29,7 +30,7 @@ returns c =
     let field = c.args.field.now in
     record {
       part = λ strict.
-          subst (λ (b : Bool). IsPartBy b field c.args.bit strict c.args.rest.now c.args.slots.now c.in_ok-known.known 0)
+          subst (λ (b : Bool). IsPartBy b field c.args.bit strict c.args.rest.bytes.now c.args.slots.now c.in_ok-known.known 0)
           (sym (usual_sent field c.args.bit false c.requires.usual c.if-bit.false))
           (refl, subst (λ (b : Bool). IsPartKnown field b c.args.slots.now c.in_ok-known.known) (sym c.if-bit.false) c.in_ok-known.ensures.known);
       within = c.in_ok-known.ensures.within;

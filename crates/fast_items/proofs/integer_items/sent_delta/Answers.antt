@@ -12,19 +12,19 @@ pub returns-in_ok-number-in-Some-clause-unit : goal.returns-in_ok-number-in-Some
 returns-in_ok-number-in-Some-clause-unit c =
     let fits : FitsSigned w64 c.in-Some.delta = search rules in
     let n = c.in_ok-number-in-Some.number in
-    sent_change c.args.kind c.args.optional c.args.entry c.args.strict c.args.rest.now c.args.slots.now c.change_at.new.slots
+    sent_change c.args.kind c.args.optional c.args.entry c.args.strict c.args.rest.bytes.now c.args.slots.now c.change_at.new.slots
     c.in-Some.delta n c.in_ok-change.bytes
     c.requires.integers
-    (subst (λ x. IsFirstInt (λ y. y) c.args.strict delta_range c.args.optional (Whole x c.in_ok-change.bytes) c.args.rest.now) c.in-Some.is
+    (subst (λ x. IsFirstInt (λ y. y) c.args.strict delta_range c.args.optional (Whole x c.in_ok-change.bytes) c.args.rest.bytes.now) c.in-Some.is
     c.in_ok-change.ensures)
     (subst (λ d. IsBehindDelta c.args.kind c.args.entry d c.args.slots.now c.change_at.new.slots n)
     (again w64 c.in-Some.delta fits) c.in_ok-number-in-Some.ensures.decided)
 
 pub returns-in-None-clause-unit : goal.returns-in-None-clause-unit
 returns-in-None-clause-unit c =
-    sent_null c.args.kind c.args.optional c.args.entry c.args.strict c.args.rest.now c.args.slots.now c.in_ok-change.bytes
+    sent_null c.args.kind c.args.optional c.args.entry c.args.strict c.args.rest.bytes.now c.args.slots.now c.in_ok-change.bytes
     c.requires.integers
-    (subst (λ x. IsFirstInt (λ y. y) c.args.strict delta_range c.args.optional (Whole x c.in_ok-change.bytes) c.args.rest.now) c.in-None.is
+    (subst (λ x. IsFirstInt (λ y. y) c.args.strict delta_range c.args.optional (Whole x c.in_ok-change.bytes) c.args.rest.bytes.now) c.in-None.is
     c.in_ok-change.ensures)
 
 pub returns-in_err-change-clause-unit : goal.returns-in_err-change-clause-unit

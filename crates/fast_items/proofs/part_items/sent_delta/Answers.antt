@@ -1,8 +1,7 @@
 -- The subtraction length and the part together are the field's.
-use Rattle.std.proofs.Common.{refl, rules, ◌≡◌, ◌-◌, ◌≤◌, ◌∙◌, sym, ap, subst, take, drop, length, ℤ, List, ℕ, FitsSigned}
+use Rattle.std.proofs.Common.{refl, rules, ◌≤◌, ◌∙◌, sym, ap, subst, take, drop, length, ℤ, List, ℕ, FitsSigned}
 use Rattle.std.specs.Int.{w64}
 use Rattle.std.specs.Prelude.{Bool, Some, None}
-use Rattle.std.proofs.lemmas.List.{take_rest}
 use Rattle.fast_fronts.specs.device.Fronts.{IsFirstInt}
 use Rattle.fast_fronts.specs.declared.fronts.First.TheVariants as First
 use Rattle.fast_wire.specs.meaning.Integers.{signed_range}
@@ -23,7 +22,7 @@ use Rattle.fast_items.proofs.part_items.sent_delta.Goals as goal
 pub returns-in_default-clause-unit : goal.returns-in_default-clause-unit
 returns-in_default-clause-unit c f scratch is serves =
     let s = c.args.strict in
-    let rest = c.args.rest.now in
+    let rest = c.args.rest.bytes.now in
     let a = c.in_ok-subtraction.len in
     let old = slots_dictionary c.args.slots.now in
     let given : IsFirstInt (λ y. y) s (signed_range 31) f.optional (First.Whole None a) rest
@@ -34,7 +33,7 @@ returns-in_default-clause-unit c f scratch is serves =
 pub returns-clause-unit : goal.returns-clause-unit
 returns-clause-unit c f scratch is serves =
     let s = c.args.strict in
-    let rest = c.args.rest.now in
+    let rest = c.args.rest.bytes.now in
     let a = c.in_ok-subtraction.len in
     let b = c.in_ok-bytes.bytes in
     let k = c.in-Some.subtraction in
@@ -43,7 +42,7 @@ returns-clause-unit c f scratch is serves =
     let given : IsFirstInt (λ y. y) s (signed_range 31) f.optional (First.Whole (Some k) a) rest
     = subst (λ (o : Bool). IsFirstInt (λ y. y) s (signed_range 31) o (First.Whole (Some k) a) rest) (sym is.optional)
     (rw c.in-Some.is at c.in_ok-subtraction.ensures) in
-    let behind : take (length rest - a) (drop a rest) ≡ drop a rest = take_rest rest a in
+    let behind = c.skip-behind.ensures in
     let within : b ≤ length (drop a rest) = rw (← behind) c.in_ok-bytes.ensures.within in
     let fits : FitsSigned w64 k = search rules in
     let part : GivesField (reader_of s (term_behind (bounds c.args.limits) f (previous_at f.entry old) (Part k)))
@@ -51,7 +50,7 @@ returns-clause-unit c f scratch is serves =
     = subst (λ (w : List ℕ). GivesField (reader_of s (term_behind (bounds c.args.limits) f (previous_at f.entry old) (Part k)))
     (take b w) f From.Entry old new scratch (take b (drop a rest))) behind
     (subst (λ (x : ℤ). IsSentPart c.args.kind c.args.entry x s c.args.limits
-    (take (length rest - a) (drop a rest)) c.args.slots.now c.sent_part.new.slots b) (again w64 k fits) c.in_ok-bytes.ensures.part
+    c.skip-behind.result.bytes.now c.args.slots.now c.sent_part.new.slots b) (again w64 k fits) c.in_ok-bytes.ensures.part
     f c.args.optional scratch (take b (drop a rest)) is serves) in
     delta_whole s (bounds c.args.limits) f rest old new scratch (ap family is.kind ∙ c.requires.text) is.operator From.Entry k a b given within part
 

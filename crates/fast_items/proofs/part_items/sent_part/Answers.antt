@@ -27,7 +27,7 @@ returns-in_ok-bytes-in-Ascii-clause-part c f optional scratch piece is serves =
     let fits : FitsSigned w64 k = search rules in
     let j : IsJoined Ascii e k part max old new = subst (λ (x : ℤ). IsJoined Ascii e x part max old new) (again w64 k fits) told in
     gives_ascii c.args.strict (bounds c.args.limits) f old new scratch piece Ascii e k part (is.kind ∙ c.in-Ascii.is) (is.entry refl) c.requires.there j
-    c.args.rest.now c.in_ok-bytes-in-Ascii.bytes refl (spelled (max - kept_length j.kept) j.fits)
+    c.args.rest.bytes.now c.in_ok-bytes-in-Ascii.bytes refl (spelled (max - kept_length j.kept) j.fits)
 
 pub returns-in_ok-bytes-in_default-clause-part : goal.returns-in_ok-bytes-in_default-clause-part
 returns-in_ok-bytes-in_default-clause-part c f optional scratch piece is serves =
@@ -37,13 +37,13 @@ returns-in_ok-bytes-in_default-clause-part c f optional scratch piece is serves 
     let old = slots_dictionary c.args.slots.now in
     let new = slots_dictionary c.vector_part.new.slots in
     let (size, len, all, within, given, told) = c.in_ok-bytes-in_default.ensures.part in
-    let part : List ℕ = take size (drop len c.args.rest.now) in
+    let part : List ℕ = take size (drop len c.args.rest.bytes.now) in
     let fits : FitsSigned w64 k = search rules in
     let j : IsJoined c.args.kind e k part max old new = subst (λ (x : ℤ). IsJoined c.args.kind e x part max old new) (again w64 k fits) told in
     subst (λ n. GivesField (reader_of c.args.strict (term_behind (bounds c.args.limits) f (previous_at f.entry old) (Part k)))
-    (take n c.args.rest.now) f From.Entry old new scratch piece) (sym all)
+    (take n c.args.rest.bytes.now) f From.Entry old new scratch piece) (sym all)
     (gives_vector c.args.strict (bounds c.args.limits) f old new scratch piece c.args.kind e k part is.kind (is.entry refl) c.requires.there j
-    c.args.rest.now size len c.in_default.not-Ascii given within refl)
+    c.args.rest.bytes.now size len c.in_default.not-Ascii given within refl)
 
 pub returns-in_err-bytes-in-Ascii-clause-part : goal.returns-in_err-bytes-in-Ascii-clause-part
 returns-in_err-bytes-in-Ascii-clause-part c = rw c.from_residual.ensures tt

@@ -9,7 +9,7 @@ use Rattle.fast_items.proofs.part_items.vector_part.Goals as goal
 
 pub returns-clause-part : goal.returns-clause-part
 returns-clause-part c =
-    let rest = c.args.rest.now in
+    let rest = c.args.rest.bytes.now in
     let a = c.in_ok-size.len in
     let size = c.in_ok-size-2.field-0 in
     let part = c.in_ok-part.part.now in

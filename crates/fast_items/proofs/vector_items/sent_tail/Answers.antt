@@ -19,7 +19,7 @@ use Rattle.fast_items.proofs.vector_items.sent_tail.Goals as goal
 pub returns-in_default-clause-unit : goal.returns-in_default-clause-unit
 returns-in_default-clause-unit c f scratch is serves =
     let s = c.args.strict in
-    let rest = c.args.rest.now in
+    let rest = c.args.rest.bytes.now in
     let a = c.in_ok-size.len in
     let old = slots_dictionary c.args.slots.now in
     let new = slots_dictionary c.set_empty.new.self in
@@ -32,7 +32,7 @@ returns-in_default-clause-unit c f scratch is serves =
 pub returns-clause-unit : goal.returns-clause-unit
 returns-clause-unit c f scratch is serves =
     let s = c.args.strict in
-    let rest = c.args.rest.now in
+    let rest = c.args.rest.bytes.now in
     let a = c.in_ok-size.len in
     let size = c.in-Some.size in
     let old = slots_dictionary c.args.slots.now in

@@ -21,7 +21,7 @@ use Rattle.fast_items.proofs.vector_items.sent_vector.Goals as goal
 pub returns-in_default-clause-unit : goal.returns-in_default-clause-unit
 returns-in_default-clause-unit c entry slots f scratch is serves =
     let s = c.args.strict in
-    let rest = c.args.rest.now in
+    let rest = c.args.rest.bytes.now in
     let a = c.in_ok-size.len in
     let given : IsFirstInt (λ y. option_map pos y) s (unsigned_range 32) f.optional (First.Whole None a) rest
     = subst (λ (b : Bool). IsFirstInt (λ y. option_map pos y) s (unsigned_range 32) b (First.Whole None a) rest) (sym is.optional)
@@ -33,7 +33,7 @@ returns-in_default-clause-unit c entry slots f scratch is serves =
 pub returns-clause-unit : goal.returns-clause-unit
 returns-clause-unit c entry slots f scratch is serves =
     let s = c.args.strict in
-    let rest = c.args.rest.now in
+    let rest = c.args.rest.bytes.now in
     let a = c.in_ok-size.len in
     let size = c.in-Some.size in
     let given : IsFirstInt (λ y. option_map pos y) s (unsigned_range 32) f.optional (First.Whole (Some size) a) rest

@@ -1,8 +1,7 @@
 -- Both parts, and the turn behind them.
 use Rattle.std.proofs.Common.{refl, sym, ap, ◌∙◌, subst, arith, rules, to_z, of_z, FitsSigned}
 use Rattle.std.specs.Int.{w32, w64}
-use Rattle.std.specs.Prelude.{ℕ, ◌+◌, ◌-◌, ◌<◌, ◌≤◌, Bool, true, if◌then◌else◌, length, take, drop, ℤ, Option, Some, List}
-use Rattle.std.proofs.lemmas.List.{take_rest}
+use Rattle.std.specs.Prelude.{ℕ, ◌<◌, ◌≤◌, Bool, true, if◌then◌else◌, length, ℤ, Option, Some, List}
 use Rattle.fast_wire.specs.meaning.Maps.{first_bit, later_bits}
 use Rattle.fast_value.specs.meaning.Kinds.{ScalarData, Dec}
 use Rattle.fast_tree.specs.meaning.Nodes.{field_data}
@@ -35,25 +34,26 @@ keep_mantissa-requires g c =
           c.keep_exponent.ensures.terms c.requires.decimal.mantissa).within c.args.entry c.requires.entry;
     }
 
-pub overflow_add-used : goal.overflow_add-used
-overflow_add-used g c =
+pub both_len-len-requires : goal.both_len-len-requires
+both_len-len-requires g c =
     let second = delta_part c.args.mantissa.now c.args.limits.strict
-    (take (length c.args.spot.now.rest.now - c.args.used) (drop c.args.used c.args.spot.now.rest.now)) c.args.machine.now.slots
+    c.skip-behind.result.bytes.now c.args.machine.now.slots
     (Some c.in-Some.value) c.in-Some.bytes c.requires.delta (c.in-Some.ensures c.args.mantissa.now (record {
       kind = c.requires.decimal.mantissa_kind;
       delta = c.requires.delta;
       mandatory = c.requires.mandatory;
       entry = c.requires.entry;
     })) in
-    let all : c.args.used + c.in-Some.bytes ≤ length c.args.spot.now.rest.now =
-    both_within c.args.exponent.now c.args.mantissa.now c.args.bit true c.args.limits.strict c.args.spot.now.rest.now
-    c.args.machine.now.slots c.args.number c.in-Some.value c.args.used c.in-Some.bytes
-    c.requires.part second in
-    search (rules, all)
+    record {
+      within = both_within c.args.exponent.now c.args.mantissa.now c.args.bit true c.args.limits.strict c.args.spot.now.rest.bytes.now
+          c.skip-behind.result.bytes.now c.args.machine.now.slots c.args.number c.in-Some.value c.args.used c.in-Some.bytes
+          c.skip-behind.ensures c.requires.part second;
+    }
 
 pub hand_sent-requires-clause-some : goal.hand_sent-requires-clause-some
 hand_sent-requires-clause-some g c = omega (
   arith,
+  c.both_len-len.ensures,
   (c.in-Some.ensures c.args.mantissa.now (record {
     kind = c.requires.decimal.mantissa_kind;
     delta = c.requires.delta;
@@ -64,16 +64,18 @@ hand_sent-requires-clause-some g c = omega (
 
 pub hand_sent-requires-clause-within : goal.hand_sent-requires-clause-within
 hand_sent-requires-clause-within g c =
-    both_within c.args.exponent.now c.args.mantissa.now c.args.bit true c.args.limits.strict c.args.spot.now.rest.now
-    c.args.machine.now.slots c.args.number c.in-Some.value c.args.used c.in-Some.bytes
-    c.requires.part (delta_part c.args.mantissa.now c.args.limits.strict
-    (take (length c.args.spot.now.rest.now - c.args.used) (drop c.args.used c.args.spot.now.rest.now)) c.args.machine.now.slots
+    let second = delta_part c.args.mantissa.now c.args.limits.strict
+    c.skip-behind.result.bytes.now c.args.machine.now.slots
     (Some c.in-Some.value) c.in-Some.bytes c.requires.delta (c.in-Some.ensures c.args.mantissa.now (record {
       kind = c.requires.decimal.mantissa_kind;
       delta = c.requires.delta;
       mandatory = c.requires.mandatory;
       entry = c.requires.entry;
-    })))
+    })) in
+    subst (λ len. len ≤ length c.args.spot.now.rest.bytes.now) (sym c.both_len-len.ensures)
+    (both_within c.args.exponent.now c.args.mantissa.now c.args.bit true c.args.limits.strict c.args.spot.now.rest.bytes.now
+    c.skip-behind.result.bytes.now c.args.machine.now.slots c.args.number c.in-Some.value c.args.used c.in-Some.bytes
+    c.skip-behind.ensures c.requires.part second)
 
 pub returns : goal.returns
 returns g c =
@@ -100,7 +102,7 @@ returns g c =
       mandatory = c.requires.mandatory;
       entry = c.requires.entry;
     })) in
-    let second_part = delta_part f l.strict (take (length from.rest.now - c.args.used) (drop c.args.used from.rest.now)) m.slots
+    let second_part = delta_part f l.strict c.skip-behind.result.bytes.now m.slots
     (Some y) n c.requires.delta (c.in-Some.ensures c.args.mantissa.now (record {
       kind = c.requires.decimal.mantissa_kind;
       delta = c.requires.delta;
@@ -110,8 +112,9 @@ returns g c =
     record {
       went = c.hand_sent.ensures.went set l m (record m { slots = new }) from (field_data f) (sym (delta_uses f c.requires.delta)) refl refl
           (subst (λ (v : Option ScalarData). IsLedTo set l m (record m { slots = new }) from p c.args.node (field_data f) v
-          (c.args.used + n)) (ap (λ z. Some (Dec z y)) (sym (again w32 x x_fits))
+          c.both_len-len.result) (ap (λ z. Some (Dec z y)) (sym (again w32 x x_fits))
           ∙ ap (λ z. Some (Dec (to_z w32 (of_z w32 x)) z)) (sym (again w64 y y_fits)))
+          (subst (λ len. IsLedTo set l m (record m { slots = new }) from p c.args.node (field_data f) (Some (Dec x y)) len) (sym c.both_len-len.ensures)
           (decimal_led set l m from c.args.node e f c.requires.decimal mid c.args.bit c.requires.bit c.keep_exponent.ensures.terms c.args.used x y new p true n
           (c.use_bit.ensures.bits m.cursor c.requires.decimal.spot.place
           ∙ ap (λ (b : Bool). if b then later_bits (bits_left (at_place m.cursor from.place)) else bits_left
@@ -120,7 +123,7 @@ returns g c =
           c.requires.within c.requires.part first c.keep_exponent.ensures.same
           (sym (ap (λ (b : Bool). if b then first_bit (bits_left (at_place m.cursor p)) else true) (delta_uses f c.requires.delta)))
           (c.leaves_mantissa.ensures (search rules))
-          (subst (λ (w : List ℕ). IsPart f true l.strict w m.slots (Some y) n) (take_rest from.rest.now c.args.used) second_part)
+          (subst (λ (w : List ℕ). IsPart f true l.strict w m.slots (Some y) n) (c.skip-behind.ensures) second_part)
           second (λ none. absurd (omega (
             arith,
             none,
@@ -130,5 +133,5 @@ returns g c =
               mandatory = c.requires.mandatory;
               entry = c.requires.entry;
             })).0,
-          ))) c.keep_mantissa.ensures.terms (c.use_bit.ensures.place m.cursor c.requires.decimal.spot.place)));
+          ))) c.keep_mantissa.ensures.terms (c.use_bit.ensures.place m.cursor c.requires.decimal.spot.place))));
     }

@@ -1,7 +1,6 @@
 -- The bytes, and the turn behind them.
 use Rattle.std.proofs.Common.{refl, sym, ap, ◌∙◌, subst, inl, inr, arith, rules}
 use Rattle.std.specs.Prelude.{◌≡◌, ◌≢◌, ◌⊎◌, ℕ, zero, suc, ◌+◌, ◌<◌, drop, Ok, Err, option_map}
-use Rattle.std.proofs.lemmas.List.{take_rest}
 use Rattle.fast_value.specs.meaning.Limits.{bounds}
 use Rattle.fast_value.specs.meaning.Values.{scalar_data}
 use Rattle.fast_dict.specs.meaning.Slots.{slots_dictionary}
@@ -37,7 +36,7 @@ returns-then-bytes-gt0 g c = record {
       (subst (λ (k : ℕ). IsLedTo set l m m1 from p k f (option_map scalar_data c.args.value) c.args.bytes) (sym c.from.ensures) h)
       (c.after.ensures ∙ ap (λ t. t.count + 1) old)
       (passed.ensures.place m.cursor h.place)
-      _ c.args.sink.now c.in-Ok.turn passed.new.sink (take_rest c.args.spot.now.rest.now c.args.bytes ∙ ap (drop c.args.bytes) (sym rest)) refl
+      _ c.args.sink.now c.in-Ok.turn passed.new.sink (c.skip-spot.ensures ∙ ap (drop c.args.bytes) (sym rest)) refl
       (λ waits. c.in-Ok.ensures.moves set (bounds l) l.strict waits (slots_dictionary m1.slots) m.counted m.cursor f h.place uses)
       (c.in-Ok.ensures.past m.cursor) (λ e. c.in-Ok.ensures.on (ap Ok e)) (search rules);
 }
@@ -53,7 +52,7 @@ returns-in-Handed g c = record {
       (subst (λ (k : ℕ). IsLedTo set l m m1 from p k f (option_map scalar_data c.args.value) c.args.bytes) (sym c.from.ensures) h)
       (c.after.ensures ∙ ap (λ t. t.count + 1) old)
       (passed.ensures.place m.cursor h.place)
-      _ c.args.sink.now Handed passed.new.sink (take_rest c.args.spot.now.rest.now c.args.bytes ∙ ap (drop c.args.bytes) (sym rest)) refl
+      _ c.args.sink.now Handed passed.new.sink (c.skip-spot.ensures ∙ ap (drop c.args.bytes) (sym rest)) refl
       (λ waits. subst (λ (t : Turn). Moves g.S.Sink.takes g.S.Sink.stops
       (reader_of l.strict (value_then set (bounds l) c.from.result (option_map scalar_data c.args.value) f
       (slots_dictionary m1.slots) m.counted (at_place m.cursor p)))
@@ -74,7 +73,7 @@ returns-in_default g c = record {
       (subst (λ (k : ℕ). IsLedTo set l m m1 from p k f (option_map scalar_data c.args.value) c.args.bytes) (sym c.from.ensures) h)
       (c.after.ensures ∙ ap (λ t. t.count + 1) old)
       (passed.ensures.place m.cursor h.place)
-      _ c.args.sink.now Silent passed.new.sink (take_rest c.args.spot.now.rest.now c.args.bytes ∙ ap (drop c.args.bytes) (sym rest)) refl
+      _ c.args.sink.now Silent passed.new.sink (c.skip-spot.ensures ∙ ap (drop c.args.bytes) (sym rest)) refl
       (λ waits. subst (λ (t : Turn). Moves g.S.Sink.takes g.S.Sink.stops
       (reader_of l.strict (value_then set (bounds l) c.from.result (option_map scalar_data c.args.value) f
       (slots_dictionary m1.slots) m.counted (at_place m.cursor p)))
@@ -94,7 +93,7 @@ returns-in-Err g c = record {
       (subst (λ (k : ℕ). IsLedTo set l m m1 from p k f (option_map scalar_data c.args.value) c.args.bytes) (sym c.from.ensures) h)
       (c.after.ensures ∙ ap (λ t. t.count + 1) old)
       (passed.ensures.place m.cursor h.place)
-      _ c.args.sink.now passed.new.sink (take_rest c.args.spot.now.rest.now c.args.bytes ∙ ap (drop c.args.bytes) (sym rest))
+      _ c.args.sink.now passed.new.sink (c.skip-spot.ensures ∙ ap (drop c.args.bytes) (sym rest))
       (λ waits. subst (λ (code : FaultCode). Moves g.S.Sink.takes g.S.Sink.stops
       (reader_of l.strict (value_then set (bounds l) c.from.result (option_map scalar_data c.args.value) f
       (slots_dictionary m1.slots) m.counted (at_place m.cursor p)))

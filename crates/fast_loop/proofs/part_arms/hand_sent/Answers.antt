@@ -1,7 +1,6 @@
 -- The bytes, and the turn behind them.
 use Rattle.std.proofs.Common.{refl, sym, ap, ◌∙◌, subst, inr}
 use Rattle.std.specs.Prelude.{ℕ, ◌+◌, drop, Err, option_map}
-use Rattle.std.proofs.lemmas.List.{take_rest}
 use Rattle.fast_value.specs.meaning.Limits.{bounds}
 use Rattle.fast_value.specs.meaning.Values.{scalar_data}
 use Rattle.fast_dict.specs.meaning.Slots.{slots_dictionary}
@@ -34,7 +33,7 @@ returns-in_default g c = record {
       (subst (λ (k : ℕ). IsLedTo set l m m1 from p k f (option_map scalar_data c.args.value) c.args.bytes) (sym c.from-node.ensures) h)
       (c.after.ensures ∙ ap (λ t. t.count + 1) old)
       (past.place m.cursor h.place)
-      _ c.args.sink.now Handed c.hand.new.sink (take_rest c.args.spot.now.rest.now c.args.bytes ∙ ap (drop c.args.bytes) (sym rest)) refl
+      _ c.args.sink.now Handed c.hand.new.sink (c.skip-spot.ensures ∙ ap (drop c.args.bytes) (sym rest)) refl
       (λ waits. moves_one g.S.Sink.takes g.S.Sink.stops waits c.args.sink.now c.hand.new.sink
       (ap (λ v. reader_of l.strict (value_then set (bounds l) c.from-node.result (option_map scalar_data v) f d m.counted at))
       c.in-Some.is ∙ ap (λ k. Emit (FieldValue c.from-node.result (scalar_data c.in-Some.value)) (reader_of l.strict k)) (sym on))
@@ -56,7 +55,7 @@ returns-in-None g c = record {
       (subst (λ (k : ℕ). IsLedTo set l m m1 from p k f (option_map scalar_data c.args.value) c.args.bytes) (sym c.from-node.ensures) h)
       (c.after.ensures ∙ ap (λ t. t.count + 1) old)
       (past.place m.cursor h.place)
-      _ c.args.sink.now Silent c.args.sink.now (take_rest c.args.spot.now.rest.now c.args.bytes ∙ ap (drop c.args.bytes) (sym rest)) refl
+      _ c.args.sink.now Silent c.args.sink.now (c.skip-spot.ensures ∙ ap (drop c.args.bytes) (sym rest)) refl
       (λ waits. (
         ap (λ v. reader_of l.strict (value_then set (bounds l) c.from-node.result (option_map scalar_data v) f d m.counted at))
             c.in-None.is ∙ ap (reader_of l.strict) (sym on),
@@ -75,7 +74,7 @@ returns-in-Err g c = record {
       (subst (λ (k : ℕ). IsLedTo set l m m1 from p k f (option_map scalar_data c.args.value) c.args.bytes) (sym c.from-node.ensures) h)
       (c.after.ensures ∙ ap (λ t. t.count + 1) old)
       h.place
-      _ c.args.sink.now c.hand.new.sink (take_rest c.args.spot.now.rest.now c.args.bytes ∙ ap (drop c.args.bytes) (sym rest))
+      _ c.args.sink.now c.hand.new.sink (c.skip-spot.ensures ∙ ap (drop c.args.bytes) (sym rest))
       (λ waits. subst (λ (code : FaultCode). Moves g.S.Sink.takes g.S.Sink.stops
       (reader_of l.strict (value_then set (bounds l) c.from-node.result (option_map scalar_data c.args.value) f d m.counted at))
       c.args.sink.now (Err code) c.hand.new.sink (reader_of l.strict (going_on set (bounds l) d m.counted at)) waits)

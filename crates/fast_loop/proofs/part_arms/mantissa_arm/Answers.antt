@@ -1,8 +1,7 @@
 -- Both parts, and the turn behind them.
 use Rattle.std.proofs.Common.{refl, sym, ap, ◌∙◌, subst, rules, to_z, of_z, FitsSigned}
 use Rattle.std.specs.Int.{w32, w64}
-use Rattle.std.specs.Prelude.{ℕ, ◌+◌, ◌<◌, ◌≤◌, Bool, true, if◌then◌else◌, length, ℤ, Option, Some, List}
-use Rattle.std.proofs.lemmas.List.{take_rest}
+use Rattle.std.specs.Prelude.{ℕ, ◌<◌, ◌≤◌, Bool, true, if◌then◌else◌, length, ℤ, Option, Some, List}
 use Rattle.fast_wire.specs.meaning.Maps.{first_bit, later_bits}
 use Rattle.fast_value.specs.meaning.Kinds.{ScalarData, Dec}
 use Rattle.fast_tree.specs.meaning.Nodes.{field_data}
@@ -31,19 +30,19 @@ keep_part-requires-2-clause-within g c =
     c.args.mantissa.now c.requires.decimal c.keep_part.new.slots c.args.mantissa.now c.keep_part.ensures.terms
     c.requires.decimal.mantissa).within
 
-pub overflow_add-used : goal.overflow_add-used
-overflow_add-used g c =
-    let all : c.args.used + c.in-Some-mantissa_part.bytes ≤ length c.args.spot.now.rest.now =
-    both_within c.args.exponent.now c.args.mantissa.now c.args.bit c.in-Some.set c.args.limits.strict c.args.spot.now.rest.now
-    c.args.machine.now.slots c.args.number c.in-Some-mantissa_part.value c.args.used c.in-Some-mantissa_part.bytes
-    c.requires.part c.in-Some-mantissa_part.ensures in
-    search (rules, all)
+pub both_len-len-requires : goal.both_len-len-requires
+both_len-len-requires g c = record {
+  within = both_within c.args.exponent.now c.args.mantissa.now c.args.bit c.in-Some.set c.args.limits.strict c.args.spot.now.rest.bytes.now
+      c.skip-behind.result.bytes.now c.args.machine.now.slots c.args.number c.in-Some-mantissa_part.value c.args.used c.in-Some-mantissa_part.bytes
+      c.skip-behind.ensures c.requires.part c.in-Some-mantissa_part.ensures;
+}
 
 pub hand_behind-requires-clause-within : goal.hand_behind-requires-clause-within
 hand_behind-requires-clause-within g c =
-    both_within c.args.exponent.now c.args.mantissa.now c.args.bit c.in-Some.set c.args.limits.strict c.args.spot.now.rest.now
-    c.args.machine.now.slots c.args.number c.in-Some-mantissa_part.value c.args.used c.in-Some-mantissa_part.bytes
-    c.requires.part c.in-Some-mantissa_part.ensures
+    subst (λ len. len ≤ length c.args.spot.now.rest.bytes.now) (sym c.both_len-len.ensures)
+    (both_within c.args.exponent.now c.args.mantissa.now c.args.bit c.in-Some.set c.args.limits.strict c.args.spot.now.rest.bytes.now
+    c.skip-behind.result.bytes.now c.args.machine.now.slots c.args.number c.in-Some-mantissa_part.value c.args.used c.in-Some-mantissa_part.bytes
+    c.skip-behind.ensures c.requires.part c.in-Some-mantissa_part.ensures)
 
 pub returns : goal.returns
 returns g c =
@@ -70,8 +69,9 @@ returns g c =
     record {
       went = c.hand_behind.ensures.went set l m (record m { slots = new }) from (field_data f) c.uses_bit-has_bit.ensures refl refl
           (subst (λ (v : Option ScalarData). IsLedTo set l m (record m { slots = new }) from p c.args.node (field_data f) v
-          (c.args.used + n)) (ap (λ z. Some (Dec z y)) (sym (again w32 x x_fits))
+          c.both_len-len.result) (ap (λ z. Some (Dec z y)) (sym (again w32 x x_fits))
           ∙ ap (λ z. Some (Dec (to_z w32 (of_z w32 x)) z)) (sym (again w64 y y_fits)))
+          (subst (λ len. IsLedTo set l m (record m { slots = new }) from p c.args.node (field_data f) (Some (Dec x y)) len) (sym c.both_len-len.ensures)
           (decimal_led set l m from c.args.node e f c.requires.decimal mid c.args.bit c.requires.bit c.keep_part.ensures.terms c.args.used
           x y new p c.in-Some.set n
           (c.behind_bit-place.ensures.bits m.cursor c.requires.decimal.spot.place
@@ -82,6 +82,6 @@ returns g c =
           (c.in-Some.ensures.bit m.cursor (c.behind_bit-place.ensures.place m.cursor c.requires.decimal.spot.place)
           ∙ ap (λ (b : Bool). if b then first_bit (bits_left (at_place m.cursor p)) else true) c.uses_bit-has_bit.ensures)
           (c.leaves_mantissa.ensures (search rules))
-          (subst (λ (w : List ℕ). IsPart f c.in-Some.set l.strict w m.slots (Some y) n) (take_rest from.rest.now c.args.used) c.in-Some-mantissa_part.ensures)
-          second c.keep_part-2.ensures.same c.keep_part-2.ensures.terms (c.behind_bit-place.ensures.place m.cursor c.requires.decimal.spot.place)));
+          (subst (λ (w : List ℕ). IsPart f c.in-Some.set l.strict w m.slots (Some y) n) (c.skip-behind.ensures) c.in-Some-mantissa_part.ensures)
+          second c.keep_part-2.ensures.same c.keep_part-2.ensures.terms (c.behind_bit-place.ensures.place m.cursor c.requires.decimal.spot.place))));
     }

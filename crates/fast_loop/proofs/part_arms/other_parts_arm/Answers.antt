@@ -21,7 +21,7 @@ exponent_part-requires-clause-within g c =
 pub mantissa_arm-requires-clause-part : goal.mantissa_arm-requires-clause-part
 mantissa_arm-requires-clause-part g c =
     let fits : FitsSigned w32 c.in-Some-part.number = search rules in
-    subst (λ (x : Option ℤ). IsPart c.args.exponent.now c.in-Some.bit c.args.limits.strict c.args.spot.now.rest.now
+    subst (λ (x : Option ℤ). IsPart c.args.exponent.now c.in-Some.bit c.args.limits.strict c.args.spot.now.rest.bytes.now
     c.args.machine.now.slots x c.in-Some-exponent_part.used)
     (c.in-Some-part.is ∙ ap Some (sym (again w32 c.in-Some-part.number fits)))
     (c.in-Some-exponent_part.ensures.part c.args.limits.strict)
@@ -34,7 +34,7 @@ keep_part-requires-clause-within g c =
 
 pub hand_behind-requires-clause-within : goal.hand_behind-requires-clause-within
 hand_behind-requires-clause-within g c =
-    part_within c.args.exponent.now c.in-Some.bit c.args.limits.strict c.args.spot.now.rest.now c.args.machine.now.slots
+    part_within c.args.exponent.now c.in-Some.bit c.args.limits.strict c.args.spot.now.rest.bytes.now c.args.machine.now.slots
     c.in-Some-exponent_part.part c.in-Some-exponent_part.used (c.in-Some-exponent_part.ensures.part c.args.limits.strict)
 
 pub returns-in-None : goal.returns-in-None
@@ -53,6 +53,6 @@ returns-in-None g c =
           (c.in-Some.ensures.bit m.cursor at.spot.place ∙ ap (λ (b : Bool). if b then first_bit
           (bits_left (at_place m.cursor from.place)) else true) c.uses_bit-has_bit.ensures)
           c.keep_part.ensures.terms c.in-Some-exponent_part.used
-          (subst (λ (x : Option ℤ). IsPart e c.in-Some.bit l.strict from.rest.now m.slots x c.in-Some-exponent_part.used) c.in-None.is
+          (subst (λ (x : Option ℤ). IsPart e c.in-Some.bit l.strict from.rest.bytes.now m.slots x c.in-Some-exponent_part.used) c.in-None.is
           (c.in-Some-exponent_part.ensures.part l.strict)) c.keep_part.ensures.kept c.keep_part.ensures.same);
     }

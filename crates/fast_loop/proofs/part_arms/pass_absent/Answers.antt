@@ -1,7 +1,6 @@
 -- Past an absent decimal nothing is handed over.
 use Rattle.std.proofs.Common.{refl, sym, ap, ◌∙◌, rules}
 use Rattle.std.specs.Prelude.{◌+◌, drop, true, None}
-use Rattle.std.proofs.lemmas.List.{take_rest}
 use Rattle.fast_value.specs.meaning.Limits.{bounds}
 use Rattle.fast_dict.specs.meaning.Slots.{slots_dictionary}
 use Rattle.fast_stream.specs.device.GrammarReaders.{reader_of}
@@ -22,7 +21,7 @@ returns-then-bytes-gt0 g c = record {
       led_took g.S.Sink.takes g.S.Sink.stops set l m m1 c.after.result from p c.pass.new.self node f None c.args.bytes h
       (c.after.ensures ∙ ap (λ t. t.count + 1) old)
       (past.place m.cursor h.place)
-      _ c.args.sink.now Silent c.args.sink.now (take_rest c.args.spot.now.rest.now c.args.bytes ∙ ap (drop c.args.bytes) (sym rest)) refl
+      _ c.args.sink.now Silent c.args.sink.now (c.skip-spot.ensures ∙ ap (drop c.args.bytes) (sym rest)) refl
       (λ waits. (ap (reader_of l.strict) (sym on), refl))
       (record { same = past.past m.cursor }) (λ e. cc e) (search rules);
 }
@@ -38,7 +37,7 @@ returns g c = record {
       led_went g.S.Sink.takes g.S.Sink.stops set l m m1 c.after.result from p c.pass.new.self node f None c.args.bytes h
       (c.after.ensures ∙ ap (λ t. t.count + 1) old)
       (past.place m.cursor h.place)
-      _ c.args.sink.now Silent c.args.sink.now (take_rest c.args.spot.now.rest.now c.args.bytes ∙ ap (drop c.args.bytes) (sym rest)) refl
+      _ c.args.sink.now Silent c.args.sink.now (c.skip-spot.ensures ∙ ap (drop c.args.bytes) (sym rest)) refl
       (λ waits. (ap (reader_of l.strict) (sym on), refl))
       (record { same = past.past m.cursor }) (λ e. cc e) (search rules);
 }

@@ -32,14 +32,14 @@ changed_mantissa_arm-requires-clause-bit g c =
 pub changed_mantissa_arm-requires-clause-part : goal.changed_mantissa_arm-requires-clause-part
 changed_mantissa_arm-requires-clause-part g c =
     let fits : FitsSigned w32 c.in-Some-part.number = search rules in
-    subst (λ (x : Option ℤ). IsPart c.args.exponent.now c.in-Some.bit c.args.limits.strict c.args.spot.now.rest.now
+    subst (λ (x : Option ℤ). IsPart c.args.exponent.now c.in-Some.bit c.args.limits.strict c.args.spot.now.rest.bytes.now
     c.args.machine.now.slots x c.in-Some-read.used)
     (c.in-Some-part.is ∙ ap Some (sym (again w32 c.in-Some-part.number fits)))
     (c.in-Some-read.ensures.part c.args.limits.strict)
 
 pub pass_absent-requires-clause-within : goal.pass_absent-requires-clause-within
 pass_absent-requires-clause-within g c =
-    part_within c.args.exponent.now c.in-Some.bit c.args.limits.strict c.args.spot.now.rest.now c.args.machine.now.slots
+    part_within c.args.exponent.now c.in-Some.bit c.args.limits.strict c.args.spot.now.rest.bytes.now c.args.machine.now.slots
     c.in-Some-read.part c.in-Some-read.used (c.in-Some-read.ensures.part c.args.limits.strict)
 
 pub returns-in-None : goal.returns-in-None
@@ -58,6 +58,6 @@ returns-in-None g c =
           (absent_led set l m from c.args.node e f at mid c.in-Some.bit
           (c.in-Some.ensures.bit m.cursor at.spot.place ∙ ap (λ (b : Bool). if b then first_bit (bits_left (at_place m.cursor from.place)) else true) uses)
           c.keep_exponent.ensures.terms c.in-Some-read.used
-          (subst (λ (x : Option ℤ). IsPart e c.in-Some.bit l.strict from.rest.now m.slots x c.in-Some-read.used) c.in-None.is
+          (subst (λ (x : Option ℤ). IsPart e c.in-Some.bit l.strict from.rest.bytes.now m.slots x c.in-Some-read.used) c.in-None.is
           (c.in-Some-read.ensures.part l.strict)) c.keep_exponent.ensures.kept c.keep_exponent.ensures.same);
     }

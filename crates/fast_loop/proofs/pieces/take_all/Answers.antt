@@ -11,7 +11,7 @@ use Rattle.fast_loop.proofs.pieces.take_all.Goals as goal
 pub returns-then-kept-gt0 : goal.returns-then-kept-gt0
 returns-then-kept-gt0 g c =
     let set = set_of c.args.templates.now in
-    let l = c.args.limits in
+    let l = c.args.limits.now in
     let m = c.args.machine.now in
     let piece = c.args.piece.now in
     let a = c.gather-kept.new.self in
@@ -35,7 +35,7 @@ returns-then-kept-gt0 g c =
 pub returns : goal.returns
 returns g c =
     let set = set_of c.args.templates.now in
-    let l = c.args.limits in
+    let l = c.args.limits.now in
     let b = c.gather-kept.new.self in
     let none = c.if-kept-gt0.false in
     let same : b ≡ c.args.machine.now = c.gather-kept.ensures.none (omega (arith, none)) in

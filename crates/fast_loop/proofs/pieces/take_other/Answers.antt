@@ -15,14 +15,14 @@ use Rattle.fast_loop.proofs.pieces.take_other.Goals as goal
 pub returns-in-Err-clause-fed : goal.returns-in-Err-clause-fed
 returns-in-Err-clause-fed g c =
     let unit = c.take_next-unit in
-    unit_alone g.S.Sink.takes g.S.Sink.stops (set_of c.args.templates.now) c.args.limits c.args.machine.now c.args.rest.now c.args.sink.now
+    unit_alone g.S.Sink.takes g.S.Sink.stops (set_of c.args.templates.now) c.args.limits.now c.args.machine.now c.args.rest.now c.args.sink.now
     unit.result.bytes unit.result.turn (Err c.in-Err.code) unit.new.sink unit.new.self
     (λ t e. absurd (cc (sym c.in-Err.is ∙ e))) (λ t e. absurd (cc (sym c.in-Err.is ∙ e))) (λ x e. cc (sym c.in-Err.is ∙ e)) unit.ensures.taken
 
 pub returns-in-Err-clause-turns : goal.returns-in-Err-clause-turns
 returns-in-Err-clause-turns g c way =
     let unit = c.take_next-unit in
-    counted_one (set_of c.args.templates.now) c.args.limits c.args.machine.now unit.new.self unit.result.bytes unit.result.turn
+    counted_one (set_of c.args.templates.now) c.args.limits.now c.args.machine.now unit.new.self unit.result.bytes unit.result.turn
     (Err c.in-Err.code) way unit.ensures.taken.some (unit.ensures.turns way)
     (λ t e. absurd (cc (sym c.in-Err.is ∙ e))) (λ t e. absurd (cc (sym c.in-Err.is ∙ e))) (λ x e. cc (sym c.in-Err.is ∙ e))
 
@@ -31,7 +31,7 @@ returns-in-Waits g c =
     let takes = g.S.Sink.takes in
     let stops = g.S.Sink.stops in
     let set = set_of c.args.templates.now in
-    let l = c.args.limits in
+    let l = c.args.limits.now in
     let m = c.args.machine.now in
     let rest = c.args.rest.now in
     let unit = c.take_next-unit in
@@ -61,7 +61,7 @@ returns-in_default g c =
     let takes = g.S.Sink.takes in
     let stops = g.S.Sink.stops in
     let set = set_of c.args.templates.now in
-    let l = c.args.limits in
+    let l = c.args.limits.now in
     let m = c.args.machine.now in
     let rest = c.args.rest.now in
     let unit = c.take_next-unit in

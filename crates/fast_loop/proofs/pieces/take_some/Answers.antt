@@ -19,7 +19,7 @@ returns-in_default g c =
     let takes = g.S.Sink.takes in
     let stops = g.S.Sink.stops in
     let set = set_of c.args.templates.now in
-    let l = c.args.limits in
+    let l = c.args.limits.now in
     let (same, heard) = c.in_default.ensures.none in
     let rest = c.take_other in
     record {
@@ -38,7 +38,7 @@ returns-in_default g c =
 pub returns-in-Err : goal.returns-in-Err
 returns-in-Err g c =
     let set = set_of c.args.templates.now in
-    let l = c.args.limits in
+    let l = c.args.limits.now in
     let unit = c.in-Some.unit in
     let told = c.in-Some.ensures in
     let b = c.begin_first.new.machine in
@@ -59,7 +59,7 @@ returns-in-Ok g c =
     let takes = g.S.Sink.takes in
     let stops = g.S.Sink.stops in
     let set = set_of c.args.templates.now in
-    let l = c.args.limits in
+    let l = c.args.limits.now in
     let m = c.args.machine.now in
     let rest = c.args.rest.now in
     let unit = c.in-Some.unit in

@@ -9,7 +9,7 @@ use Rattle.fast_loop.proofs.pieces.take_units.Goals as goal
 pub returns-then-is_err-clause-fed : goal.returns-then-is_err-clause-fed
 returns-then-is_err-clause-fed g c =
     let set = set_of c.args.templates.now in
-    let l = c.args.limits in
+    let l = c.args.limits.now in
     let taken = c.take_some-taken in
     fed_behind (tree_in set) l g.S.Sink.takes g.S.Sink.stops (waiting_at (meaning set l c.args.machine.now))
     (waiting_at (meaning set l c.loop-bytes.machine)) (waiting_at (meaning set l taken.new.machine)) c.args.piece.now
@@ -19,7 +19,7 @@ returns-then-is_err-clause-fed g c =
 pub returns-then-is_err-clause-turns : goal.returns-then-is_err-clause-turns
 returns-then-is_err-clause-turns g c way none h =
     let set = set_of c.args.templates.now in
-    let l = c.args.limits in
+    let l = c.args.limits.now in
     let taken = c.take_some-taken in
     all_paid way set l (c.loop-bytes.bytes + taken.result.bytes) taken.new.machine taken.result.outcome
     (after_some way set l c.loop-bytes.bytes taken.result.bytes c.loop-bytes.machine taken.new.machine taken.result.outcome
@@ -30,7 +30,7 @@ loop-bytes-preserved g c =
     let takes = g.S.Sink.takes in
     let stops = g.S.Sink.stops in
     let set = set_of c.args.templates.now in
-    let l = c.args.limits in
+    let l = c.args.limits.now in
     let taken = c.take_some-taken in
     let ok : is_err taken.result.outcome ≡ false = sym c.is_err.ensures.value ∙ c.if-is_err.false in
     record {
@@ -46,5 +46,5 @@ loop-bytes-preserved g c =
     }
 
 pub returns-clause-turns : goal.returns-clause-turns
-returns-clause-turns g c way none h = spent_paid way (set_of c.args.templates.now) c.args.limits c.loop-bytes.bytes c.loop-bytes.machine
+returns-clause-turns g c way none h = spent_paid way (set_of c.args.templates.now) c.args.limits.now c.loop-bytes.bytes c.loop-bytes.machine
     (c.loop-bytes.invariant.turns way none h)

@@ -2,7 +2,6 @@
 use Rattle.std.proofs.Common.{refl, ap, ◌∙◌}
 use Rattle.std.specs.Prelude.{◌≡◌, drop, Some}
 use Rattle.fast_value.specs.meaning.Kinds.{U}
-use Rattle.std.proofs.lemmas.List.{take_rest}
 use Rattle.fast_cursor.specs.device.Cursors.{CursorData}
 use Rattle.fast_cursor.specs.device.Places.{at_place}
 use Rattle.fast_machine.specs.device.Positions.{set_of, run_in}
@@ -28,7 +27,7 @@ returns-in-Err g c =
           (record {
             at = c.stand.ensures.at;
             place = c.stand.ensures.place;
-            rest = c.stand.ensures.rest ∙ take_rest from.rest.now c.args.bytes;
+            rest = c.stand.ensures.rest ∙ c.skip-spot.ensures;
           }) c.in-Err.ensures.0
           (stopped_step takes stops set l m from c.args.node f (run_in set c.args.start)
           (Some (U claimed)) c.args.bytes h c.after-machine.result c.after-machine.ensures c.advance.new.self is claimed c.args.count
@@ -62,7 +61,7 @@ returns g c =
     c.advance.ensures ∙ ap (λ (x : CursorData). record x { left = drop 1 x.left }) c.set_place.ensures in
     let begun = c.begin_element-begun in
     record {
-      went = c.segment_arm.ensures.went m from c.args.sink.now c.args.bytes (take_rest from.rest.now c.args.bytes) h.some
+      went = c.segment_arm.ensures.went m from c.args.sink.now c.args.bytes (c.skip-spot.ensures) h.some
           (elements_step takes stops set l m from c.args.node f (run_in set c.args.start)
           (Some (U claimed)) c.args.bytes h c.after-machine.result c.after-machine.ensures c.advance.new.self is claimed c.args.count
           refl fits c.requires.total

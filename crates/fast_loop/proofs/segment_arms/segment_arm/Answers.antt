@@ -29,11 +29,11 @@ returns g c = record {
       let more : 0 < k = search rules in
       let is : record c.take_open_map-bytes.new.machine { turns = c.after-machine.result } ≡ b =
       ap (λ (x : Machine). record x { turns = c.after-machine.result }) c.take_open_map-bytes.ensures.same in
-      let opened : IsStep takes stops set l (placed m from.place) from.rest.now s (record {
+      let opened : IsStep takes stops set l (placed m from.place) from.rest.bytes.now s (record {
         bytes = n;
         turn = Ok (opened_turn width);
       }) c.args.sink.now (awaiting width a) =
-      subst (λ (r : Result ℕ FaultCode). IsStep takes stops set l (placed m from.place) from.rest.now s (record {
+      subst (λ (r : Result ℕ FaultCode). IsStep takes stops set l (placed m from.place) from.rest.bytes.now s (record {
         bytes = n;
         turn = opened_result r;
       }) c.args.sink.now (opened_by r a)) c.in-Ok.is step in
@@ -43,14 +43,14 @@ returns g c = record {
       (record {
         at = c.stand-2.ensures.at;
         place = c.stand-2.ensures.place;
-        rest = further from.rest.now c.args.spot.now.rest.now c.stand-2.new.self.rest.now n k rest c.stand-2.ensures.rest;
+        rest = further from.rest.bytes.now c.args.spot.now.rest.bytes.now c.stand-2.new.self.rest.bytes.now n k rest c.stand-2.ensures.rest;
       })
       (ap (λ (x : Machine). x.waiting) is ∙ c.requires.waits) (omega (arith, more)) (λ e. cc e)
-      (subst (λ (x : Machine). IsStep takes stops set l (placed m from.place) from.rest.now s (record {
+      (subst (λ (x : Machine). IsStep takes stops set l (placed m from.place) from.rest.bytes.now s (record {
         bytes = n + k;
         turn = Ok Silent;
       }) c.args.sink.now x) (sym is)
-      (mapped_step takes stops set l (placed m from.place) a from.rest.now s c.args.sink.now n width k d c.after-machine.result c.requires.waits some
+      (mapped_step takes stops set l (placed m from.place) a from.rest.bytes.now s c.args.sink.now n width k d c.after-machine.result c.requires.waits some
       taken (c.take_open_map-bytes.ensures.fit more) refl
       (c.after-machine.ensures ∙ ap (λ (x : Machine). x.turns.count + 1) c.take_open_map-bytes.ensures.same) opened));
 }

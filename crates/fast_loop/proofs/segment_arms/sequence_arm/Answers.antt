@@ -1,7 +1,6 @@
 -- The length, or none.
 use Rattle.std.proofs.Common.{sym, ap, ◌∙◌, subst, refl}
 use Rattle.std.specs.Prelude.{◌≡◌, ℕ, Option, None, option_map, ◌<◌, List, length, slice_get, Some}
-use Rattle.std.proofs.lemmas.List.{take_rest}
 use Rattle.fast_value.specs.meaning.Kinds.{U}
 use Rattle.fast_value.specs.meaning.Limits.{bounds}
 use Rattle.fast_stream.specs.meaning.Messages.{within_limits}
@@ -33,10 +32,11 @@ returns-in_default-claimed g c = record {
         c.in-Some.bytes,
         h.some,
         record {
-          rest = take_rest from.rest.now c.in-Some.bytes;
+          rest = c.skip-spot.ensures;
           waits = c.requires.spot.waits;
           place = c.advance.ensures.place m.cursor c.requires.spot.place;
-          step = took_handed takes stops set l (placed m from.place) _ from.rest.now c.args.sink.now c.in-Some.bytes Silent c.args.sink.now h.some (λ e. cc e)
+          step = took_handed takes stops set l (placed m from.place) _ from.rest.bytes.now c.args.sink.now c.in-Some.bytes Silent c.args.sink.now
+              h.some (λ e. cc e)
               (absent_step takes stops set l m from c.from-node.result (field_data c.in-Sequence.length)
               (run_in set c.body_start-start.result) (option_map U c.in-Some.claimed) c.in-Some.bytes h c.after-machine.result
               c.after-machine.ensures
@@ -104,8 +104,8 @@ unreachable-requires g c =
     c.node.ensures.found) in
     c.in_default.not-Sequence own inside is
 
-pub slice_bounds-spot-count : goal.slice_bounds-spot-count
-slice_bounds-spot-count g c = c.in-Some.ensures.0
+pub skip-spot-requires : goal.skip-spot-requires
+skip-spot-requires g c = c.in-Some.ensures.0
 
 pub advance-requires : goal.advance-requires
 advance-requires g c = first_some (place_left c.args.spot.now.place) c.args.op.now.node c.requires.at.1

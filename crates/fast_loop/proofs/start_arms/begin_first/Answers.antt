@@ -1,6 +1,6 @@
 -- The first message of a piece.
 use Rattle.std.proofs.Common.{sym, ap, subst, arith, ◌∙◌}
-use Rattle.std.specs.Prelude.{◌≡◌, ℕ, ◌+◌, take, Result}
+use Rattle.std.specs.Prelude.{◌≡◌, ℕ, ◌+◌, ◌<◌, ◌≤◌, length, take, Result}
 use Rattle.fast_value.specs.meaning.Limits.{bounds}
 use Rattle.fast_dict.specs.meaning.Slots.{slots_dictionary}
 use Rattle.fast_stream.specs.declared.faults.FaultCode.{FaultCode}
@@ -8,8 +8,8 @@ use Rattle.fast_stream.specs.device.GrammarReaders.{reader_of}
 use Rattle.fast_cursor.specs.device.Cursors.{CursorData}
 use Rattle.fast_machine.specs.declared.machine.Machine.{Machine}
 use Rattle.fast_machine.specs.declared.machine.Turn.{Turn}
-use Rattle.fast_machine.specs.device.Positions.{placed, set_of, tree_in, meaning}
-use Rattle.fast_machine.specs.device.Starts.{message_from}
+use Rattle.fast_machine.specs.device.Positions.{placed, set_of, tree_in, meaning, IsBehindMap, IsTurn}
+use Rattle.fast_machine.specs.device.Starts.{message_from, mapped_by}
 use Rattle.fast_machine.specs.device.TurnsLeft.{most_by, HasTurnsBehind, turns_begun_at}
 use Rattle.fast_machine.specs.device.UnitTaken.{IsTakenTo}
 use Rattle.fast_machine.proofs.machines.Ahead.{behind_map}
@@ -44,10 +44,11 @@ message_begins-went-requires g c =
     record {
       place = c.place.ensures.place;
       outermost = ap (λ (x : Machine). x.cursor.frames) head.same ∙ ap (λ (x : CursorData). x.frames) place;
-      behind = behind_map set l b rest head.supplied (ap (λ (x : Machine). x.entity.bytes) head.same ∙ unused) head.ahead.map;
+      behind = subst (λ w. IsBehindMap set l (mapped_by b w)) (sym c.new.ensures)
+          (behind_map set l b rest head.supplied (ap (λ (x : Machine). x.entity.bytes) head.same ∙ unused) head.ahead.map);
       start = head.start;
-      some = omega (arith, some, within);
-      within = within;
+      some = subst (λ w. 0 < length w) (sym c.new.ensures) (omega (arith, some, within));
+      within = subst (λ w. c.in_ok-bytes.bytes ≤ length w) (sym c.new.ensures) within;
     }
 
 pub returns : goal.returns
@@ -71,7 +72,8 @@ returns g c =
     begun_to takes stops set l (meaning set l m) (slots_dictionary m.slots) rest head.bytes
     (reader_of l.strict (message_from set (bounds l) head.start.now.number ahead.template (slots_dictionary b.slots) (take 1 rest)))
     c.args.sink.now turn w.new.sink x (idle_reader set l m waits none) ahead.some ahead.within ahead.turns
-    (w.ensures.turn ahead.template ahead.found) in
+    (subst (λ v. IsTurn takes stops set l (reader_of l.strict (message_from set (bounds l) head.start.now.number ahead.template
+    (slots_dictionary b.slots) (take 1 v))) c.args.sink.now turn w.new.sink x) c.new.ensures (w.ensures.turn ahead.template ahead.found)) in
     let counts : b.turns.count ≡ m.turns.count = ap (λ (y : Machine). y.turns.count) head.ensures.same in
     record {
       none = tt;

@@ -25,7 +25,7 @@ returns-in-Err-clause-turn g c t found =
     let set = set_of c.args.templates.now in
     let l = c.args.limits in
     let m = c.args.machine.now in
-    let rest = c.args.spot.now.rest.now in
+    let rest = c.args.spot.now.rest.bytes.now in
     let x : Machine = placed m c.args.spot.now.place in
     turn_halt g.S.Sink.takes g.S.Sink.stops set l (reader_of l.strict
     (message_from set (bounds l) c.args.start.now.number t (slots_dictionary m.slots) (take 1 rest))) _
@@ -53,7 +53,7 @@ returns-clause-turn g c t found =
     let o = c.message_opens in
     subst (λ (w : Went). IsTurn g.S.Sink.takes g.S.Sink.stops set l
     (reader_of l.strict (message_from set (bounds l) c.args.start.now.number t (slots_dictionary m.slots)
-    (take 1 c.args.spot.now.rest.now))) c.args.sink.now (begun_by w) o.new.sink (placed o.new.machine o.new.spot.place))
+    (take 1 c.args.spot.now.rest.bytes.now))) c.args.sink.now (begun_by w) o.new.sink (placed o.new.machine o.new.spot.place))
     (sym o.ensures.answer) (o.ensures.turn c.args.sink.now t c.in_default.ensures found)
 
 pub returns-clause-turns : goal.returns-clause-turns

@@ -36,7 +36,7 @@ returns-then-turn_message g c = record {
       (inl b.ensures.answer) b.ensures.rest (b.ensures.waits ∙ c.requires.waits) b.ensures.place
       (λ t found. subst (λ (w : Went). IsTurn g.S.Sink.takes g.S.Sink.stops set c.args.limits
       (reader_of c.args.limits.strict (message_from set (bounds c.args.limits) c.args.start.now.number t (slots_dictionary y.slots)
-      (take 1 from.rest.now))) both.0 (begun_by w) b.new.sink (placed b.new.machine b.new.spot.place))
+      (take 1 from.rest.bytes.now))) both.0 (begun_by w) b.new.sink (placed b.new.machine b.new.spot.place))
       (sym b.ensures.answer) (b.ensures.turn both.0 t both.2 found))
       (λ way k h. subst (λ (w : Went). HasTurnsBehind (begun_by w) way set c.args.limits (1 + k) (placed b.new.machine b.new.spot.place))
       (sym b.ensures.answer) (b.ensures.turns way k h));

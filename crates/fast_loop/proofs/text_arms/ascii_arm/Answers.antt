@@ -71,8 +71,8 @@ returns-in-Some g c =
           (shape_is t l m from.place op Ascii operator optional c.requires.spot c.requires.at c.requires.field x found) refl same
           (served t l m from.place op Ascii operator optional c.requires.spot c.requires.at c.requires.field x found))
           (subst (λ (s : List ℕ). option_map scalar_data c.ascii_at-value.result ≡ value_at taken.source f (slots_dictionary slots) s
-          (drop taken.from (take taken.bytes from.rest.now))) c.as_slice-text.ensures
-          (c.ascii_at-value.ensures f optional operator (drop taken.from (take taken.bytes from.rest.now)) same c.in-Some.ensures.source)));
+          (drop taken.from (take taken.bytes from.rest.bytes.now))) c.as_slice-text.ensures
+          (c.ascii_at-value.ensures f optional operator (drop taken.from (take taken.bytes from.rest.bytes.now)) same c.in-Some.ensures.source)));
     }
 
 pub returns-in-None : goal.returns-in-None
@@ -96,8 +96,8 @@ returns-in-None g c =
       slots = slots;
       text = text;
     } ≡ m = ap (λ (s : Slots). record m { slots = s; text = text }) none.0 ∙ ap (λ (v : Scratch). record m { text = v }) none.1 in
-    let told = subst (λ (a : Machine). kept.result ≡ true → IsKeptAs Text a kept.new.machine from.rest.now × (0 < length from.rest.now)
-    × ((nullable : Bool) → ascii_text nullable (slots_terms a.slots).max_text from.rest.now [] cut)) same kept.ensures.kept in
+    let told = subst (λ (a : Machine). kept.result ≡ true → IsKeptAs Text a kept.new.machine from.rest.bytes.now × (0 < length from.rest.bytes.now)
+    × ((nullable : Bool) → ascii_text nullable (slots_terms a.slots).max_text from.rest.bytes.now [] cut)) same kept.ensures.kept in
     record {
       went = kept_or_not g.S.Sink.takes g.S.Sink.stops (set_of t) l m kept.new.machine from done.new.spot done.result c.args.sink.now kept.result
           (λ e.
@@ -110,6 +110,6 @@ returns-in-None g c =
           (subst (λ (b : Bool). (b ≡ false) ⊎ (first_bit (bits_left (at_place m.cursor from.place)) ≡ true)) c.uses_bit-has_bit.ensures
           (c.in-Sent.ensures.sent refl m.cursor c.requires.spot.place)))
           (own.kind, λ i. c.requires.no_delta (sym own.operator ∙ i)) in_hand some
-          (λ nullable. subst (λ (most : ℕ). ascii_text nullable most from.rest.now [] cut) c.requires.spot.can.supplied.max_text (front nullable)))
+          (λ nullable. subst (λ (most : ℕ). ascii_text nullable most from.rest.bytes.now [] cut) c.requires.spot.can.supplied.max_text (front nullable)))
           done.ensures.declined (λ e. kept.ensures.same e ∙ same);
     }

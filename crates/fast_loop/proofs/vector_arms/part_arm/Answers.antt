@@ -56,7 +56,7 @@ returns-in-Some g c =
           taken.source taken.from taken.bytes [] (option_map scalar_data c.kept_at-value.result) (λ e. cc e)
           (inl refl) c.in-Some.ensures.terms refl c.in-Some.ensures.joined
           (c.in-Some.ensures.unit f [] same (served t l m from.place op kind Delta optional c.requires.spot c.requires.at c.requires.field x found))
-          (c.kept_at-value.ensures f optional Delta [] (drop taken.from (take taken.bytes from.rest.now)) same refl));
+          (c.kept_at-value.ensures f optional Delta [] (drop taken.from (take taken.bytes from.rest.bytes.now)) same refl));
     }
 
 pub keep_delta-kept-requires-clause-there : goal.keep_delta-kept-requires-clause-there
@@ -88,8 +88,8 @@ returns-in-None g c =
       slots = slots;
       joined = joined;
     } ≡ m = ap (λ (s : Slots). record m { slots = s; joined = joined }) none.0 ∙ ap (λ (j : Scratch). record m { joined = j }) none.1 in
-    let told = subst (λ (a : Machine). kept.result ≡ true → (r : BegunText) × IsKeptFrom a kept.new.machine from.rest.now r
-    × IsBegunText kind optional Delta op.entry l.strict (slots_terms a.slots).max_text from.rest.now a.slots r) same
+    let told = subst (λ (a : Machine). kept.result ≡ true → (r : BegunText) × IsKeptFrom a kept.new.machine from.rest.bytes.now r
+    × IsBegunText kind optional Delta op.entry l.strict (slots_terms a.slots).max_text from.rest.bytes.now a.slots r) same
     kept.ensures.kept in
     record {
       went = kept_or_not g.S.Sink.takes g.S.Sink.stops (set_of t) l m kept.new.machine from done.new.spot done.result c.args.sink.now kept.result

@@ -54,7 +54,7 @@ returns-in-Some g c =
           taken.source taken.from taken.bytes [] (option_map scalar_data c.kept_at-value.result) (λ e. cc e)
           (c.in-Sent.ensures.sent refl m.cursor c.requires.spot.place) c.in-Some.ensures.terms refl refl
           (c.in-Some.ensures.unit f [] same (served t l m from.place op kind Tail optional c.requires.spot c.requires.at c.requires.field x found))
-          (c.kept_at-value.ensures f optional Tail [] (drop taken.from (take taken.bytes from.rest.now)) same refl));
+          (c.kept_at-value.ensures f optional Tail [] (drop taken.from (take taken.bytes from.rest.bytes.now)) same refl));
     }
 
 pub returns-in-None : goal.returns-in-None
@@ -73,8 +73,9 @@ returns-in-None g c =
     let (x, found) = op_node t m from.place op c.requires.at in
     let f = field_of t l m from.place op kind Tail optional c.requires.spot c.requires.at c.requires.field x found in
     let same : record m { slots = slots } ≡ m = ap (λ (s : Slots). record m { slots = s }) none in
-    let told = subst (λ (a : Machine). kept.result ≡ true → (r : BegunText) × IsKeptFrom a kept.new.machine from.rest.now r
-    × ((entry : ℕ) (s : Slots) → IsBegunText kind optional Tail entry l.strict (slots_terms a.slots).max_text from.rest.now s r)) same kept.ensures.kept in
+    let told = subst (λ (a : Machine). kept.result ≡ true → (r : BegunText) × IsKeptFrom a kept.new.machine from.rest.bytes.now r
+    × ((entry : ℕ) (s : Slots) → IsBegunText kind optional Tail entry l.strict (slots_terms a.slots).max_text from.rest.bytes.now s r)) same
+    kept.ensures.kept in
     record {
       went = kept_or_not g.S.Sink.takes g.S.Sink.stops (set_of t) l m kept.new.machine from done.new.spot done.result c.args.sink.now kept.result
           (λ e.

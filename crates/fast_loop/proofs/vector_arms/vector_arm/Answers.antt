@@ -35,7 +35,7 @@ returns-in-Some g c =
           c.requires.field x found))
           (c.lent_at-value.ensures f (slots_dictionary m.slots) [] same.kind
           ∙ ap (value_at taken.source f (slots_dictionary m.slots) [])
-          (bytes_between taken.from taken.bytes from.rest.now c.in-Some.ensures.within.0)));
+          (bytes_between taken.from taken.bytes from.rest.bytes.now c.in-Some.ensures.within.0)));
     }
 
 pub returns-in-None : goal.returns-in-None

@@ -1,6 +1,5 @@
 -- The step, by how it ended.
 use Rattle.std.proofs.Common.{refl, ap, ◌∙◌, subst, arith, sym}
-use Rattle.std.proofs.lemmas.List.{take_rest}
 use Rattle.std.specs.Prelude.{◌≡◌, drop, Ok, Err}
 use Rattle.fast_machine.specs.declared.machine.Turn.TheVariants.{Silent, Handed, Waits}
 use Rattle.fast_cursor.specs.device.Cursors.{CursorData}
@@ -19,12 +18,12 @@ returns-then-step-gt0-2 g c =
         c.general_step-step.result.bytes,
         c.if-step-gt0-2.true,
         record {
-          rest = take_rest c.args.spot.now.rest.now c.general_step-step.result.bytes;
+          rest = c.skip-spot.ensures;
           waits = c.general_step-step.ensures.waits Silent (is) (λ e. cc e);
           place = c.place-spot.ensures.place;
           step = took_handed g.S.Sink.takes g.S.Sink.stops (set_of c.args.templates.now) c.args.limits.now
               (placed c.args.machine.now c.args.spot.now.place) (placed c.general_step-step.new.machine c.place-spot.result)
-              c.args.spot.now.rest.now c.args.sink.now c.general_step-step.result.bytes Silent c.general_step-step.new.sink
+              c.args.spot.now.rest.bytes.now c.args.sink.now c.general_step-step.result.bytes Silent c.general_step-step.new.sink
               c.if-step-gt0-2.true (λ e. cc e)
               (step_at g.S.Sink.takes g.S.Sink.stops (set_of c.args.templates.now) c.args.limits.now c.args.machine.now c.args.spot.now
               c.args.sink.now c.set_place.new.self c.general_step-step.result.bytes
@@ -38,9 +37,9 @@ pub returns-in-Err : goal.returns-in-Err
 returns-in-Err g c = record {
   gone = (
     c.general_step-step.result.bytes,
-    take_rest c.args.spot.now.rest.now c.general_step-step.result.bytes,
+    c.skip-spot.ensures,
     subst (λ (b : Machine). IsStep g.S.Sink.takes g.S.Sink.stops (set_of c.args.templates.now) c.args.limits.now
-        (placed c.args.machine.now c.args.spot.now.place) c.args.spot.now.rest.now c.args.sink.now (record {
+        (placed c.args.machine.now c.args.spot.now.place) c.args.spot.now.rest.bytes.now c.args.sink.now (record {
           bytes = c.general_step-step.result.bytes;
           turn = Err c.in-Err.code;
         }) c.general_step-step.new.sink b)
@@ -58,7 +57,7 @@ returns-else-step-gt0 g c =
     let none : c.general_step-step.result.bytes ≡ 0 = let few = c.if-step-gt0.false in omega (arith, few) in
     record {
       gone = record {
-        rest = take_rest c.args.spot.now.rest.now c.general_step-step.result.bytes ∙ ap (λ k. drop k c.args.spot.now.rest.now) none;
+        rest = c.skip-spot.ensures ∙ ap (λ k. drop k c.args.spot.now.rest.bytes.now) none;
         waits = c.general_step-step.ensures.waits Handed (is) (λ e. cc e);
         place = c.place-spot.ensures.place;
         step = step_at g.S.Sink.takes g.S.Sink.stops (set_of c.args.templates.now) c.args.limits.now c.args.machine.now c.args.spot.now
@@ -74,7 +73,7 @@ returns-else-step-gt0-2 g c =
     let none : c.general_step-step.result.bytes ≡ 0 = let few = c.if-step-gt0-2.false in omega (arith, few) in
     record {
       gone = record {
-        rest = take_rest c.args.spot.now.rest.now c.general_step-step.result.bytes ∙ ap (λ k. drop k c.args.spot.now.rest.now) none;
+        rest = c.skip-spot.ensures ∙ ap (λ k. drop k c.args.spot.now.rest.bytes.now) none;
         waits = c.general_step-step.ensures.waits Silent (is) (λ e. cc e);
         place = c.place-spot.ensures.place;
         step = step_at g.S.Sink.takes g.S.Sink.stops (set_of c.args.templates.now) c.args.limits.now c.args.machine.now c.args.spot.now
@@ -92,12 +91,12 @@ returns-then-step-gt0 g c =
         c.general_step-step.result.bytes,
         c.if-step-gt0.true,
         record {
-          rest = take_rest c.args.spot.now.rest.now c.general_step-step.result.bytes;
+          rest = c.skip-spot.ensures;
           waits = c.general_step-step.ensures.waits Handed (is) (λ e. cc e);
           place = c.place-spot.ensures.place;
           step = took_handed g.S.Sink.takes g.S.Sink.stops (set_of c.args.templates.now) c.args.limits.now
               (placed c.args.machine.now c.args.spot.now.place) (placed c.general_step-step.new.machine c.place-spot.result)
-              c.args.spot.now.rest.now c.args.sink.now c.general_step-step.result.bytes Handed c.general_step-step.new.sink
+              c.args.spot.now.rest.bytes.now c.args.sink.now c.general_step-step.result.bytes Handed c.general_step-step.new.sink
               c.if-step-gt0.true (λ e. cc e)
               (step_at g.S.Sink.takes g.S.Sink.stops (set_of c.args.templates.now) c.args.limits.now c.args.machine.now c.args.spot.now
               c.args.sink.now c.set_place.new.self c.general_step-step.result.bytes
@@ -111,9 +110,9 @@ pub returns-in-Waits : goal.returns-in-Waits
 returns-in-Waits g c = record {
   gone = (
     c.general_step-step.result.bytes,
-    take_rest c.args.spot.now.rest.now c.general_step-step.result.bytes,
+    c.skip-spot.ensures,
     subst (λ (b : Machine). IsStep g.S.Sink.takes g.S.Sink.stops (set_of c.args.templates.now) c.args.limits.now
-        (placed c.args.machine.now c.args.spot.now.place) c.args.spot.now.rest.now c.args.sink.now (record {
+        (placed c.args.machine.now c.args.spot.now.place) c.args.spot.now.rest.bytes.now c.args.sink.now (record {
           bytes = c.general_step-step.result.bytes;
           turn = Ok Waits;
         }) c.general_step-step.new.sink b)
@@ -135,5 +134,5 @@ general_step-step-requires-clause-turn g c = subst (λ (x : CursorData). CanTurn
 pub general_step-step-requires-clause-waits : goal.general_step-step-requires-clause-waits
 general_step-step-requires-clause-waits g c = c.requires.spot.waits
 
-pub slice_bounds-spot-count : goal.slice_bounds-spot-count
-slice_bounds-spot-count g c = c.general_step-step.ensures.step.within
+pub skip-spot-requires : goal.skip-spot-requires
+skip-spot-requires g c = c.general_step-step.ensures.step.within

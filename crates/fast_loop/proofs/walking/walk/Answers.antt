@@ -223,7 +223,7 @@ went_here g c =
 
 -- What was known before the general step.
 abbrev before_general : (g : Over) → After-or_general g → After-or_general-arg-in-silent-1 g
-before_general g c = record { before = c.before.before; type_inv = record { piece = c.type_inv.piece } }
+before_general g c = c.before
 
 pub or_general-requires : goal.or_general-requires
 or_general-requires g c =
@@ -245,7 +245,7 @@ units-preserved-in-Took g c =
     let (n, some, w) = c.in-Took.ensures.went in
     record {
       far = went_far g.S.Sink.takes g.S.Sink.stops (set_of c.args.templates.now) c.args.limits.now c.silent.machine c.silent.spot
-          c.silent.sink n Handed c.group_arm.new.sink c.group_arm.new.machine c.group_arm.new.spot w c.args.machine.now c.args.piece.now
+          c.silent.sink n Handed c.group_arm.new.sink c.group_arm.new.machine c.group_arm.new.spot w c.args.machine.now c.args.piece.bytes.now
           c.args.sink.now (λ e. cc e) c.silent.invariant.far;
       waits = w.waits;
       place = w.place;
@@ -260,7 +260,7 @@ events-preserved-in-Handed g c =
     let more = c.events.invariant.left in
     record {
       far = went_far g.S.Sink.takes g.S.Sink.stops (set_of c.args.templates.now) c.args.limits.now c.silent.machine c.silent.spot
-          c.silent.sink 0 Handed c.group_arm.new.sink c.group_arm.new.machine c.group_arm.new.spot w c.args.machine.now c.args.piece.now
+          c.silent.sink 0 Handed c.group_arm.new.sink c.group_arm.new.machine c.group_arm.new.spot w c.args.machine.now c.args.piece.bytes.now
           c.args.sink.now (λ e. cc e) c.silent.invariant.far;
       waits = w.waits;
       place = w.place;
@@ -273,7 +273,7 @@ units-preserved-in-Took-group_arm g c =
     record {
       far = went_far g.S.Sink.takes g.S.Sink.stops (set_of c.args.templates.now) c.args.limits.now c.silent.machine c.silent.spot
           c.silent.sink n Handed c.group_arm-in-OptionalGroup.new.sink c.group_arm-in-OptionalGroup.new.machine
-          c.group_arm-in-OptionalGroup.new.spot w c.args.machine.now c.args.piece.now c.args.sink.now (λ e. cc e) c.silent.invariant.far;
+          c.group_arm-in-OptionalGroup.new.spot w c.args.machine.now c.args.piece.bytes.now c.args.sink.now (λ e. cc e) c.silent.invariant.far;
       waits = w.waits;
       place = w.place;
     }
@@ -289,7 +289,7 @@ events-preserved-in-Handed-group_arm g c =
     record {
       far = went_far g.S.Sink.takes g.S.Sink.stops (set_of c.args.templates.now) c.args.limits.now c.silent.machine c.silent.spot
           c.silent.sink 0 Handed c.group_arm-in-OptionalGroup.new.sink c.group_arm-in-OptionalGroup.new.machine
-          c.group_arm-in-OptionalGroup.new.spot w c.args.machine.now c.args.piece.now c.args.sink.now (λ e. cc e) c.silent.invariant.far;
+          c.group_arm-in-OptionalGroup.new.spot w c.args.machine.now c.args.piece.bytes.now c.args.sink.now (λ e. cc e) c.silent.invariant.far;
       waits = w.waits;
       place = w.place;
       left = omega (arith, left, before, more);
@@ -301,7 +301,7 @@ units-preserved-in-Took-sequence_arm g c =
     record {
       far = went_far g.S.Sink.takes g.S.Sink.stops (set_of c.args.templates.now) c.args.limits.now c.silent.machine c.silent.spot
           c.silent.sink n Handed c.sequence_arm.new.sink c.sequence_arm.new.machine c.sequence_arm.new.spot w c.args.machine.now
-          c.args.piece.now c.args.sink.now (λ e. cc e) c.silent.invariant.far;
+          c.args.piece.bytes.now c.args.sink.now (λ e. cc e) c.silent.invariant.far;
       waits = w.waits;
       place = w.place;
     }
@@ -316,7 +316,7 @@ events-preserved-in-Handed-sequence_arm g c =
     record {
       far = went_far g.S.Sink.takes g.S.Sink.stops (set_of c.args.templates.now) c.args.limits.now c.silent.machine c.silent.spot
           c.silent.sink 0 Handed c.sequence_arm.new.sink c.sequence_arm.new.machine c.sequence_arm.new.spot w c.args.machine.now
-          c.args.piece.now c.args.sink.now (λ e. cc e) c.silent.invariant.far;
+          c.args.piece.bytes.now c.args.sink.now (λ e. cc e) c.silent.invariant.far;
       waits = w.waits;
       place = w.place;
       left = omega (arith, left, before, more);
@@ -328,7 +328,7 @@ units-preserved-in-Took-sequence_arm-2 g c =
     record {
       far = went_far g.S.Sink.takes g.S.Sink.stops (set_of c.args.templates.now) c.args.limits.now c.silent.machine c.silent.spot
           c.silent.sink n Handed c.sequence_arm-in-OptionalSequence.new.sink c.sequence_arm-in-OptionalSequence.new.machine
-          c.sequence_arm-in-OptionalSequence.new.spot w c.args.machine.now c.args.piece.now c.args.sink.now
+          c.sequence_arm-in-OptionalSequence.new.spot w c.args.machine.now c.args.piece.bytes.now c.args.sink.now
           (λ e. cc e) c.silent.invariant.far;
       waits = w.waits;
       place = w.place;
@@ -345,7 +345,7 @@ events-preserved-in-Handed-sequence_arm-2 g c =
     record {
       far = went_far g.S.Sink.takes g.S.Sink.stops (set_of c.args.templates.now) c.args.limits.now c.silent.machine c.silent.spot
           c.silent.sink 0 Handed c.sequence_arm-in-OptionalSequence.new.sink c.sequence_arm-in-OptionalSequence.new.machine
-          c.sequence_arm-in-OptionalSequence.new.spot w c.args.machine.now c.args.piece.now c.args.sink.now
+          c.sequence_arm-in-OptionalSequence.new.spot w c.args.machine.now c.args.piece.bytes.now c.args.sink.now
           (λ e. cc e) c.silent.invariant.far;
       waits = w.waits;
       place = w.place;
@@ -357,7 +357,7 @@ units-preserved-in-Took-end_arm g c =
     let (n, some, w) = c.in-Took-end_arm.ensures.went in
     record {
       far = went_far g.S.Sink.takes g.S.Sink.stops (set_of c.args.templates.now) c.args.limits.now c.silent.machine c.silent.spot
-          c.silent.sink n Handed c.end_arm.new.sink c.end_arm.new.machine c.end_arm.new.spot w c.args.machine.now c.args.piece.now
+          c.silent.sink n Handed c.end_arm.new.sink c.end_arm.new.machine c.end_arm.new.spot w c.args.machine.now c.args.piece.bytes.now
           c.args.sink.now (λ e. cc e) c.silent.invariant.far;
       waits = w.waits;
       place = w.place;
@@ -372,7 +372,7 @@ events-preserved-in-Handed-end_arm g c =
     let more = c.events.invariant.left in
     record {
       far = went_far g.S.Sink.takes g.S.Sink.stops (set_of c.args.templates.now) c.args.limits.now c.silent.machine c.silent.spot
-          c.silent.sink 0 Handed c.end_arm.new.sink c.end_arm.new.machine c.end_arm.new.spot w c.args.machine.now c.args.piece.now
+          c.silent.sink 0 Handed c.end_arm.new.sink c.end_arm.new.machine c.end_arm.new.spot w c.args.machine.now c.args.piece.bytes.now
           c.args.sink.now (λ e. cc e) c.silent.invariant.far;
       waits = w.waits;
       place = w.place;
@@ -398,7 +398,7 @@ units-preserved g c =
     let (n, some, w) = c.in-Took-or_general.ensures.gone c.silent.machine c.silent.spot c.silent.sink went in
     record {
       far = went_far g.S.Sink.takes g.S.Sink.stops (set_of c.args.templates.now) c.args.limits.now c.silent.machine c.silent.spot
-          c.silent.sink n Handed c.or_general.new.sink c.or_general.new.machine c.or_general.new.spot w c.args.machine.now c.args.piece.now
+          c.silent.sink n Handed c.or_general.new.sink c.or_general.new.machine c.or_general.new.spot w c.args.machine.now c.args.piece.bytes.now
           c.args.sink.now (λ e. cc e) c.silent.invariant.far;
       waits = w.waits;
       place = w.place;
@@ -422,7 +422,7 @@ events-preserved g c =
     let more = c.events.invariant.left in
     record {
       far = went_far g.S.Sink.takes g.S.Sink.stops (set_of c.args.templates.now) c.args.limits.now c.silent.machine c.silent.spot
-          c.silent.sink 0 Handed c.or_general.new.sink c.or_general.new.machine c.or_general.new.spot w c.args.machine.now c.args.piece.now
+          c.silent.sink 0 Handed c.or_general.new.sink c.or_general.new.machine c.or_general.new.spot w c.args.machine.now c.args.piece.bytes.now
           c.args.sink.now (λ e. cc e) c.silent.invariant.far;
       waits = w.waits;
       place = w.place;
@@ -434,7 +434,7 @@ op_at-requires-in-Silent g c =
     let went = went_here g (before_general g (goal.at.op_at-requires-in-Silent g c).After-or_general) in
     let w = c.in-Silent.ensures.gone c.silent.machine c.silent.spot c.silent.sink went in
     let far = went_far g.S.Sink.takes g.S.Sink.stops (set_of c.args.templates.now) c.args.limits.now c.silent.machine c.silent.spot
-    c.silent.sink 0 Silent c.or_general.new.sink c.or_general.new.machine c.or_general.new.spot w c.args.machine.now c.args.piece.now
+    c.silent.sink 0 Silent c.or_general.new.sink c.or_general.new.machine c.or_general.new.spot w c.args.machine.now c.args.piece.bytes.now
     c.args.sink.now (λ e. cc e) c.silent.invariant.far in
     record { spot = record { waits = w.waits; place = w.place; can = far.turn } }
 
@@ -453,7 +453,7 @@ silent-preserved g c =
     let before = c.silent.invariant.left in
     record {
       far = went_far g.S.Sink.takes g.S.Sink.stops (set_of c.args.templates.now) c.args.limits.now c.silent.machine c.silent.spot
-          c.silent.sink 0 Silent c.or_general.new.sink c.or_general.new.machine c.or_general.new.spot w c.args.machine.now c.args.piece.now
+          c.silent.sink 0 Silent c.or_general.new.sink c.or_general.new.machine c.or_general.new.spot w c.args.machine.now c.args.piece.bytes.now
           c.args.sink.now (λ e. cc e) c.silent.invariant.far;
       waits = w.waits;
       place = w.place;
@@ -467,7 +467,7 @@ pub overflow_sub-result : goal.overflow_sub-result
 overflow_sub-result g c =
     let went = went_here g (before_general g (goal.at.overflow_sub-result g c).After-or_general) in
     let (n, rest, step) = c.in-Ended.ensures.gone c.silent.machine c.silent.spot c.silent.sink went in
-    let left = ap length rest ∙ length-drop n c.silent.spot.rest.now in
+    let left = ap length rest ∙ length-drop n c.silent.spot.rest.bytes.now in
     let within = c.silent.invariant.far.within in
     omega (arith, left, within)
 
@@ -479,14 +479,14 @@ returns-in-Ended-clause-step g c =
     let l = c.args.limits.now in
     let went = went_here g (before_general g (goal.at.returns-in-Ended-clause-step g c).After-or_general) in
     let (n, rest, step) = c.in-Ended.ensures.gone c.silent.machine c.silent.spot c.silent.sink went in
-    subst (λ (turn : Result Turn FaultCode). IsStep takes stops set l c.args.machine.now c.args.piece.now c.args.sink.now (record {
-      bytes = length c.args.piece.now - length c.or_general.new.spot.rest.now;
+    subst (λ (turn : Result Turn FaultCode). IsStep takes stops set l c.args.machine.now c.args.piece.bytes.now c.args.sink.now (record {
+      bytes = length c.args.piece.bytes.now - length c.or_general.new.spot.rest.bytes.now;
       turn = turn;
     }) c.or_general.new.sink c.or_general.new.machine)
     (sym c.ended.ensures)
     (gone_end g.S.Sink.takes g.S.Sink.stops (set_of c.args.templates.now) c.args.limits.now c.silent.machine c.silent.spot c.silent.sink n
-    c.in-Ended.outcome c.or_general.new.sink c.or_general.new.machine c.or_general.new.spot.rest.now c.args.machine.now
-    c.args.piece.now c.args.sink.now rest step c.silent.invariant.far)
+    c.in-Ended.outcome c.or_general.new.sink c.or_general.new.machine c.or_general.new.spot.rest.bytes.now c.args.machine.now
+    c.args.piece.bytes.now c.args.sink.now rest step c.silent.invariant.far)
 
 pub uint32_arm-went-requires-clause-field : goal.uint32_arm-went-requires-clause-field
 uint32_arm-went-requires-clause-field g c = λ x found. shape_at c.op_at-op.result.now x.shape UInt32Plain refl

@@ -10,23 +10,23 @@ use Rattle.fast_loop.proofs.walking.walk.Given as goal
 -- The steps so far.
 abbrev pub invariant-units : goal.invariant-units
 invariant-units g l = record {
-  far : IsSoFar g.S.Sink.takes g.S.Sink.stops (set_of l.templates) l.limits l.fn.machine l.piece l.fn.sink l.spot.rest.now l.sink
+  far : IsSoFar g.S.Sink.takes g.S.Sink.stops (set_of l.templates) l.limits l.fn.machine l.piece.bytes.now l.fn.sink l.spot.rest.bytes.now l.sink
       (placed l.machine l.spot.place);
   waits : l.machine.waiting ≡ Field;
   place : IsPlaceOf l.machine.cursor l.spot.place;
 }
 
 abbrev pub decreases-units : goal.decreases-units
-decreases-units g l = length l.spot.rest.now
+decreases-units g l = length l.spot.rest.bytes.now
 
 -- No byte is taken between two events.
 abbrev pub invariant-events : goal.invariant-events
 invariant-events g l = record {
-  far : IsSoFar g.S.Sink.takes g.S.Sink.stops (set_of l.templates) l.limits l.fn.machine l.piece l.fn.sink l.spot.rest.now l.sink
+  far : IsSoFar g.S.Sink.takes g.S.Sink.stops (set_of l.templates) l.limits l.fn.machine l.piece.bytes.now l.fn.sink l.spot.rest.bytes.now l.sink
       (placed l.machine l.spot.place);
   waits : l.machine.waiting ≡ Field;
   place : IsPlaceOf l.machine.cursor l.spot.place;
-  left : length l.spot.rest.now ≤ length l.initial.spot.rest.now;
+  left : length l.spot.rest.bytes.now ≤ length l.initial.spot.rest.bytes.now;
 }
 
 abbrev pub decreases-events : goal.decreases-events
@@ -35,11 +35,11 @@ decreases-events g l = events_due (turning (set_of l.templates) l.limits (placed
 -- Turns that hand nothing over leave what is to be read. The code at hand is that of the op at the place.
 abbrev pub invariant-silent : goal.invariant-silent
 invariant-silent g l = record {
-  far : IsSoFar g.S.Sink.takes g.S.Sink.stops (set_of l.templates) l.limits l.fn.machine l.piece l.fn.sink l.spot.rest.now l.sink
+  far : IsSoFar g.S.Sink.takes g.S.Sink.stops (set_of l.templates) l.limits l.fn.machine l.piece.bytes.now l.fn.sink l.spot.rest.bytes.now l.sink
       (placed l.machine l.spot.place);
   waits : l.machine.waiting ≡ Field;
   place : IsPlaceOf l.machine.cursor l.spot.place;
-  left : length l.spot.rest.now ≤ length l.initial.spot.rest.now;
+  left : length l.spot.rest.bytes.now ≤ length l.initial.spot.rest.bytes.now;
   code : (op : Op) → slice_get l.spot.place.ahead.now 0 ≡ Some op → l.code ≡ op.code;
   same : turning (set_of l.templates) l.limits (placed l.machine l.spot.place) ≡ turning (set_of l.templates) l.limits
       (placed l.initial.machine l.initial.spot.place);

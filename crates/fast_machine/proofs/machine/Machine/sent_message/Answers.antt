@@ -1,5 +1,5 @@
 -- A map of one byte, and the identifier behind it.
-use Rattle.std.proofs.Common.{refl, ◌≡◌, ◌≤◌, subst, arith, rules, get_or, length, take, drop}
+use Rattle.std.proofs.Common.{refl, ◌∙◌, ◌≡◌, ◌≤◌, subst, arith, rules, get_or, length, take, drop}
 use Rattle.std.specs.Prelude.{◌-◌, ℕ, Option, false, pos, Some, option_map}
 use Rattle.std.proofs.lemmas.List.{length-drop, take_all}
 use Rattle.fast_wire.specs.meaning.Integers.{unsigned_up_to}
@@ -30,9 +30,9 @@ returns-clause-ahead c =
     let len : length (drop 1 rest) ≡ length rest - 1 = length-drop 1 rest in
     let behind : take (length rest - 1) (drop 1 rest) ≡ drop 1 rest = take_all (length rest - 1) (drop 1 rest) (omega (arith, len)) in
     let whole : IsFirstInt (λ (y : ℕ). Some (pos y)) l.strict (unsigned_up_to 4294967295) false (Whole id n) (drop 1 rest) =
-    subst (λ w. IsFirstInt (λ (y : ℕ). Some (pos y)) l.strict (unsigned_up_to 4294967295) false (Whole id n) w) behind
+    subst (λ w. IsFirstInt (λ (y : ℕ). Some (pos y)) l.strict (unsigned_up_to 4294967295) false (Whole id n) w) (c.new.ensures ∙ behind)
     (subst (λ (r : Option ℕ). IsFirstInt (λ (y : Option ℕ). option_map pos y) l.strict (unsigned_up_to 4294967295) false (Whole r n)
-    (take (length rest - 1) (drop 1 rest))) c.in_ok-id.was c.in_ok-claimed.ensures) in
+    c.new.result.bytes.now) c.in_ok-id.was c.in_ok-claimed.ensures) in
     let high : 192 ≤ get_or rest 0 0 = search (rules, c.requires.first) in
     let stop : 128 ≤ get_or rest 0 0 = omega (arith, high) in
     ahead_sent set l c.args.self.now rest c.requires.supplied c.requires.unused c.requires.some stop id c.in_ok-start.start.now.number
