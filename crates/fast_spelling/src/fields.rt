@@ -15,6 +15,7 @@ ghost use Rattle.fast_dict.specs.meaning.Operators.{delta_base, nothing};
 ghost use Rattle.fast_dict.specs.meaning.Previous.{previous_data};
 ghost use Rattle.fast_dict.specs.meaning.Rule.{Rule};
 ghost use Rattle.fast_dict.specs.meaning.Sending.{sent_data};
+ghost use Rattle.fast_spelling.specs.device.Places.{field_there};
 ghost use Rattle.fast_spelling.specs.meaning.Encoding.{EncodesField};
 ghost use Rattle.fast_spelling.specs.device.Drafts.{IsSendable, IsTold};
 ghost use Rattle.fast_spelling.specs.device.Fields.{IsServed, IsSuited, IsNarrow, Wrote, next_by, next_of};
@@ -148,17 +149,17 @@ pub fn send(
     bit: bool,
     item: Sent<'_>,
 ) -> Result<(), EncodeFault>
-    requires operator { at.field.now.operator ≡ operator }
-    requires served { IsServed ledger.old (field_data at.field.now) }
-    requires suited { IsSuited ledger.old.max_text (field_data at.field.now) (option_map scalar_data value) }
-    requires ruled { Rule (field_data at.field.now) (previous_at (field_data at.field.now).entry ledger.old.now)
+    requires operator { (field_there at.place).operator ≡ operator }
+    requires served { IsServed ledger.old (field_data (field_there at.place)) }
+    requires suited { IsSuited ledger.old.max_text (field_data (field_there at.place)) (option_map scalar_data value) }
+    requires ruled { Rule (field_data (field_there at.place)) (previous_at (field_data (field_there at.place)).entry ledger.old.now)
         (option_map scalar_data value) bit (sent_data item) }
-    requires sendable { IsSendable (field_data at.field.now) (sent_data item) }
+    requires sendable { IsSendable (field_data (field_there at.place)) (sent_data item) }
     ensures ok { OnOk result ((l : Limits) → l.max_text ≡ ledger.old.max_text
-        → Wrote (EncodesField l (field_data at.entry.field.now) ledger.old.now (option_map scalar_data value.entry))
+        → Wrote (EncodesField l (field_data (field_there at.entry.place)) ledger.old.now (option_map scalar_data value.entry))
         draft.old draft.new ledger.new.now) }
     ensures err { IfErr result
-        (IsTold (RefusesField (field_data at.entry.field.now) ledger.old.now (option_map scalar_data value.entry))) }
+        (IsTold (RefusesField (field_data (field_there at.entry.place)) ledger.old.now (option_map scalar_data value.entry))) }
     ensures before { ledger.new.before ≡ ledger.old.before }
     ensures max_text { ledger.new.max_text ≡ ledger.old.max_text }
     ensures length { length ledger.new.now ≡ length ledger.old.now }
@@ -184,16 +185,16 @@ pub fn leave_out(
     operator: Operator,
     value: Scalar<'_>,
 ) -> Result<(), EncodeFault>
-    requires operator { at.field.now.operator ≡ operator }
-    requires served { IsServed ledger.old (field_data at.field.now) }
-    requires suited { IsSuited ledger.old.max_text (field_data at.field.now) (Some (scalar_data value)) }
-    requires ruled { Rule (field_data at.field.now) (previous_at (field_data at.field.now).entry ledger.old.now)
+    requires operator { (field_there at.place).operator ≡ operator }
+    requires served { IsServed ledger.old (field_data (field_there at.place)) }
+    requires suited { IsSuited ledger.old.max_text (field_data (field_there at.place)) (Some (scalar_data value)) }
+    requires ruled { Rule (field_data (field_there at.place)) (previous_at (field_data (field_there at.place)).entry ledger.old.now)
         (Some (scalar_data value)) false nothing }
     ensures ok { OnOk result ((l : Limits) → l.max_text ≡ ledger.old.max_text
-        → Wrote (EncodesField l (field_data at.entry.field.now) ledger.old.now (Some (scalar_data value.entry)))
+        → Wrote (EncodesField l (field_data (field_there at.entry.place)) ledger.old.now (Some (scalar_data value.entry)))
         draft.old draft.new ledger.new.now) }
     ensures err { IfErr result
-        (IsTold (RefusesField (field_data at.entry.field.now) ledger.old.now (Some (scalar_data value.entry)))) }
+        (IsTold (RefusesField (field_data (field_there at.entry.place)) ledger.old.now (Some (scalar_data value.entry)))) }
     ensures before { ledger.new.before ≡ ledger.old.before }
     ensures max_text { ledger.new.max_text ≡ ledger.old.max_text }
     ensures length { length ledger.new.now ≡ length ledger.old.now }
@@ -206,8 +207,8 @@ pub fn leave_out(
 /// Returns whether a field with this operator has a presence bit.
 #[inline(always)]
 fn uses_bit(at: Known<'_>, operator: Operator) -> bool
-    requires { at.field.now.operator ≡ operator }
-    ensures { result ≡ uses_bit (field_data at.entry.field.now) }
+    requires { (field_there at.place).operator ≡ operator }
+    ensures { result ≡ uses_bit (field_data (field_there at.entry.place)) }
 {
     match operator {
         Operator::None | Operator::Delta => false,
@@ -232,8 +233,8 @@ pub fn keeps(operator: Operator) -> bool
 /// Returns the previous value that the field's operator reads.
 #[inline(always)]
 pub fn previous_of<'a>(ledger: &'a Ledger, at: Known<'_>) -> Previous<'a>
-    requires { IsServed ledger.now (field_data at.field.now) }
-    ensures value { previous_data result ≡ previous_at (field_data at.entry.field.now).entry ledger.now.now }
+    requires { IsServed ledger.now (field_data (field_there at.place)) }
+    ensures value { previous_data result ≡ previous_at (field_data (field_there at.entry.place)).entry ledger.now.now }
     ensures short { text_size (previous_data result) ≤ ledger.now.max_text }
 {
     match at.entry {
@@ -278,11 +279,11 @@ fn keep(
     operator: Operator,
     value: Option<Scalar<'_>>,
 ) -> Result<(), AllocError>
-    requires operator { at.field.now.operator ≡ operator }
-    requires served { IsServed ledger.old (field_data at.field.now) }
-    requires suited { IsSuited ledger.old.max_text (field_data at.field.now) (option_map scalar_data value) }
-    ensures now { OnOk result (ledger.new.now ≡ write_at (field_data at.entry.field.now).entry
-        (next_of (field_data at.entry.field.now) (previous_at (field_data at.entry.field.now).entry ledger.old.now)
+    requires operator { (field_there at.place).operator ≡ operator }
+    requires served { IsServed ledger.old (field_data (field_there at.place)) }
+    requires suited { IsSuited ledger.old.max_text (field_data (field_there at.place)) (option_map scalar_data value) }
+    ensures now { OnOk result (ledger.new.now ≡ write_at (field_data (field_there at.entry.place)).entry
+        (next_of (field_data (field_there at.entry.place)) (previous_at (field_data (field_there at.entry.place)).entry ledger.old.now)
         (option_map scalar_data value.entry)) ledger.old.now) }
     ensures before { ledger.new.before ≡ ledger.old.before }
     ensures max_text { ledger.new.max_text ≡ ledger.old.max_text }

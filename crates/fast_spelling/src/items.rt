@@ -6,6 +6,7 @@ ghost use Rattle.fast_value.specs.meaning.Values.{scalar_data};
 ghost use Rattle.fast_tree.specs.meaning.Nodes.{field_data};
 ghost use Rattle.fast_dict.specs.meaning.Operators.{Sent as SentData};
 ghost use Rattle.fast_dict.specs.meaning.Sending.{sent_data};
+ghost use Rattle.fast_spelling.specs.device.Places.{field_there};
 ghost use Rattle.fast_spelling.specs.declared.faults.EncodeFault.TheVariants.{R9};
 ghost use Rattle.fast_spelling.specs.device.Drafts.{Adds, IsTold, IsSendable, IsSendableValue, IsSendablePart, SpellsItem, SpellsValue, SpellsPart};
 ghost use Rattle.fast_spelling.specs.meaning.Refusals.{HasZeroInFront};
@@ -25,11 +26,11 @@ use fast_value::{Kind, Scalar};
 /// R9 if the item is an ASCII string that begins with a zero character; `Memory` if an allocation failed.
 #[inline(always)]
 pub fn write_item(bytes: &mut Vec<u8>, at: Known<'_>, item: Sent<'_>) -> Result<(), EncodeFault>
-    requires { IsSendable (field_data at.field.now) (sent_data item) }
+    requires { IsSendable (field_data (field_there at.place)) (sent_data item) }
     ensures ok { OnOk result
-        (Adds (SpellsItem (field_data at.entry.field.now) (sent_data item.entry)) bytes.old.items bytes.new.items) }
+        (Adds (SpellsItem (field_data (field_there at.entry.place)) (sent_data item.entry)) bytes.old.items bytes.new.items) }
     ensures err { IfErr result
-        (IsTold (λ c. (c ≡ R9) × HasZeroInFront at.entry.field.now.kind (sent_data item.entry))) }
+        (IsTold (λ c. (c ≡ R9) × HasZeroInFront (field_there at.entry.place).kind (sent_data item.entry))) }
 {
     match item {
         Sent::Nothing => Ok(()),

@@ -13,7 +13,13 @@ use Rattle.fast_tree.specs.declared.instructions.Node.{Node}
 use Rattle.fast_tree.specs.declared.instructions.Shape.{Shape}
 use Rattle.fast_tree.specs.declared.instructions.Shape.TheVariants.{Field, Decimal, Group, Sequence}
 use Rattle.fast_spelling.specs.declared.forms.Step.{Step}
-use Rattle.fast_spelling.specs.device.Forms.{form_by, form_of, step_of, steps_of, Says}
+use Rattle.fast_spelling.specs.device.Forms.{IsFieldOf, form_by, form_of, step_of, steps_of, Says}
+use Rattle.fast_spelling.specs.device.Places.{field_of}
+
+-- a node that is a field of some type and operator is a field
+pub field_told : (kind : Kind) (operator : Operator) (s : Shape) → IsFieldOf kind operator s → s ≡ Field (field_of s)
+field_told kind operator (Field f) h = refl
+field_told kind operator s h = absurd h
 
 says_by : (f : FieldInstruction) (k : Kind) (o : Operator) → f.kind ≡ k → f.operator ≡ o → Says (form_by k o) (Field f)
 says_by f UInt32 no_operator a b = (a, b)

@@ -14,7 +14,7 @@ use Rattle.fast_tree.specs.declared.operators.Operator.TheVariants.{None as no_o
 use Rattle.fast_tree.specs.meaning.Tree.{FieldData, operator_uses_bit, uses_bit}
 use Rattle.fast_dict.specs.meaning.Dictionary.{Dictionary, PreviousData, undefined, empty, assigned, previous_at, write_at}
 use Rattle.fast_dict.specs.meaning.Operators.{◌>>=◌, Outcome, Sent, nothing, null, value, integer_delta, decimal_delta, keeps, from_initial}
-use Rattle.fast_dict.specs.meaning.Operators.{fixed, incremented, range_of, next_value, unsent, delta_base, tail_base, decide_by, IsItemBy}
+use Rattle.fast_dict.specs.meaning.Operators.{fixed, of_kind, incremented, range_of, next_value, unsent, delta_base, tail_base, decide_by, IsItemBy}
 use Rattle.fast_dict.specs.meaning.Rule.{GoesUnsent, IsDelta, IsTail, IsTextDelta, SentBy, Rule}
 use Rattle.fast_spelling.specs.device.Drafts.{IsSendable, IsSendableValue}
 use Rattle.fast_spelling.specs.meaning.Encoding.{EncodesField}
@@ -277,6 +277,28 @@ absent_default f p v is held = (not, subst (λ (z : Operator). SentBy z f p None
           next = p;
         }) (record { value = None; next = m }) (default_gives f p (Some v) held) h) in
         absurd (cc clash)
+
+-- a copy whose entry holds a value is sent as NULL
+pub absent_copy : (f : FieldData) (p : PreviousData) (k : Kind) (u : ScalarData) → f.operator ≡ Copy → p ≡ assigned k u → Rule f p None true null
+absent_copy f p k u is held = (not, subst (λ (z : Operator). SentBy z f p None null) (sym is) refl)
+  where
+    gives : ScalarData → Result Outcome Code
+    gives w = keeps f.kind (next_value f.operator f.kind w)
+    by : (r : Result ScalarData Code) (m : PreviousData) → r >>= gives ≡ Ok (record { value = None; next = m }) → ⊥
+    by (Ok w) m e =
+        let clash : Some (next_value f.operator f.kind w) ≡ None = ap (λ (z : Outcome). z.value) (one_ok (gives w) (record {
+          value = Some (next_value f.operator f.kind w);
+          next = assigned f.kind (next_value f.operator f.kind w);
+        }) (record { value = None; next = m }) refl e) in
+        absurd (cc clash)
+    by (Err c) m e = absurd (let z : ◌≡◌ {A = Result Outcome Code} (Err c) (Ok (record { value = None; next = m })) = e in cc)
+    not : ¬ (GoesUnsent f p None)
+    not (m, _, (_, g)) =
+        let h : decide_by Copy false f p nothing ≡ Ok (record {
+          value = None;
+          next = m;
+        }) = subst (λ (z : Operator). decide_by z false f p nothing ≡ Ok (record { value = None; next = m })) is g in
+        by (of_kind f.kind k u) m (sym (ap (unsent f) held) ∙ h)
 
 absent_passed : (l : Limits) (f : FieldData) (d : Dictionary) → uses_bit f ≡ true → (f.operator ≡ Tail → family f.kind ≡ texts)
     → IsSuited l.max_text f None → Rule f (previous_at f.entry d) None false nothing

@@ -2,6 +2,7 @@
 
 ghost use Rattle.std.specs.Prelude.{slice_get, ℕ, ◌≡◌, ◌<◌, length, Some};
 ghost use Rattle.fast_template.specs.meaning.Flat.{field_data, nodes_of, tree_of};
+ghost use Rattle.fast_spelling.specs.device.Places.{field_there};
 ghost use Rattle.fast_spelling.specs.device.Forms.{Says, IsFieldAt};
 ghost use Rattle.fast_spelling.specs.device.Nodes.{instruction_in, IsThatField};
 ghost use Rattle.fast_tree.specs.declared.instructions.FieldInstruction.{FieldInstruction};
@@ -13,7 +14,7 @@ ghost use Rattle.fast_dict.specs.meaning.EntryTexts.{HasLongInitial, IsLongText}
 
 use crate::fields::keeps;
 use crate::forms::Form;
-use crate::known::Known;
+use crate::known::{Known, Place};
 use crate::plan::Plan;
 use fast_template::{FieldInstruction, Operator, Shape};
 use fast_value::Kind;
@@ -64,22 +65,23 @@ pub fn note_field(plan: &Plan<'_>, node: u32, kind: Kind, operator: Operator)
     plan.templates.node(node);
 }
 
-/// Returns the field of a node, which must be one, with its type, its nullability and its entry taken from the node's step.
+/// Returns the field of a node, which must be one, with its type, its nullability and its entry taken from the node's step: the node is not
+/// read.
 #[inline(always)]
 pub fn known_at<'t>(plan: &Plan<'t>, node: u32, kind: Kind, operator: Operator) -> Known<'t>
     requires node { node < length (nodes_of plan.now.templates.now) }
     requires form { IsFieldAt (nodes_of plan.now.templates.now) node kind operator }
-    ensures kind { result.field.now.kind ≡ kind }
-    ensures operator { result.field.now.operator ≡ operator }
+    ensures kind { (field_there result.place).kind ≡ kind }
+    ensures operator { (field_there result.place).operator ≡ operator }
     ensures instruction { (at : Label)
-        × (instruction_in (nodes_of plan.now.templates.now) node ≡ field at (field_data result.field.now)) }
-    ensures usable { IsUsable (tree_of plan.now.templates.now).entries (field_data result.field.now) }
+        × (instruction_in (nodes_of plan.now.templates.now) node ≡ field at (field_data (field_there result.place))) }
+    ensures usable { IsUsable (tree_of plan.now.templates.now).entries (field_data (field_there result.place)) }
     ensures initial { (m : ℕ) → ¬ (HasLongInitial m (nodes_of plan.now.templates.now))
-        → ¬ (IsLongText m (field_data result.field.now).initial) }
+        → ¬ (IsLongText m (field_data (field_there result.place)).initial) }
 {
     let step = plan.steps[node as usize];
     Known {
-        field: field_at(plan, node, kind, operator),
+        place: Place::Node(&plan.templates.node(node).shape),
         kind,
         nullable: step.nullable,
         entry: if keeps(operator) {

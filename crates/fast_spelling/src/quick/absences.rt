@@ -2,21 +2,21 @@
 
 ghost use Rattle.std.specs.Prelude.{◌≡◌, None, OnOk, IfErr};
 ghost use Rattle.fast_value.specs.declared.settings.Limits.{Limits};
-ghost use Rattle.fast_tree.specs.declared.operators.Operator.TheVariants.{Default, Copy};
+ghost use Rattle.fast_tree.specs.declared.operators.Operator.TheVariants.{None as no_operator, Default, Copy, Delta};
 ghost use Rattle.fast_tree.specs.meaning.Nodes.{field_data};
+ghost use Rattle.fast_spelling.specs.device.Places.{field_there};
 ghost use Rattle.fast_spelling.specs.meaning.Encoding.{EncodesField};
 ghost use Rattle.fast_spelling.specs.device.Drafts.{IsTold};
 ghost use Rattle.fast_spelling.specs.device.Fields.{IsServed, IsSuited, Wrote};
 ghost use Rattle.fast_spelling.specs.device.Nodes.{Keeps};
 ghost use Rattle.fast_spelling.specs.meaning.Refusals.{RefusesField};
 
-use super::held::is_empty_in;
 use crate::draft::Draft;
 use crate::faults::EncodeFault;
-use crate::fields::{send, write_chosen};
+use crate::fields::{previous_of, send, write_chosen};
 use crate::known::Known;
 use crate::ledger::Ledger;
-use fast_dict::Sent;
+use fast_dict::{Previous, Sent};
 use fast_template::{FieldInstruction, Operator};
 
 /// Writes the absence of a field under default: without an initial value, nothing is sent.
@@ -26,41 +26,82 @@ pub fn write_no_default(
     ledger: &mut Ledger,
     at: Known<'_>,
 ) -> Result<(), EncodeFault>
-    requires operator { at.field.now.operator ≡ Default }
-    requires served { IsServed ledger.old (field_data at.field.now) }
-    requires suited { IsSuited ledger.old.max_text (field_data at.field.now) None }
+    requires operator { (field_there at.place).operator ≡ Default }
+    requires served { IsServed ledger.old (field_data (field_there at.place)) }
+    requires suited { IsSuited ledger.old.max_text (field_data (field_there at.place)) None }
     ensures ok { OnOk result ((l : Limits) → l.max_text ≡ ledger.old.max_text
-        → Wrote (EncodesField l (field_data at.entry.field.now) ledger.old.now None) draft.old draft.new
+        → Wrote (EncodesField l (field_data (field_there at.entry.place)) ledger.old.now None) draft.old draft.new
         ledger.new.now) }
-    ensures err { IfErr result (IsTold (RefusesField (field_data at.entry.field.now) ledger.old.now None)) }
+    ensures err { IfErr result (IsTold (RefusesField (field_data (field_there at.entry.place)) ledger.old.now None)) }
     ensures keeps { Keeps ledger.old ledger.new }
 {
-    match &at.field.initial {
+    match &at.field().initial {
         None => Ok(draft.push_bit(false)?),
         Some(_) => send(draft, ledger, at, Operator::Default, None, true, Sent::Null),
     }
 }
 
-/// Writes the absence of a field under copy: if the entry is empty already, nothing is sent.
+/// Writes the absence of a field without operator: NULL is sent.
+#[tactic(auto, using(crate::proofs::rules::Usual::absent_plain))]
+#[inline(always)]
+pub fn write_no_plain(
+    draft: &mut Draft,
+    ledger: &mut Ledger,
+    at: Known<'_>,
+) -> Result<(), EncodeFault>
+    requires operator { (field_there at.place).operator ≡ no_operator }
+    requires served { IsServed ledger.old (field_data (field_there at.place)) }
+    requires suited { IsSuited ledger.old.max_text (field_data (field_there at.place)) None }
+    ensures ok { OnOk result ((l : Limits) → l.max_text ≡ ledger.old.max_text
+        → Wrote (EncodesField l (field_data (field_there at.entry.place)) ledger.old.now None) draft.old draft.new
+        ledger.new.now) }
+    ensures err { IfErr result (IsTold (RefusesField (field_data (field_there at.entry.place)) ledger.old.now None)) }
+    ensures keeps { Keeps ledger.old ledger.new }
+{
+    send(draft, ledger, at, Operator::None, None, true, Sent::Null)
+}
+
+/// Writes the absence of a field under delta: NULL is sent, and the entry is unchanged.
+#[tactic(auto, using(crate::proofs::rules::Usual::absent_delta))]
+#[inline(always)]
+pub fn write_no_delta(
+    draft: &mut Draft,
+    ledger: &mut Ledger,
+    at: Known<'_>,
+) -> Result<(), EncodeFault>
+    requires operator { (field_there at.place).operator ≡ Delta }
+    requires served { IsServed ledger.old (field_data (field_there at.place)) }
+    requires suited { IsSuited ledger.old.max_text (field_data (field_there at.place)) None }
+    ensures ok { OnOk result ((l : Limits) → l.max_text ≡ ledger.old.max_text
+        → Wrote (EncodesField l (field_data (field_there at.entry.place)) ledger.old.now None) draft.old draft.new
+        ledger.new.now) }
+    ensures err { IfErr result (IsTold (RefusesField (field_data (field_there at.entry.place)) ledger.old.now None)) }
+    ensures keeps { Keeps ledger.old ledger.new }
+{
+    send(draft, ledger, at, Operator::Delta, None, true, Sent::Null)
+}
+
+/// Writes the absence of a field under copy: if the entry is empty already, nothing is sent, and NULL if it holds a value.
 #[inline(always)]
 pub fn write_no_copy(
     draft: &mut Draft,
     ledger: &mut Ledger,
     at: Known<'_>,
 ) -> Result<(), EncodeFault>
-    requires operator { at.field.now.operator ≡ Copy }
-    requires served { IsServed ledger.old (field_data at.field.now) }
-    requires suited { IsSuited ledger.old.max_text (field_data at.field.now) None }
+    requires operator { (field_there at.place).operator ≡ Copy }
+    requires served { IsServed ledger.old (field_data (field_there at.place)) }
+    requires suited { IsSuited ledger.old.max_text (field_data (field_there at.place)) None }
     ensures ok { OnOk result ((l : Limits) → l.max_text ≡ ledger.old.max_text
-        → Wrote (EncodesField l (field_data at.entry.field.now) ledger.old.now None) draft.old draft.new
+        → Wrote (EncodesField l (field_data (field_there at.entry.place)) ledger.old.now None) draft.old draft.new
         ledger.new.now) }
-    ensures err { IfErr result (IsTold (RefusesField (field_data at.entry.field.now) ledger.old.now None)) }
+    ensures err { IfErr result (IsTold (RefusesField (field_data (field_there at.entry.place)) ledger.old.now None)) }
     ensures keeps { Keeps ledger.old ledger.new }
 {
-    if is_empty_in(ledger, at) {
-        return Ok(draft.push_bit(false)?);
+    match previous_of(ledger, at) {
+        Previous::Empty => Ok(draft.push_bit(false)?),
+        Previous::Assigned(_, _) => send(draft, ledger, at, Operator::Copy, None, true, Sent::Null),
+        Previous::Undefined => choose_none(draft, ledger, at.field()),
     }
-    choose_none(draft, ledger, at.field)
 }
 
 /// Writes a field that is absent.
@@ -81,24 +122,8 @@ pub fn write_none(
     ensures keeps { Keeps ledger.old ledger.new }
 {
     match field.operator {
-        Operator::None => send(
-            draft,
-            ledger,
-            Known::of(field),
-            field.operator,
-            None,
-            true,
-            Sent::Null,
-        ),
-        Operator::Delta => send(
-            draft,
-            ledger,
-            Known::of(field),
-            field.operator,
-            None,
-            true,
-            Sent::Null,
-        ),
+        Operator::None => write_no_plain(draft, ledger, Known::of(field)),
+        Operator::Delta => write_no_delta(draft, ledger, Known::of(field)),
         Operator::Default => write_no_default(draft, ledger, Known::of(field)),
         Operator::Copy => write_no_copy(draft, ledger, Known::of(field)),
         Operator::Increment | Operator::Constant | Operator::Tail => {

@@ -7,6 +7,7 @@ ghost use Rattle.fast_value.specs.meaning.Values.{scalar_data};
 ghost use Rattle.fast_tree.specs.meaning.Nodes.{field_data};
 ghost use Rattle.fast_spelling.specs.meaning.Encoding.{EncodesField};
 ghost use Rattle.fast_spelling.specs.device.Drafts.{IsTold};
+ghost use Rattle.fast_spelling.specs.device.Places.{field_there};
 ghost use Rattle.fast_spelling.specs.device.Fields.{IsServed, IsSuited, Wrote};
 ghost use Rattle.fast_spelling.specs.device.Nodes.{Keeps};
 ghost use Rattle.fast_spelling.specs.meaning.Refusals.{RefusesField};
@@ -48,6 +49,26 @@ pub fn choose_value(
         Scalar::Unicode(text) => choose_unicode(draft, ledger, field, text),
         Scalar::Bytes(text) => choose_bytes(draft, ledger, field, text),
     }
+}
+
+/// Writes a field as [`choose_value`] does: here the field itself is read.
+#[inline(always)]
+pub fn choose_known(
+    draft: &mut Draft,
+    ledger: &mut Ledger,
+    at: Known<'_>,
+    value: Scalar<'_>,
+) -> Result<(), EncodeFault>
+    requires served { IsServed ledger.old (field_data (field_there at.place)) }
+    requires suited { IsSuited ledger.old.max_text (field_data (field_there at.place)) (Some (scalar_data value)) }
+    ensures ok { OnOk result ((l : Limits) → l.max_text ≡ ledger.old.max_text
+        → Wrote (EncodesField l (field_data (field_there at.entry.place)) ledger.old.now (Some (scalar_data value.entry)))
+        draft.old draft.new ledger.new.now) }
+    ensures err { IfErr result
+        (IsTold (RefusesField (field_data (field_there at.entry.place)) ledger.old.now (Some (scalar_data value.entry)))) }
+    ensures keeps { Keeps ledger.old ledger.new }
+{
+    choose_value(draft, ledger, at.field(), value)
 }
 
 /// Writes a field that has an unsigned integer, by the rule that chooses what is sent.

@@ -8,6 +8,7 @@ ghost use Rattle.fast_tree.specs.declared.operators.Operator.TheVariants.{Delta,
 ghost use Rattle.fast_tree.specs.meaning.Nodes.{field_data};
 ghost use Rattle.fast_dict.specs.meaning.Operators.{decimal_delta};
 ghost use Rattle.fast_dict.specs.meaning.Sending.{sent_data};
+ghost use Rattle.fast_spelling.specs.device.Places.{field_there};
 ghost use Rattle.fast_spelling.specs.meaning.Encoding.{EncodesField};
 ghost use Rattle.fast_spelling.specs.device.Drafts.{IsTold};
 ghost use Rattle.fast_spelling.specs.device.Fields.{IsServed, IsSuited, Wrote};
@@ -36,23 +37,23 @@ pub fn write_tail(
     at: Known<'_>,
     value: Scalar<'_>,
 ) -> Result<(), EncodeFault>
-    requires operator { at.field.now.operator ≡ Tail }
-    requires served { IsServed ledger.old (field_data at.field.now) }
-    requires suited { IsSuited ledger.old.max_text (field_data at.field.now) (Some (scalar_data value)) }
+    requires operator { (field_there at.place).operator ≡ Tail }
+    requires served { IsServed ledger.old (field_data (field_there at.place)) }
+    requires suited { IsSuited ledger.old.max_text (field_data (field_there at.place)) (Some (scalar_data value)) }
     ensures ok { OnOk result ((l : Limits) → l.max_text ≡ ledger.old.max_text
-        → Wrote (EncodesField l (field_data at.entry.field.now) ledger.old.now (Some (scalar_data value.entry)))
+        → Wrote (EncodesField l (field_data (field_there at.entry.place)) ledger.old.now (Some (scalar_data value.entry)))
         draft.old draft.new ledger.new.now) }
     ensures err { IfErr result
-        (IsTold (RefusesField (field_data at.entry.field.now) ledger.old.now (Some (scalar_data value.entry)))) }
+        (IsTold (RefusesField (field_data (field_there at.entry.place)) ledger.old.now (Some (scalar_data value.entry)))) }
     ensures keeps { Keeps ledger.old ledger.new }
 {
     match held_in(ledger, at, value) {
-        None => write_chosen(draft, ledger, at.field, Some(value)),
+        None => write_chosen(draft, ledger, at.field(), Some(value)),
         Some(held) if is_same(held, value) => Ok(draft.push_bit(false)?),
         Some(held) => {
             note_range(held);
             let Some(part) = tail_of(text_of(held), text_of(value)) else {
-                return write_chosen(draft, ledger, at.field, Some(value));
+                return write_chosen(draft, ledger, at.field(), Some(value));
             };
             let tail = Sent::Value(text_value(at.kind, part));
             send(draft, ledger, at, Operator::Tail, Some(value), true, tail)
@@ -68,19 +69,19 @@ pub fn write_text_delta(
     at: Known<'_>,
     value: Scalar<'_>,
 ) -> Result<(), EncodeFault>
-    requires operator { at.field.now.operator ≡ Delta }
-    requires served { IsServed ledger.old (field_data at.field.now) }
-    requires suited { IsSuited ledger.old.max_text (field_data at.field.now) (Some (scalar_data value)) }
+    requires operator { (field_there at.place).operator ≡ Delta }
+    requires served { IsServed ledger.old (field_data (field_there at.place)) }
+    requires suited { IsSuited ledger.old.max_text (field_data (field_there at.place)) (Some (scalar_data value)) }
     requires text { IsText (scalar_data value) }
     ensures ok { OnOk result ((l : Limits) → l.max_text ≡ ledger.old.max_text
-        → Wrote (EncodesField l (field_data at.entry.field.now) ledger.old.now (Some (scalar_data value.entry)))
+        → Wrote (EncodesField l (field_data (field_there at.entry.place)) ledger.old.now (Some (scalar_data value.entry)))
         draft.old draft.new ledger.new.now) }
     ensures err { IfErr result
-        (IsTold (RefusesField (field_data at.entry.field.now) ledger.old.now (Some (scalar_data value.entry)))) }
+        (IsTold (RefusesField (field_data (field_there at.entry.place)) ledger.old.now (Some (scalar_data value.entry)))) }
     ensures keeps { Keeps ledger.old ledger.new }
 {
     match held_in(ledger, at, value) {
-        None => write_chosen(draft, ledger, at.field, Some(value)),
+        None => write_chosen(draft, ledger, at.field(), Some(value)),
         Some(held) => {
             note_range(held);
             let delta = text_delta(text_of(held), text_of(value));
@@ -97,19 +98,19 @@ pub fn write_decimal_delta(
     at: Known<'_>,
     value: Scalar<'_>,
 ) -> Result<(), EncodeFault>
-    requires operator { at.field.now.operator ≡ Delta }
-    requires served { IsServed ledger.old (field_data at.field.now) }
-    requires suited { IsSuited ledger.old.max_text (field_data at.field.now) (Some (scalar_data value)) }
+    requires operator { (field_there at.place).operator ≡ Delta }
+    requires served { IsServed ledger.old (field_data (field_there at.place)) }
+    requires suited { IsSuited ledger.old.max_text (field_data (field_there at.place)) (Some (scalar_data value)) }
     requires decimal { IsDecimal (scalar_data value) }
     ensures ok { OnOk result ((l : Limits) → l.max_text ≡ ledger.old.max_text
-        → Wrote (EncodesField l (field_data at.entry.field.now) ledger.old.now (Some (scalar_data value.entry)))
+        → Wrote (EncodesField l (field_data (field_there at.entry.place)) ledger.old.now (Some (scalar_data value.entry)))
         draft.old draft.new ledger.new.now) }
     ensures err { IfErr result
-        (IsTold (RefusesField (field_data at.entry.field.now) ledger.old.now (Some (scalar_data value.entry)))) }
+        (IsTold (RefusesField (field_data (field_there at.entry.place)) ledger.old.now (Some (scalar_data value.entry)))) }
     ensures keeps { Keeps ledger.old ledger.new }
 {
     match held_in(ledger, at, value) {
-        None => write_chosen(draft, ledger, at.field, Some(value)),
+        None => write_chosen(draft, ledger, at.field(), Some(value)),
         Some(held) => {
             note_range(held);
             let delta = decimal_delta(held, value);

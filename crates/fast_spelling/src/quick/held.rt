@@ -4,14 +4,13 @@ ghost use Rattle.std.specs.Prelude.{◌≡◌, ◌≤◌, ◌-ℤ◌, ◌↔◌,
 ghost use Rattle.fast_value.specs.meaning.Kinds.{IsWithin, signed_range, integer_of, exponent_of, mantissa_of, text_of, value_of_integer};
 ghost use Rattle.fast_value.specs.meaning.Values.{scalar_data};
 ghost use Rattle.fast_tree.specs.meaning.Nodes.{field_data};
-ghost use Rattle.fast_dict.specs.meaning.Dictionary.{assigned, empty, previous_at};
+ghost use Rattle.fast_dict.specs.meaning.Dictionary.{assigned, previous_at};
 ghost use Rattle.fast_dict.specs.meaning.Operators.{incremented, range_of};
+ghost use Rattle.fast_spelling.specs.device.Places.{field_there};
 ghost use Rattle.fast_spelling.specs.device.Fields.{IsServed};
 
-use crate::fields::previous_of;
 use crate::known::Known;
 use crate::ledger::Ledger;
-use fast_dict::Previous;
 use fast_dict::operators::decimals::{exponent_of, mantissa_of};
 use fast_dict::operators::integers::integer_of;
 use fast_dict::operators::unsent::next_integer;
@@ -20,9 +19,9 @@ use fast_value::{Kind, Scalar, Value};
 /// Returns whether the value is the field's initial value.
 #[inline(always)]
 pub fn is_initial(at: Known<'_>, value: Scalar<'_>) -> bool
-    ensures { IsTrue result ↔ ((field_data at.entry.field.now).initial ≡ Some (scalar_data value.entry)) }
+    ensures { IsTrue result ↔ ((field_data (field_there at.entry.place)).initial ≡ Some (scalar_data value.entry)) }
 {
-    match (&at.field.initial, value) {
+    match (&at.field().initial, value) {
         (Some(Value::U(initial)), Scalar::U(number)) => *initial == number,
         (Some(Value::I(initial)), Scalar::I(number)) => *initial == number,
         (Some(Value::Ascii(initial)), Scalar::Ascii(text)) => is_same_text(initial, text),
@@ -31,22 +30,13 @@ pub fn is_initial(at: Known<'_>, value: Scalar<'_>) -> bool
     }
 }
 
-/// Returns whether the field's entry is empty.
-#[inline(always)]
-pub fn is_empty_in(ledger: &Ledger, at: Known<'_>) -> bool
-    requires { IsServed ledger.now (field_data at.field.now) }
-    ensures { IsTrue result → previous_at (field_data at.entry.field.now).entry ledger.now.now ≡ empty }
-{
-    matches!(previous_of(ledger, at), Previous::Empty)
-}
-
 /// Returns the value of the field's entry, with its string borrowed; `None` if it is not of the field's type, or not of the same variant as
 /// `value`.
 #[inline(always)]
 pub fn held_in<'a>(ledger: &'a Ledger, at: Known<'_>, value: Scalar<'_>) -> Option<Scalar<'a>>
-    requires { IsServed ledger.now (field_data at.field.now) }
-    ensures value { IfSome result (λ held. previous_at (field_data at.entry.field.now).entry ledger.now.now
-        ≡ assigned (field_data at.entry.field.now).kind (scalar_data held)) }
+    requires { IsServed ledger.now (field_data (field_there at.place)) }
+    ensures value { IfSome result (λ held. previous_at (field_data (field_there at.entry.place)).entry ledger.now.now
+        ≡ assigned (field_data (field_there at.entry.place)).kind (scalar_data held)) }
     ensures short { IfSome result (λ held. length (text_of (scalar_data held)) ≤ ledger.now.max_text) }
 {
     let Some(entry) = at.entry else {
@@ -65,9 +55,9 @@ pub fn held_in<'a>(ledger: &'a Ledger, at: Known<'_>, value: Scalar<'_>) -> Opti
 /// Returns the integer of the field's entry; `None` if it is not of the field's type, or not of the same variant as `value`.
 #[inline(always)]
 pub fn held_number_in(ledger: &Ledger, at: Known<'_>, value: Scalar<'_>) -> Option<Scalar<'static>>
-    requires { IsServed ledger.now (field_data at.field.now) }
-    ensures value { IfSome result (λ held. previous_at (field_data at.entry.field.now).entry ledger.now.now
-        ≡ assigned (field_data at.entry.field.now).kind (scalar_data held)) }
+    requires { IsServed ledger.now (field_data (field_there at.place)) }
+    ensures value { IfSome result (λ held. previous_at (field_data (field_there at.entry.place)).entry ledger.now.now
+        ≡ assigned (field_data (field_there at.entry.place)).kind (scalar_data held)) }
     ensures short { IfSome result (λ held. length (text_of (scalar_data held)) ≤ ledger.now.max_text) }
 {
     let Some(entry) = at.entry else {

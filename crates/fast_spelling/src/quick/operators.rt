@@ -5,6 +5,7 @@ ghost use Rattle.fast_value.specs.declared.settings.Limits.{Limits};
 ghost use Rattle.fast_value.specs.meaning.Values.{scalar_data};
 ghost use Rattle.fast_tree.specs.declared.operators.Operator.TheVariants.{None as no_operator, Constant, Default, Copy, Increment, Delta};
 ghost use Rattle.fast_tree.specs.meaning.Nodes.{field_data};
+ghost use Rattle.fast_spelling.specs.device.Places.{field_there};
 ghost use Rattle.fast_spelling.specs.meaning.Encoding.{EncodesField};
 ghost use Rattle.fast_spelling.specs.device.Drafts.{IsTold};
 ghost use Rattle.fast_spelling.specs.device.Fields.{IsServed, IsSuited, Wrote};
@@ -12,7 +13,7 @@ ghost use Rattle.fast_spelling.specs.device.Nodes.{Keeps};
 ghost use Rattle.fast_spelling.specs.meaning.Refusals.{RefusesField};
 ghost use Rattle.fast_spelling.specs.device.Usual.{IsNumber};
 
-use super::choices::choose_value;
+use super::choices::choose_known;
 use super::held::{difference, held_in, held_number_in, is_initial, is_next, is_same};
 use crate::draft::Draft;
 use crate::faults::EncodeFault;
@@ -32,14 +33,14 @@ pub fn write_plain(
     at: Known<'_>,
     value: Scalar<'_>,
 ) -> Result<(), EncodeFault>
-    requires operator { at.field.now.operator ≡ no_operator }
-    requires served { IsServed ledger.old (field_data at.field.now) }
-    requires suited { IsSuited ledger.old.max_text (field_data at.field.now) (Some (scalar_data value)) }
+    requires operator { (field_there at.place).operator ≡ no_operator }
+    requires served { IsServed ledger.old (field_data (field_there at.place)) }
+    requires suited { IsSuited ledger.old.max_text (field_data (field_there at.place)) (Some (scalar_data value)) }
     ensures ok { OnOk result ((l : Limits) → l.max_text ≡ ledger.old.max_text
-        → Wrote (EncodesField l (field_data at.entry.field.now) ledger.old.now (Some (scalar_data value.entry)))
+        → Wrote (EncodesField l (field_data (field_there at.entry.place)) ledger.old.now (Some (scalar_data value.entry)))
         draft.old draft.new ledger.new.now) }
     ensures err { IfErr result
-        (IsTold (RefusesField (field_data at.entry.field.now) ledger.old.now (Some (scalar_data value.entry)))) }
+        (IsTold (RefusesField (field_data (field_there at.entry.place)) ledger.old.now (Some (scalar_data value.entry)))) }
     ensures keeps { Keeps ledger.old ledger.new }
 {
     send(
@@ -62,14 +63,14 @@ pub fn write_default(
     at: Known<'_>,
     value: Scalar<'_>,
 ) -> Result<(), EncodeFault>
-    requires operator { at.field.now.operator ≡ Default }
-    requires served { IsServed ledger.old (field_data at.field.now) }
-    requires suited { IsSuited ledger.old.max_text (field_data at.field.now) (Some (scalar_data value)) }
+    requires operator { (field_there at.place).operator ≡ Default }
+    requires served { IsServed ledger.old (field_data (field_there at.place)) }
+    requires suited { IsSuited ledger.old.max_text (field_data (field_there at.place)) (Some (scalar_data value)) }
     ensures ok { OnOk result ((l : Limits) → l.max_text ≡ ledger.old.max_text
-        → Wrote (EncodesField l (field_data at.entry.field.now) ledger.old.now (Some (scalar_data value.entry)))
+        → Wrote (EncodesField l (field_data (field_there at.entry.place)) ledger.old.now (Some (scalar_data value.entry)))
         draft.old draft.new ledger.new.now) }
     ensures err { IfErr result
-        (IsTold (RefusesField (field_data at.entry.field.now) ledger.old.now (Some (scalar_data value.entry)))) }
+        (IsTold (RefusesField (field_data (field_there at.entry.place)) ledger.old.now (Some (scalar_data value.entry)))) }
     ensures keeps { Keeps ledger.old ledger.new }
 {
     if is_initial(at, value) {
@@ -95,14 +96,14 @@ pub fn write_constant(
     at: Known<'_>,
     value: Scalar<'_>,
 ) -> Result<(), EncodeFault>
-    requires operator { at.field.now.operator ≡ Constant }
-    requires served { IsServed ledger.old (field_data at.field.now) }
-    requires suited { IsSuited ledger.old.max_text (field_data at.field.now) (Some (scalar_data value)) }
+    requires operator { (field_there at.place).operator ≡ Constant }
+    requires served { IsServed ledger.old (field_data (field_there at.place)) }
+    requires suited { IsSuited ledger.old.max_text (field_data (field_there at.place)) (Some (scalar_data value)) }
     ensures ok { OnOk result ((l : Limits) → l.max_text ≡ ledger.old.max_text
-        → Wrote (EncodesField l (field_data at.entry.field.now) ledger.old.now (Some (scalar_data value.entry)))
+        → Wrote (EncodesField l (field_data (field_there at.entry.place)) ledger.old.now (Some (scalar_data value.entry)))
         draft.old draft.new ledger.new.now) }
     ensures err { IfErr result
-        (IsTold (RefusesField (field_data at.entry.field.now) ledger.old.now (Some (scalar_data value.entry)))) }
+        (IsTold (RefusesField (field_data (field_there at.entry.place)) ledger.old.now (Some (scalar_data value.entry)))) }
     ensures keeps { Keeps ledger.old ledger.new }
 {
     if is_initial(at, value) {
@@ -116,7 +117,7 @@ pub fn write_constant(
             Sent::Nothing,
         );
     }
-    choose_value(draft, ledger, at.field, value)
+    choose_known(draft, ledger, at, value)
 }
 
 /// Writes an integer under copy: nothing is sent if it equals the previous value.
@@ -128,19 +129,19 @@ pub fn write_copied(
     at: Known<'_>,
     value: Scalar<'_>,
 ) -> Result<(), EncodeFault>
-    requires operator { at.field.now.operator ≡ Copy }
-    requires served { IsServed ledger.old (field_data at.field.now) }
-    requires suited { IsSuited ledger.old.max_text (field_data at.field.now) (Some (scalar_data value)) }
+    requires operator { (field_there at.place).operator ≡ Copy }
+    requires served { IsServed ledger.old (field_data (field_there at.place)) }
+    requires suited { IsSuited ledger.old.max_text (field_data (field_there at.place)) (Some (scalar_data value)) }
     requires number { IsNumber (scalar_data value) }
     ensures ok { OnOk result ((l : Limits) → l.max_text ≡ ledger.old.max_text
-        → Wrote (EncodesField l (field_data at.entry.field.now) ledger.old.now (Some (scalar_data value.entry)))
+        → Wrote (EncodesField l (field_data (field_there at.entry.place)) ledger.old.now (Some (scalar_data value.entry)))
         draft.old draft.new ledger.new.now) }
     ensures err { IfErr result
-        (IsTold (RefusesField (field_data at.entry.field.now) ledger.old.now (Some (scalar_data value.entry)))) }
+        (IsTold (RefusesField (field_data (field_there at.entry.place)) ledger.old.now (Some (scalar_data value.entry)))) }
     ensures keeps { Keeps ledger.old ledger.new }
 {
     match held_in(ledger, at, value) {
-        None => choose_value(draft, ledger, at.field, value),
+        None => choose_known(draft, ledger, at, value),
         Some(held) if is_same(held, value) => Ok(draft.push_bit(false)?),
         Some(_) => send(
             draft,
@@ -163,19 +164,19 @@ pub fn write_next(
     at: Known<'_>,
     value: Scalar<'_>,
 ) -> Result<(), EncodeFault>
-    requires operator { at.field.now.operator ≡ Increment }
-    requires served { IsServed ledger.old (field_data at.field.now) }
-    requires suited { IsSuited ledger.old.max_text (field_data at.field.now) (Some (scalar_data value)) }
+    requires operator { (field_there at.place).operator ≡ Increment }
+    requires served { IsServed ledger.old (field_data (field_there at.place)) }
+    requires suited { IsSuited ledger.old.max_text (field_data (field_there at.place)) (Some (scalar_data value)) }
     requires number { IsNumber (scalar_data value) }
     ensures ok { OnOk result ((l : Limits) → l.max_text ≡ ledger.old.max_text
-        → Wrote (EncodesField l (field_data at.entry.field.now) ledger.old.now (Some (scalar_data value.entry)))
+        → Wrote (EncodesField l (field_data (field_there at.entry.place)) ledger.old.now (Some (scalar_data value.entry)))
         draft.old draft.new ledger.new.now) }
     ensures err { IfErr result
-        (IsTold (RefusesField (field_data at.entry.field.now) ledger.old.now (Some (scalar_data value.entry)))) }
+        (IsTold (RefusesField (field_data (field_there at.entry.place)) ledger.old.now (Some (scalar_data value.entry)))) }
     ensures keeps { Keeps ledger.old ledger.new }
 {
     match held_number_in(ledger, at, value) {
-        None => choose_value(draft, ledger, at.field, value),
+        None => choose_known(draft, ledger, at, value),
         Some(held) if is_next(at.kind, held, value) => {
             leave_out(draft, ledger, at, Operator::Increment, value)
         }
@@ -199,19 +200,19 @@ pub fn write_difference(
     at: Known<'_>,
     value: Scalar<'_>,
 ) -> Result<(), EncodeFault>
-    requires operator { at.field.now.operator ≡ Delta }
-    requires served { IsServed ledger.old (field_data at.field.now) }
-    requires suited { IsSuited ledger.old.max_text (field_data at.field.now) (Some (scalar_data value)) }
+    requires operator { (field_there at.place).operator ≡ Delta }
+    requires served { IsServed ledger.old (field_data (field_there at.place)) }
+    requires suited { IsSuited ledger.old.max_text (field_data (field_there at.place)) (Some (scalar_data value)) }
     requires number { IsNumber (scalar_data value) }
     ensures ok { OnOk result ((l : Limits) → l.max_text ≡ ledger.old.max_text
-        → Wrote (EncodesField l (field_data at.entry.field.now) ledger.old.now (Some (scalar_data value.entry)))
+        → Wrote (EncodesField l (field_data (field_there at.entry.place)) ledger.old.now (Some (scalar_data value.entry)))
         draft.old draft.new ledger.new.now) }
     ensures err { IfErr result
-        (IsTold (RefusesField (field_data at.entry.field.now) ledger.old.now (Some (scalar_data value.entry)))) }
+        (IsTold (RefusesField (field_data (field_there at.entry.place)) ledger.old.now (Some (scalar_data value.entry)))) }
     ensures keeps { Keeps ledger.old ledger.new }
 {
     match held_number_in(ledger, at, value) {
-        None => choose_value(draft, ledger, at.field, value),
+        None => choose_known(draft, ledger, at, value),
         Some(held) => {
             let delta = Sent::IntegerDelta(difference(value, held));
             send(draft, ledger, at, Operator::Delta, Some(value), true, delta)
@@ -228,18 +229,18 @@ pub fn write_copied_other(
     at: Known<'_>,
     value: Scalar<'_>,
 ) -> Result<(), EncodeFault>
-    requires operator { at.field.now.operator ≡ Copy }
-    requires served { IsServed ledger.old (field_data at.field.now) }
-    requires suited { IsSuited ledger.old.max_text (field_data at.field.now) (Some (scalar_data value)) }
+    requires operator { (field_there at.place).operator ≡ Copy }
+    requires served { IsServed ledger.old (field_data (field_there at.place)) }
+    requires suited { IsSuited ledger.old.max_text (field_data (field_there at.place)) (Some (scalar_data value)) }
     ensures ok { OnOk result ((l : Limits) → l.max_text ≡ ledger.old.max_text
-        → Wrote (EncodesField l (field_data at.entry.field.now) ledger.old.now (Some (scalar_data value.entry)))
+        → Wrote (EncodesField l (field_data (field_there at.entry.place)) ledger.old.now (Some (scalar_data value.entry)))
         draft.old draft.new ledger.new.now) }
     ensures err { IfErr result
-        (IsTold (RefusesField (field_data at.entry.field.now) ledger.old.now (Some (scalar_data value.entry)))) }
+        (IsTold (RefusesField (field_data (field_there at.entry.place)) ledger.old.now (Some (scalar_data value.entry)))) }
     ensures keeps { Keeps ledger.old ledger.new }
 {
     match held_in(ledger, at, value) {
-        None => choose_value(draft, ledger, at.field, value),
+        None => choose_known(draft, ledger, at, value),
         Some(held) if is_same(held, value) => Ok(draft.push_bit(false)?),
         Some(_) => send(
             draft,

@@ -5,13 +5,14 @@ use Rattle.fast_value.specs.meaning.Values.{scalar_data}
 use Rattle.fast_tree.specs.declared.operators.Operator.{Operator}
 use Rattle.fast_tree.specs.meaning.Nodes.{field_data}
 use Rattle.fast_dict.specs.meaning.Dictionary.{PreviousData, previous_at, write_at}
+use Rattle.fast_spelling.specs.device.Places.{field_there}
 use Rattle.fast_spelling.specs.device.Fields.{next_by}
 use Rattle.fast_spelling.proofs.rules.Usual.{write_back}
 use Rattle.fast_spelling.proofs.fields.keep.Goals as goal
 
 pub returns-then-not-keeps-clause-now : goal.returns-then-not-keeps-clause-now
 returns-then-not-keeps-clause-now c =
-    let f = field_data c.args.at.field.now in
+    let f = field_data (field_there c.args.at.place) in
     let d = c.args.ledger.now.now in
     let p = previous_at f.entry d in
     let v = option_map scalar_data c.args.value in

@@ -7,13 +7,14 @@ use Rattle.fast_tree.specs.meaning.Tree.{FieldData}
 use Rattle.fast_tree.specs.meaning.Nodes.{field_data}
 use Rattle.fast_dict.specs.meaning.Dictionary.{previous_at}
 use Rattle.fast_dict.specs.meaning.Operators.{nothing}
+use Rattle.fast_spelling.specs.device.Places.{field_there}
 use Rattle.fast_spelling.specs.device.Fields.{IsSuited}
 use Rattle.fast_spelling.proofs.rules.FieldsWritten.{field_done}
 use Rattle.fast_spelling.proofs.fields.leave_out.Goals as goal
 
 pub returns-clause-ok : goal.returns-clause-ok
 returns-clause-ok c = λ l same.
-    let f : FieldData = field_data c.args.at.field.now in
+    let f : FieldData = field_data (field_there c.args.at.place) in
     let v = Some (scalar_data c.args.value) in
     let one = false ∷ [] in
     let suited = subst (λ (m : ℕ). IsSuited m f v) (sym same) c.requires.suited in (

@@ -8,6 +8,7 @@ use Rattle.fast_tree.specs.meaning.Tree.{FieldData, uses_bit}
 use Rattle.fast_tree.specs.meaning.Nodes.{field_data}
 use Rattle.fast_dict.specs.meaning.Dictionary.{previous_at}
 use Rattle.fast_dict.specs.meaning.Sending.{sent_data}
+use Rattle.fast_spelling.specs.device.Places.{field_there}
 use Rattle.fast_spelling.specs.declared.draft.Draft.{Draft}
 use Rattle.fast_spelling.specs.device.Fields.{IsSuited}
 use Rattle.fast_spelling.proofs.rules.FieldsWritten.{field_done}
@@ -16,7 +17,7 @@ use Rattle.fast_spelling.proofs.fields.send.Goals.{then-uses_bit+in_ok-push_bit,
 
 pub returns-clause-ok : goal.returns-clause-ok
 returns-clause-ok c = λ l same.
-    let f : FieldData = field_data c.args.at.field.now in
+    let f : FieldData = field_data (field_there c.args.at.place) in
     let v = option_map scalar_data c.args.value in
     let h = c.in_ok-write_item.ensures.ok in
     let suited = subst (λ (m : ℕ). IsSuited m f v) (sym same) c.requires.suited in

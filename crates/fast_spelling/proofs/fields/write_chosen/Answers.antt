@@ -9,6 +9,7 @@ use Rattle.fast_dict.specs.meaning.Dictionary.{PreviousData}
 use Rattle.fast_dict.specs.meaning.Previous.{previous_data}
 use Rattle.fast_dict.specs.meaning.Rule.{Rule}
 use Rattle.fast_dict.specs.meaning.Sending.{sent_data}
+use Rattle.fast_spelling.specs.device.Places.{field_there}
 use Rattle.fast_spelling.specs.device.Drafts.{IsSendable}
 use Rattle.fast_spelling.specs.device.Fields.{Wrote}
 use Rattle.fast_spelling.specs.meaning.Encoding.{EncodesField}
@@ -26,7 +27,7 @@ send-requires-clause-ruled c =
     let x = sent_data c.in-Some.choice.item in
     let of_field = subst (λ (g : FieldInstruction). Rule (field_data g) (previous_data c.previous_of-previous.result) v bit x)
     (sym c.of-at.ensures) c.in-Some.ensures.some in
-    subst (λ (p : PreviousData). Rule (field_data c.of-at.result.field.now) p v bit x) c.previous_of-previous.ensures.value of_field
+    subst (λ (p : PreviousData). Rule (field_data (field_there c.of-at.result.place)) p v bit x) c.previous_of-previous.ensures.value of_field
 
 pub send-requires-clause-sendable : goal.send-requires-clause-sendable
 send-requires-clause-sendable c =

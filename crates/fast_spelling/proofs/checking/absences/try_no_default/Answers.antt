@@ -1,6 +1,7 @@
 -- The absence of the field is what stands in the slot.
 use Rattle.std.proofs.Common.{ap, sym}
 use Rattle.fast_template.specs.meaning.Flat.{nodes_of, field_data}
+use Rattle.fast_spelling.specs.device.Places.{field_there}
 use Rattle.fast_spelling.specs.device.Nodes.{instruction_in, head_in}
 use Rattle.fast_spelling.proofs.bytes.Spelling.{on_ok}
 use Rattle.fast_spelling.proofs.encodings.Instructions.{served, absent_encodes}
@@ -10,7 +11,7 @@ pub write_no_default-requires-clause-served : goal.write_no_default-requires-cla
 write_no_default-requires-clause-served c =
     let k = c.known_at-at.ensures in
     served c.args.plan.now.templates.now c.args.plan.now.limits c.args.work.now.ledger
-    (field_data c.known_at-at.result.field.now) c.requires.ready k.usable k.initial
+    (field_data (field_there c.known_at-at.result.place)) c.requires.ready k.usable k.initial
 
 pub returns-clause-ok : goal.returns-clause-ok
 returns-clause-ok c = on_ok c.write_no_default.result c.write_no_default.ensures.ok (λ k.
@@ -21,6 +22,6 @@ returns-clause-ok c = on_ok c.write_no_default.result c.write_no_default.ensures
       h.1,
       h.2,
       h.3,
-      absent_encodes l i (field_data c.known_at-at.result.field.now) c.args.work.now.ledger.now h.0 h.1
+      absent_encodes l i (field_data (field_there c.known_at-at.result.place)) c.args.work.now.ledger.now h.0 h.1
           c.write_no_default.new.ledger.now (sym (ap head_in c.known_at-at.ensures.instruction.1)) h.4,
     ))

@@ -6,6 +6,7 @@ use Rattle.fast_value.specs.meaning.Messages.{ItemData, one}
 use Rattle.fast_value.specs.meaning.Values.{value_data, scalar_data}
 use Rattle.fast_tree.specs.meaning.Tree.{field}
 use Rattle.fast_template.specs.meaning.Flat.{nodes_of, field_data}
+use Rattle.fast_spelling.specs.device.Places.{field_there}
 use Rattle.fast_spelling.specs.device.Nodes.{instruction_in}
 use Rattle.fast_spelling.specs.device.Fields.{Wrote}
 use Rattle.fast_spelling.specs.meaning.Encoding.{EncodesField}
@@ -20,11 +21,11 @@ pub write_constant-requires-clause-served : goal.write_constant-requires-clause-
 write_constant-requires-clause-served c =
     let k = c.known_at-at.ensures in
     served c.args.plan.now.templates.now c.args.plan.now.limits c.args.work.now.ledger
-    (field_data c.known_at-at.result.field.now) c.requires.ready k.usable k.initial
+    (field_data (field_there c.known_at-at.result.place)) c.requires.ready k.usable k.initial
 
 pub returns-clause-ok : goal.returns-clause-ok
 returns-clause-ok c =
-    let f = field_data c.known_at-at.result.field.now in
+    let f = field_data (field_there c.known_at-at.result.place) in
     let at = c.known_at-at.ensures.instruction.0 in
     let l = c.args.plan.now.limits in
     let d = c.args.work.now.ledger.now in
@@ -55,7 +56,7 @@ pub returns-clause-keeps : goal.returns-clause-keeps
 returns-clause-keeps c = c.write_constant.ensures.keeps
 
 pub write_constant-requires-clause-suited : goal.write_constant-requires-clause-suited
-write_constant-requires-clause-suited c = suited_as c.args.work.now.ledger.max_text (field_data c.known_at-at.result.field.now) c.args.kind
+write_constant-requires-clause-suited c = suited_as c.args.work.now.ledger.max_text (field_data (field_there c.known_at-at.result.place)) c.args.kind
     (scalar_data c.in-Some.scalar) (value_data c.args.value.now) c.known_at-at.ensures.kind c.in-Some.ensures.0 c.in-Some.ensures.1
     (subst (λ (m : ℕ). length (text_of (value_data c.args.value.now)) ≤ m) c.requires.ready.room c.in-Some.ensures.2)
 
@@ -63,7 +64,7 @@ pub returns-clause-suits : goal.returns-clause-suits
 returns-clause-suits c =
     let here = c.known_at-at.ensures.instruction in
     on_any c.write_constant.result (field_suits (instruction_in (nodes_of c.args.plan.now.templates.now) c.args.node) here.0
-    (field_data c.known_at-at.result.field.now) c.args.kind
+    (field_data (field_there c.known_at-at.result.place)) c.args.kind
     (value_data c.args.value.now) here.1 c.known_at-at.ensures.kind c.in-Some.ensures.1)
 
 pub returns-clause-fits : goal.returns-clause-fits

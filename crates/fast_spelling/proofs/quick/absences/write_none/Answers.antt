@@ -14,28 +14,6 @@ use Rattle.fast_spelling.specs.device.Drafts.{IsTold}
 use Rattle.fast_spelling.specs.meaning.Refusals.{RefusesField}
 use Rattle.fast_spelling.proofs.quick.absences.write_none.Goals as goal
 
-pub send-requires-clause-ruled : goal.send-requires-clause-ruled
-send-requires-clause-ruled c =
-    let f = field_data c.args.field.now in
-    subst (λ (g : FieldInstruction). Rule (field_data g) (previous_at (field_data g).entry c.args.ledger.now.now) None true null) (sym c.of.ensures)
-    (absent_plain f (previous_at f.entry c.args.ledger.now.now) c.in-None.is)
-
-pub send-requires-in-Delta-clause-ruled : goal.send-requires-in-Delta-clause-ruled
-send-requires-in-Delta-clause-ruled c =
-    let f = field_data c.args.field.now in
-    subst (λ (g : FieldInstruction). Rule (field_data g) (previous_at (field_data g).entry c.args.ledger.now.now) None true null) (sym c.of-in-Delta.ensures)
-    (absent_delta f (previous_at f.entry c.args.ledger.now.now) c.in-Delta.is)
-
-pub returns-in-None-clause-ok : goal.returns-in-None-clause-ok
-returns-in-None-clause-ok c = on_ok c.send.result c.send.ensures.ok (λ k l same.
-    subst (λ (g : FieldInstruction). Wrote (EncodesField l (field_data g) c.args.ledger.now.now None) c.args.draft.now c.send.new.draft
-    c.send.new.ledger.now) c.of.ensures (k l same))
-
-pub returns-in-Delta-clause-ok : goal.returns-in-Delta-clause-ok
-returns-in-Delta-clause-ok c = on_ok c.send-in-Delta.result c.send-in-Delta.ensures.ok (λ k l same.
-    subst (λ (g : FieldInstruction). Wrote (EncodesField l (field_data g) c.args.ledger.now.now None) c.args.draft.now
-    c.send-in-Delta.new.draft c.send-in-Delta.new.ledger.now) c.of-in-Delta.ensures (k l same))
-
 pub returns-in-Default-clause-ok : goal.returns-in-Default-clause-ok
 returns-in-Default-clause-ok c = on_ok c.write_no_default.result c.write_no_default.ensures.ok (λ k l same.
     subst (λ (g : FieldInstruction). Wrote (EncodesField l (field_data g) c.args.ledger.now.now None) c.args.draft.now
@@ -45,44 +23,6 @@ pub returns-in-Copy-clause-ok : goal.returns-in-Copy-clause-ok
 returns-in-Copy-clause-ok c = on_ok c.write_no_copy.result c.write_no_copy.ensures.ok (λ k l same.
     subst (λ (g : FieldInstruction). Wrote (EncodesField l (field_data g) c.args.ledger.now.now None) c.args.draft.now
     c.write_no_copy.new.draft c.write_no_copy.new.ledger.now) c.of-in-Copy.ensures (k l same))
-
-pub send-requires-clause-operator : goal.send-requires-clause-operator
-send-requires-clause-operator c = ap (λ (g : FieldInstruction). g.operator) c.of.ensures
-
-pub send-requires-clause-served : goal.send-requires-clause-served
-send-requires-clause-served c = subst (λ (g : FieldInstruction). IsServed c.args.ledger.now (field_data g)) (sym c.of.ensures) c.requires.served
-
-pub send-requires-clause-suited : goal.send-requires-clause-suited
-send-requires-clause-suited c = subst (λ (g : FieldInstruction). IsSuited c.args.ledger.now.max_text (field_data g) None) (sym c.of.ensures) c.requires.suited
-
-pub returns-in-None-clause-err : goal.returns-in-None-clause-err
-returns-in-None-clause-err c = subst (λ (g : FieldInstruction). IfErr c.send.result
-    (IsTold (RefusesField (field_data g) c.args.ledger.now.now None))) c.of.ensures c.send.ensures.err
-
-pub returns-in-None-clause-keeps : goal.returns-in-None-clause-keeps
-returns-in-None-clause-keeps c = record { before = c.send.ensures.before; room = c.send.ensures.max_text; count = c.send.ensures.length }
-
-pub send-requires-in-Delta-clause-operator : goal.send-requires-in-Delta-clause-operator
-send-requires-in-Delta-clause-operator c = ap (λ (g : FieldInstruction). g.operator) c.of-in-Delta.ensures
-
-pub send-requires-in-Delta-clause-served : goal.send-requires-in-Delta-clause-served
-send-requires-in-Delta-clause-served c = subst (λ (g : FieldInstruction). IsServed c.args.ledger.now (field_data g))
-    (sym c.of-in-Delta.ensures) c.requires.served
-
-pub send-requires-in-Delta-clause-suited : goal.send-requires-in-Delta-clause-suited
-send-requires-in-Delta-clause-suited c = subst (λ (g : FieldInstruction). IsSuited c.args.ledger.now.max_text (field_data g) None)
-    (sym c.of-in-Delta.ensures) c.requires.suited
-
-pub returns-in-Delta-clause-err : goal.returns-in-Delta-clause-err
-returns-in-Delta-clause-err c = subst (λ (g : FieldInstruction). IfErr c.send-in-Delta.result
-    (IsTold (RefusesField (field_data g) c.args.ledger.now.now None))) c.of-in-Delta.ensures c.send-in-Delta.ensures.err
-
-pub returns-in-Delta-clause-keeps : goal.returns-in-Delta-clause-keeps
-returns-in-Delta-clause-keeps c = record {
-  before = c.send-in-Delta.ensures.before;
-  room = c.send-in-Delta.ensures.max_text;
-  count = c.send-in-Delta.ensures.length;
-}
 
 pub write_no_default-requires-clause-operator : goal.write_no_default-requires-clause-operator
 write_no_default-requires-clause-operator c = ap (λ (g : FieldInstruction). g.operator) c.of-in-Default.ensures ∙ c.in-Default.is
@@ -134,3 +74,49 @@ returns-in-Increment-clause-err c = c.choose_none.ensures.err
 
 pub returns-in-Increment-clause-keeps : goal.returns-in-Increment-clause-keeps
 returns-in-Increment-clause-keeps c = c.choose_none.ensures.keeps
+
+pub returns-in-None-clause-ok : goal.returns-in-None-clause-ok
+returns-in-None-clause-ok c = on_ok c.write_no_plain.result c.write_no_plain.ensures.ok (λ k l same.
+    subst (λ (g : FieldInstruction). Wrote (EncodesField l (field_data g) c.args.ledger.now.now None) c.args.draft.now
+    c.write_no_plain.new.draft c.write_no_plain.new.ledger.now) c.of.ensures (k l same))
+
+pub write_no_plain-requires-clause-operator : goal.write_no_plain-requires-clause-operator
+write_no_plain-requires-clause-operator c = ap (λ (g : FieldInstruction). g.operator) c.of.ensures ∙ c.in-None.is
+
+pub write_no_plain-requires-clause-served : goal.write_no_plain-requires-clause-served
+write_no_plain-requires-clause-served c = subst (λ (g : FieldInstruction). IsServed c.args.ledger.now (field_data g))
+    (sym c.of.ensures) c.requires.served
+
+pub write_no_plain-requires-clause-suited : goal.write_no_plain-requires-clause-suited
+write_no_plain-requires-clause-suited c = subst (λ (g : FieldInstruction). IsSuited c.args.ledger.now.max_text (field_data g) None)
+    (sym c.of.ensures) c.requires.suited
+
+pub returns-in-None-clause-err : goal.returns-in-None-clause-err
+returns-in-None-clause-err c = subst (λ (g : FieldInstruction). IfErr c.write_no_plain.result
+    (IsTold (RefusesField (field_data g) c.args.ledger.now.now None))) c.of.ensures c.write_no_plain.ensures.err
+
+pub returns-in-None-clause-keeps : goal.returns-in-None-clause-keeps
+returns-in-None-clause-keeps c = c.write_no_plain.ensures.keeps
+
+pub returns-in-Delta-clause-ok : goal.returns-in-Delta-clause-ok
+returns-in-Delta-clause-ok c = on_ok c.write_no_delta.result c.write_no_delta.ensures.ok (λ k l same.
+    subst (λ (g : FieldInstruction). Wrote (EncodesField l (field_data g) c.args.ledger.now.now None) c.args.draft.now
+    c.write_no_delta.new.draft c.write_no_delta.new.ledger.now) c.of-in-Delta.ensures (k l same))
+
+pub write_no_delta-requires-clause-operator : goal.write_no_delta-requires-clause-operator
+write_no_delta-requires-clause-operator c = ap (λ (g : FieldInstruction). g.operator) c.of-in-Delta.ensures ∙ c.in-Delta.is
+
+pub write_no_delta-requires-clause-served : goal.write_no_delta-requires-clause-served
+write_no_delta-requires-clause-served c = subst (λ (g : FieldInstruction). IsServed c.args.ledger.now (field_data g))
+    (sym c.of-in-Delta.ensures) c.requires.served
+
+pub write_no_delta-requires-clause-suited : goal.write_no_delta-requires-clause-suited
+write_no_delta-requires-clause-suited c = subst (λ (g : FieldInstruction). IsSuited c.args.ledger.now.max_text (field_data g) None)
+    (sym c.of-in-Delta.ensures) c.requires.suited
+
+pub returns-in-Delta-clause-err : goal.returns-in-Delta-clause-err
+returns-in-Delta-clause-err c = subst (λ (g : FieldInstruction). IfErr c.write_no_delta.result
+    (IsTold (RefusesField (field_data g) c.args.ledger.now.now None))) c.of-in-Delta.ensures c.write_no_delta.ensures.err
+
+pub returns-in-Delta-clause-keeps : goal.returns-in-Delta-clause-keeps
+returns-in-Delta-clause-keeps c = c.write_no_delta.ensures.keeps

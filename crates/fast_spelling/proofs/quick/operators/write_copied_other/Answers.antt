@@ -6,6 +6,7 @@ use mathlib.Core.List.{not-mem-nil}
 use Rattle.fast_value.specs.meaning.Values.{scalar_data}
 use Rattle.fast_tree.specs.meaning.Nodes.{field_data}
 use Rattle.fast_dict.specs.meaning.Dictionary.{assigned, previous_at}
+use Rattle.fast_spelling.specs.device.Places.{field_there}
 use Rattle.fast_spelling.specs.device.Fields.{IsSuited}
 use Rattle.fast_spelling.proofs.rules.Usual.{copy_passed, copy_other, value_sendable}
 use Rattle.fast_spelling.proofs.encodings.Progress.{keeps_all, on_handed_on}
@@ -13,7 +14,7 @@ use Rattle.fast_spelling.proofs.quick.operators.write_copied_other.Goals as goal
 
 pub returns-in_ok-push_bit-in-Some-clause-ok : goal.returns-in_ok-push_bit-in-Some-clause-ok
 returns-in_ok-push_bit-in-Some-clause-ok c = λ l same.
-    let f = field_data c.args.at.field.now in
+    let f = field_data (field_there c.args.at.place) in
     let v = scalar_data c.args.value in (
       false ∷ [],
       [],
@@ -27,11 +28,11 @@ returns-in_ok-push_bit-in-Some-clause-ok c = λ l same.
 pub held_in-requires : goal.held_in-requires
 held_in-requires c = c.requires.served
 
-pub choose_value-requires-clause-served : goal.choose_value-requires-clause-served
-choose_value-requires-clause-served c = c.requires.served
+pub choose_known-requires-clause-served : goal.choose_known-requires-clause-served
+choose_known-requires-clause-served c = c.requires.served
 
-pub choose_value-requires-clause-suited : goal.choose_value-requires-clause-suited
-choose_value-requires-clause-suited c = c.requires.suited
+pub choose_known-requires-clause-suited : goal.choose_known-requires-clause-suited
+choose_known-requires-clause-suited c = c.requires.suited
 
 pub send-requires-clause-operator : goal.send-requires-clause-operator
 send-requires-clause-operator c = c.requires.operator
@@ -43,13 +44,13 @@ pub send-requires-clause-suited : goal.send-requires-clause-suited
 send-requires-clause-suited c = c.requires.suited
 
 pub returns-in-None-clause-ok : goal.returns-in-None-clause-ok
-returns-in-None-clause-ok c = c.choose_value.ensures.ok
+returns-in-None-clause-ok c = c.choose_known.ensures.ok
 
 pub returns-in-None-clause-err : goal.returns-in-None-clause-err
-returns-in-None-clause-err c = c.choose_value.ensures.err
+returns-in-None-clause-err c = c.choose_known.ensures.err
 
 pub returns-in-None-clause-keeps : goal.returns-in-None-clause-keeps
-returns-in-None-clause-keeps c = c.choose_value.ensures.keeps
+returns-in-None-clause-keeps c = c.choose_known.ensures.keeps
 
 pub returns-in_err-push_bit-in-Some-clause-keeps : goal.returns-in_err-push_bit-in-Some-clause-keeps
 returns-in_err-push_bit-in-Some-clause-keeps c = keeps_all c.args.ledger.now
@@ -77,10 +78,10 @@ returns-in_err-push_bit-in-Some-clause-ok c = on_handed_on _ _ c.from_residual.r
 
 pub send-requires-clause-ruled : goal.send-requires-clause-ruled
 send-requires-clause-ruled c =
-    let f = field_data c.args.at.field.now in
+    let f = field_data (field_there c.args.at.place) in
     copy_other f (previous_at f.entry c.args.ledger.now.now) (scalar_data c.in-Some.held)
     (scalar_data c.args.value) c.requires.operator c.in-Some.ensures.value (λ e. absurd (cc (c.if-is_same.ensures.1 e)))
 
 pub send-requires-clause-sendable : goal.send-requires-clause-sendable
-send-requires-clause-sendable c = value_sendable c.args.at.field.now.kind
+send-requires-clause-sendable c = value_sendable (field_there c.args.at.place).kind
     (scalar_data c.args.value) c.args.ledger.now.max_text c.requires.served.small c.requires.suited.0 c.requires.suited.1

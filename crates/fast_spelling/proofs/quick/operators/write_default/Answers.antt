@@ -5,13 +5,14 @@ use Rattle.std.proofs.lemmas.List.{append-nil}
 use mathlib.Core.List.{not-mem-nil}
 use Rattle.fast_value.specs.meaning.Values.{scalar_data}
 use Rattle.fast_tree.specs.meaning.Nodes.{field_data}
+use Rattle.fast_spelling.specs.device.Places.{field_there}
 use Rattle.fast_spelling.specs.device.Fields.{IsSuited}
 use Rattle.fast_spelling.proofs.rules.Usual.{default_passed}
 use Rattle.fast_spelling.proofs.quick.operators.write_default.Goals as goal
 
 pub returns-then-is_initial-clause-ok : goal.returns-then-is_initial-clause-ok
 returns-then-is_initial-clause-ok c = λ l same.
-    let f = field_data c.args.at.field.now in
+    let f = field_data (field_there c.args.at.place) in
     let v = scalar_data c.args.value in (
       false ∷ [],
       [],

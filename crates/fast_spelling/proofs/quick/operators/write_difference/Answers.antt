@@ -9,12 +9,13 @@ use Rattle.fast_tree.specs.meaning.Nodes.{field_data}
 use Rattle.fast_dict.specs.meaning.Dictionary.{previous_at}
 use Rattle.fast_dict.specs.meaning.Operators.{integer_delta}
 use Rattle.fast_dict.specs.meaning.Rule.{Rule}
+use Rattle.fast_spelling.specs.device.Places.{field_there}
 use Rattle.fast_spelling.proofs.rules.Usual.{delta_ruled}
 use Rattle.fast_spelling.proofs.quick.operators.write_difference.Goals as goal
 
 pub send-requires-clause-ruled : goal.send-requires-clause-ruled
 send-requires-clause-ruled c =
-    let f = field_data c.args.at.field.now in
+    let f = field_data (field_there c.args.at.place) in
     let p = previous_at f.entry c.args.ledger.now.now in
     let v = scalar_data c.args.value in
     let b = scalar_data c.in-Some.held in
