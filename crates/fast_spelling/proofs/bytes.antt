@@ -1,6 +1,7 @@
 -- Bits of maps, entries, and the bytes of values.
 pub mod Ledgers
 pub mod Bits
+pub mod Presence
 pub mod Spelling
 pub mod Mapped
 pub mod Respelled

@@ -3,6 +3,7 @@ pub mod Drafts
 pub mod Fields
 pub mod Nodes
 pub mod Places
+pub mod Presence
 pub mod Progress
 pub mod Groups
 pub mod Usual

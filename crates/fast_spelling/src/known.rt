@@ -57,7 +57,8 @@ impl<'t> Known<'t> {
             Place::Alone(field) => field,
             Place::Node(shape) => match shape {
                 Shape::Field(field) => field,
-                Shape::Decimal { .. } | Shape::Group { .. } | Shape::Sequence { .. } => unreachable!(),
+                Shape::Decimal { .. } | Shape::Group { .. } | Shape::Sequence { .. } =>
+                    unreachable!(),
             },
         }
     }

@@ -1,6 +1,7 @@
 //! The encoding of messages: the functions that write a message's bytes, and their laws.
 #![tactic(auto)]
 
+pub mod bits;
 pub mod checking;
 pub mod draft;
 pub mod entry;

@@ -22,9 +22,7 @@ use crate::draft::Draft;
 use crate::faults::EncodeFault;
 use crate::known::Known;
 use crate::ledger::Ledger;
-pub use absences::{
-    write_no_copy, write_no_default, write_no_delta, write_no_plain, write_none,
-};
+pub use absences::{write_no_copy, write_no_default, write_no_delta, write_no_plain, write_none};
 pub use choices::choose_value;
 use fast_template::{FieldInstruction, Operator};
 use fast_value::Scalar;

@@ -109,7 +109,7 @@ pub wrote_twice : (e m : FieldData) (l : Limits) (x y : ℤ) (a b c : Draft) (d 
 wrote_twice e m l x y a b c d mid d' (b1, u, p, q, h) (b2, v, r, s, i) = (
   b1 ++ b2,
   u ++ v,
-  r ∙ ap (λ (z : List Bool). z ++ b2) p ∙ append_assoc a.bits.items b1 b2,
+  r ∙ ap (λ (z : List Bool). z ++ b2) p ∙ append_assoc a.bits b1 b2,
   s ∙ ap (λ (z : List ℕ). z ++ v) q ∙ append_assoc a.bytes.items u v,
   (b1, b2, u, v, mid, h, i, refl, refl),
 )
@@ -150,8 +150,8 @@ decimal_refuses l at e m v d c h = h
 
 -- a group: its bit, and its segment
 pub group_encodes : (l : Limits) (at : Label) (optional : Bool) (body : Body) (vs : Slots) (d : Dictionary) (a p c : Draft) (w : List ℕ)
-    (d' : Dictionary) → p.bits.items ≡ a.bits.items ++ (if optional then true ∷ [] else []) → p.bytes.items ≡ a.bytes.items
-    → c.bits.items ≡ p.bits.items → c.bytes.items ≡ p.bytes.items ++ w → EncodesSegment body (EncodesBody l body) d vs w d'
+    (d' : Dictionary) → p.bits ≡ a.bits ++ (if optional then true ∷ [] else []) → p.bytes.items ≡ a.bytes.items
+    → c.bits ≡ p.bits → c.bytes.items ≡ p.bytes.items ++ w → EncodesSegment body (EncodesBody l body) d vs w d'
     → Wrote (Encodes l (group at optional body) d (Some (group_item vs))) a c d'
 unfolding Encodes
 group_encodes l at optional body vs d a p c w d' b u e f h = (if optional then true ∷ [] else [], w, e ∙ b, f ∙ ap (λ (z : List ℕ). z ++ w) u, (refl, h))
@@ -164,7 +164,7 @@ group_refuses l at optional body vs d c h = h
 -- a sequence: its length, and its elements
 pub sequence_encodes : (l : Limits) (at : Label) (f : FieldData) (body : Body) (rows : Elements) (d mid : Dictionary) (a b c : Draft)
     (w : List ℕ) (d' : Dictionary) → Wrote (EncodesField l f d (Some (U (count rows)))) a b mid
-    → c.bits.items ≡ b.bits.items → c.bytes.items ≡ b.bytes.items ++ w
+    → c.bits ≡ b.bits → c.bytes.items ≡ b.bytes.items ++ w
     → EncodesElements (EncodesSegment body (EncodesBody l body)) mid rows w d'
     → Wrote (Encodes l (sequence at f body) d (Some (sequence_item rows))) a c d'
 unfolding Encodes

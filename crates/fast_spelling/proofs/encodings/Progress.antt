@@ -84,7 +84,7 @@ pub written_start : (l : Limits) (body : Body) (vs : Slots) (d : Dictionary) (a 
 written_start l body vs d a = record {
   bits = [];
   bytes = [];
-  bits_are = sym (append-nil a.bits.items);
+  bits_are = sym (append-nil a.bits);
   bytes_are = sym (append-nil a.bytes.items);
   goes = λ b w d' h. h;
   refuses = λ c h. h;
@@ -97,7 +97,7 @@ unfolding EncodesBody RefusesBody
 written_next l whole vs d a i is x left now mid b c h (bits, bytes, p, q, e) = record {
   bits = h.bits ++ bits;
   bytes = h.bytes ++ bytes;
-  bits_are = p ∙ ap (λ (z : List Bool). z ++ bits) h.bits_are ∙ append_assoc a.bits.items h.bits bits;
+  bits_are = p ∙ ap (λ (z : List Bool). z ++ bits) h.bits_are ∙ append_assoc a.bits h.bits bits;
   bytes_are = q ∙ ap (λ (z : List ℕ). z ++ bytes) h.bytes_are ∙ append_assoc a.bytes.items h.bytes bytes;
   goes = λ r s d' k. rw (append_assoc h.bits bits r, append_assoc h.bytes bytes s)
       (h.goes (bits ++ r) (bytes ++ s) d' (x, left, bits, r, bytes, s, mid, e, k, refl, refl, refl));
@@ -121,37 +121,13 @@ written_done l whole vs d a now b h = (
   rw (append-nil h.bits, append-nil h.bytes) at (h.goes [] [] now (refl, refl, refl, refl)),
 )
 
--- a segment: its body was written behind a mark, and its map was put in front
-pub segment_done : (l : Limits) (body : Body) (vs : Slots) (d mid : Dictionary) (a b c : Draft) → Wrote (EncodesBody l body d vs) a b mid
-    → Closes (has_map body) (take (length a.bytes.items) b.bytes.items) (drop (length a.bytes.items) b.bytes.items)
-    (drop (length a.bits.items) b.bits.items) c.bytes.items
-    → (w : List ℕ) × (c.bytes.items ≡ a.bytes.items ++ w) × EncodesSegment body (EncodesBody l body) d vs w mid
-segment_done l body vs d mid a b c (bits, bytes, p, q, e) (m, map, r) =
-    let front : take (length a.bytes.items) b.bytes.items ≡ a.bytes.items = ap (take (length a.bytes.items)) q ∙ take-append_seam a.bytes.items bytes in
-    let back : drop (length a.bytes.items) b.bytes.items ≡ bytes = ap (drop (length a.bytes.items)) q ∙ drop-append_seam a.bytes.items bytes in
-    let own : drop (length a.bits.items) b.bits.items ≡ bits = ap (drop (length a.bits.items)) p ∙ drop-append_seam a.bits.items bits in (
-      m ++ bytes,
-      r ∙ ap (λ (z : List ℕ). z ++ (m ++ drop (length a.bytes.items) b.bytes.items)) front ∙ ap (λ (z : List ℕ). a.bytes.items ++ (m ++ z)) back,
-      (bits, m, bytes, e, subst (λ (z : List Bool). ShortestMap (has_map body) z m) own map, refl),
-    )
-
-pub segment_bits : (a b : Draft) (c bits : List Bool) → b.bits.items ≡ a.bits.items ++ bits → c ≡ take (length a.bits.items) b.bits.items → c ≡ a.bits.items
-segment_bits a b c bits p e = e ∙ ap (take (length a.bits.items)) p ∙ take-append_seam a.bits.items bits
-
-pub segment_refused : (l : Limits) (body : Body) (vs : Slots) (d mid : Dictionary) (a b : Draft) (f : EncodeFault)
-    → Wrote (EncodesBody l body d vs) a b mid → f ≡ E3 → has_map body ≡ true → HaveNoMap (drop (length a.bits.items) b.bits.items)
-    → RefusesSegment body (EncodesBody l body) (RefusesBody l body) d vs f
-segment_refused l body vs d mid a b f (bits, bytes, p, q, e) is has no_map =
-    let own : drop (length a.bits.items) b.bits.items ≡ bits = ap (drop (length a.bits.items)) p ∙ drop-append_seam a.bits.items bits in
-    inr (bits, bytes, mid, e, has, subst HaveNoMap own no_map, is)
-
 -- elements
 pub rows_start : (l : Limits) (body : Body) (rows : Elements) (d : Dictionary) (a : Draft) → AreWritten l body rows d a rows d a
 rows_start l body rows d a = record { bytes = []; bits_are = refl; bytes_are = sym (append-nil a.bytes.items); goes = λ w d' h. h; refuses = λ c h. h }
 
 pub rows_more : (l : Limits) (body : Body) (rows : Elements) (d : Dictionary) (a : Draft) (vs : Slots) (left : Elements)
     (now mid : Dictionary) (b c : Draft) (w : List ℕ)
-    → AreWritten l body rows d a (element vs left) now b → c.bits.items ≡ b.bits.items → c.bytes.items ≡ b.bytes.items ++ w
+    → AreWritten l body rows d a (element vs left) now b → c.bits ≡ b.bits → c.bytes.items ≡ b.bytes.items ++ w
     → EncodesSegment body (EncodesBody l body) now vs w mid → AreWritten l body rows d a left mid c
 rows_more l body rows d a vs left now mid b c w h p q e = record {
   bytes = h.bytes ++ w;
@@ -243,25 +219,32 @@ on_both (Err e) h k f = tt
 -- A segment that was closed behind its mark.
 pub record IsClosed (l : Limits) (body : Body) (vs : Slots) (d mid : Dictionary) (a c : Draft) : Type 0 where
   pub bytes : List ℕ
-  pub bits_are : c.bits.items ≡ a.bits.items
+  pub bits_are : c.bits ≡ a.bits
   pub bytes_are : c.bytes.items ≡ a.bytes.items ++ bytes
   pub says : EncodesSegment body (EncodesBody l body) d vs bytes mid
 
-pub closed : (l : Limits) (body : Body) (vs : Slots) (d mid : Dictionary) (a b c : Draft) (has : Bool) (m n : ℕ)
-    → Wrote (EncodesBody l body d vs) a b mid → has ≡ has_map body → m ≡ length a.bytes.items → n ≡ length a.bits.items
-    → Closes has (take m b.bytes.items) (drop m b.bytes.items) (drop n b.bits.items) c.bytes.items → c.bits.items ≡ take n b.bits.items
+pub closed : (l : Limits) (body : Body) (vs : Slots) (d mid : Dictionary) (a o b c : Draft) (has : Bool) (m : ℕ)
+    → o.bytes ≡ a.bytes → o.bits ≡ [] → Wrote (EncodesBody l body d vs) o b mid → has ≡ has_map body → m ≡ length a.bytes.items
+    → Closes has (take m b.bytes.items) (drop m b.bytes.items) b.bits c.bytes.items → c.bits ≡ a.bits
     → IsClosed l body vs d mid a c
-closed l body vs d mid a b c has m n w h i j k e =
-    let map = subst (λ (z : Bool). Closes z (take (length a.bytes.items) b.bytes.items) (drop (length a.bytes.items) b.bytes.items)
-    (drop (length a.bits.items) b.bits.items) c.bytes.items) h (rw (i, j) at k) in
-    let s = segment_done l body vs d mid a b c w map in
-    record { bytes = s.0; bits_are = segment_bits a b c.bits.items w.0 w.2 (e ∙ ap (λ (z : ℕ). take z b.bits.items) j); bytes_are = s.1; says = s.2 }
+closed l body vs d mid a o b c has m u v (bits, bytes, p, q, e) h i (map, short, r) s =
+    let before = a.bytes.items in
+    let whole : b.bytes.items ≡ before ++ bytes = q ∙ ap (λ (z : Vec ℕ Global). z.items ++ bytes) u in
+    let front : take m b.bytes.items ≡ before = ap (λ (z : ℕ). take z b.bytes.items) i ∙ ap (take (length before)) whole ∙ take-append_seam before bytes in
+    let back : drop m b.bytes.items ≡ bytes = ap (λ (z : ℕ). drop z b.bytes.items) i ∙ ap (drop (length before)) whole ∙ drop-append_seam before bytes in
+    let own : b.bits ≡ bits = p ∙ ap (λ (z : List Bool). z ++ bits) v in
+    record {
+      bytes = map ++ bytes;
+      bits_are = s;
+      bytes_are = r ∙ ap (λ (z : List ℕ). z ++ (map ++ drop m b.bytes.items)) front ∙ ap (λ (z : List ℕ). before ++ (map ++ z)) back;
+      says = (bits, map, bytes, e, subst (λ (z : Bool). ShortestMap z bits map) h (subst (λ (z : List Bool). ShortestMap has z map) own short), refl);
+    }
 
-pub unclosed : (l : Limits) (body : Body) (vs : Slots) (d mid : Dictionary) (a b : Draft) (has : Bool) (n : ℕ) (f : EncodeFault)
-    → Wrote (EncodesBody l body d vs) a b mid → has ≡ has_map body → n ≡ length a.bits.items
-    → (f ≡ E3) × (has ≡ true) × HaveNoMap (drop n b.bits.items) → RefusesSegment body (EncodesBody l body) (RefusesBody l body) d vs f
-unclosed l body vs d mid a b has n f w h j (is, set, none) =
-    segment_refused l body vs d mid a b f w is (sym h ∙ set) (subst (λ (z : ℕ). HaveNoMap (drop z b.bits.items)) j none)
+pub unclosed : (l : Limits) (body : Body) (vs : Slots) (d mid : Dictionary) (o b : Draft) (has : Bool) (f : EncodeFault)
+    → o.bits ≡ [] → Wrote (EncodesBody l body d vs) o b mid → has ≡ has_map body
+    → (f ≡ E3) × (has ≡ true) × HaveNoMap b.bits → RefusesSegment body (EncodesBody l body) (RefusesBody l body) d vs f
+unclosed l body vs d mid o b has f v (bits, bytes, p, q, e) h (is, set, none) =
+    inr (bits, bytes, mid, e, sym h ∙ set, subst HaveNoMap (p ∙ ap (λ (z : List Bool). z ++ bits) v) none, is)
 
 -- elements from a place on
 module _ (l : Limits) (body : Body) (rs : List (Vec (Option Item) Global)) (i : ℕ) (r : Vec (Option Item) Global) (inside : i < length rs)
@@ -287,7 +270,7 @@ module _ (l : Limits) (body : Body) (rs : List (Vec (Option Item) Global)) (i : 
 
 pub rows_done : (l : Limits) (body : Body) (rs : List (Vec (Option Item) Global)) (i : ℕ) (d : Dictionary) (a : Draft) (now : Dictionary)
     (b : Draft) → length rs ≤ i → AreWritten l body (elements_data rs) d a (elements_data (drop i rs)) now b
-    → (w : List ℕ) × (b.bits.items ≡ a.bits.items) × (b.bytes.items ≡ a.bytes.items ++ w)
+    → (w : List ℕ) × (b.bits ≡ a.bits) × (b.bytes.items ≡ a.bytes.items ++ w)
     × EncodesElements (EncodesSegment body (EncodesBody l body)) d (elements_data rs) w now
 rows_done l body rs i d a now b past h =
     let k = subst (λ (z : Elements). AreWritten l body (elements_data rs) d a z now b) (ap elements_data (drop_all i rs past)) h in

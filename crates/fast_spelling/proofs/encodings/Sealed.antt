@@ -2,7 +2,7 @@
 use Rattle.std.proofs.Common.{◌≡◌, ℕ, ◌+◌, List, [], ◌∷◌, ◌++◌, length, take, drop, refl, ap, subst, ◌∙◌}
 use Rattle.std.specs.Prelude.{Bool, true, false, if◌then◌else◌}
 use Rattle.std.proofs.lemmas.List.{append_assoc}
-use Rattle.std.proofs.Math.Seq.{drop-append_seam, take-append_seam, drop-append-add}
+use Rattle.std.proofs.Math.Seq.{take-append_seam, drop-append-add}
 use Rattle.fast_value.specs.declared.settings.Limits.{Limits}
 use Rattle.fast_value.specs.meaning.Messages.{Slots}
 use Rattle.fast_tree.specs.meaning.Tree.{Body, has_map}
@@ -20,13 +20,13 @@ behind_kept : (has : Bool) (w : List ℕ) → drop (if has then 1 else 0) (kept_
 behind_kept true w = refl
 behind_kept false w = refl
 
-pub sealed : (l : Limits) (body : Body) (vs : Slots) (d mid : Dictionary) (a o b c : Draft) (has : Bool) (m n : ℕ)
-    → o.bytes.items ≡ a.bytes.items ++ kept_bytes has → o.bits.items ≡ a.bits.items → Wrote (EncodesBody l body d vs) o b mid
+pub sealed : (l : Limits) (body : Body) (vs : Slots) (d mid : Dictionary) (a o b c : Draft) (has : Bool) (m : ℕ)
+    → o.bytes.items ≡ a.bytes.items ++ kept_bytes has → o.bits ≡ [] → Wrote (EncodesBody l body d vs) o b mid
     → has ≡ has_map body
-    → m ≡ length a.bytes.items → n ≡ length a.bits.items → Closes has (take m b.bytes.items)
-    (drop (m + (if has then 1 else 0)) b.bytes.items) (drop n b.bits.items) c.bytes.items → c.bits.items ≡ take n b.bits.items
+    → m ≡ length a.bytes.items → Closes has (take m b.bytes.items)
+    (drop (m + (if has then 1 else 0)) b.bytes.items) b.bits c.bytes.items → c.bits ≡ a.bits
     → IsClosed l body vs d mid a c
-sealed l body vs d mid a o b c has m n u v (bits, bytes, p, q, e) h i j (map, short, r) s =
+sealed l body vs d mid a o b c has m u v (bits, bytes, p, q, e) h i (map, short, r) s =
     let before = a.bytes.items in
     let some : ℕ = if has then 1 else 0 in
     let whole : b.bytes.items ≡ before ++ (kept_bytes has ++ bytes) = q ∙ ap (λ (z : List ℕ). z ++ bytes) u ∙ append_assoc before (kept_bytes has) bytes in
@@ -34,11 +34,10 @@ sealed l body vs d mid a o b c has m n u v (bits, bytes, p, q, e) h i j (map, sh
     ∙ take-append_seam before (kept_bytes has ++ bytes) in
     let back : drop (m + some) b.bytes.items ≡ bytes = ap (λ (z : ℕ). drop (z + some) b.bytes.items) i
     ∙ ap (drop (length before + some)) whole ∙ drop-append-add before (kept_bytes has ++ bytes) some ∙ behind_kept has bytes in
-    let all : b.bits.items ≡ a.bits.items ++ bits = p ∙ ap (λ (z : List Bool). z ++ bits) v in
-    let own : drop n b.bits.items ≡ bits = ap (λ (z : ℕ). drop z b.bits.items) j ∙ ap (drop (length a.bits.items)) all ∙ drop-append_seam a.bits.items bits in
+    let own : b.bits ≡ bits = p ∙ ap (λ (z : List Bool). z ++ bits) v in
     record {
       bytes = map ++ bytes;
-      bits_are = s ∙ ap (λ (z : ℕ). take z b.bits.items) j ∙ ap (take (length a.bits.items)) all ∙ take-append_seam a.bits.items bits;
+      bits_are = s;
       bytes_are = r ∙ ap (λ (z : List ℕ). z ++ (map ++ drop (m + some) b.bytes.items)) front ∙ ap (λ (z : List ℕ). before ++ (map ++ z)) back;
       says = (bits, map, bytes, e, subst (λ (z : Bool). ShortestMap z bits map) h (subst (λ (z : List Bool). ShortestMap has z map) own short), refl);
     }

@@ -77,10 +77,8 @@ body_refused t l d mid now m id v a b c found known (b1, x, bits, bytes, field) 
 )
 
 -- the bits of a draft that was empty before two writes
-both_bits : (a b c : Draft) (k : ℕ) (x y : List Bool) → a.bits.items ≡ [] → k ≡ 0 → b.bits.items ≡ a.bits.items ++ x
-    → c.bits.items ≡ b.bits.items ++ y → drop k c.bits.items ≡ x ++ y
-both_bits a b c k x y empty start one two = ap (λ (n : ℕ). drop n c.bits.items) start ∙ two
-    ∙ ap (λ (z : List Bool). z ++ y) (one ∙ ap (λ (z : List Bool). z ++ x) empty)
+kept_bits : (a b c : Draft) (x y : List Bool) → a.bits ≡ [] → b.bits ≡ a.bits ++ x → c.bits ≡ b.bits ++ y → c.bits ≡ x ++ y
+kept_bits a b c x y empty one two = two ∙ ap (λ (z : List Bool). z ++ y) (one ∙ ap (λ (z : List Bool). z ++ x) empty)
 
 both_bytes : (a b c : Draft) (n : ℕ) (x y : List ℕ) → a.bytes.items ≡ [] → n ≡ 0 → b.bytes.items ≡ a.bytes.items ++ x
     → c.bytes.items ≡ b.bytes.items ++ y → drop n c.bytes.items ≡ x ++ y
@@ -92,11 +90,11 @@ nothing_before n w start = ap (λ (k : ℕ). take k w) start
 
 -- The bits of the whole segment have no map.
 pub message_unmapped : (t : Templates) (l : Limits) (d mid now d' : Dictionary) (m : MessageData) (id : ℕ) (v : Template) (a b c : Draft)
-    (k : ℕ) (e : EncodeFault) → slice_get (templates_of t) m.template ≡ Some v → IsKnownAs (tree_of t) m id
-    → a.bits.items ≡ [] → k ≡ 0 → Wrote (EncodesField l identifier d (Some (U id))) a b mid → now ≡ (if v.reset then reset mid else mid)
+    (e : EncodeFault) → slice_get (templates_of t) m.template ≡ Some v → IsKnownAs (tree_of t) m id
+    → a.bits ≡ [] → Wrote (EncodesField l identifier d (Some (U id))) a b mid → now ≡ (if v.reset then reset mid else mid)
     → Wrote (EncodesBody l (body_among (nodes_of t) v.body.items) now m.slots) b c d'
-    → HaveNoMap (drop k c.bits.items) → e ≡ E3 → RefusesMessage (tree_of t) l d m e
-message_unmapped t l d mid now d' m id v a b c k e found known empty start (b1, x, bits, bytes, field) is (b2, w, bits', bytes', body) none e3 = (
+    → HaveNoMap c.bits → e ≡ E3 → RefusesMessage (tree_of t) l d m e
+message_unmapped t l d mid now d' m id v a b c e found known empty (b1, x, bits, bytes, field) is (b2, w, bits', bytes', body) none e3 = (
   template_data (instructions_from 0 (nodes_of t)) v,
   id,
   b1,
@@ -110,19 +108,19 @@ message_unmapped t l d mid now d' m id v a b c k e found known empty start (b1, 
     w,
     d',
     subst (λ (z : Dictionary). EncodesBody l (body_among (nodes_of t) v.body.items) z m.slots b2 w d') is body,
-    subst HaveNoMap (both_bits a b c k b1 b2 empty start bits bits') none,
+    subst HaveNoMap (kept_bits a b c b1 b2 empty bits bits') none,
     e3,
   ),
 )
 
 -- All is written, and the map stands in front.
 pub message_written : (t : Templates) (l : Limits) (d mid now d' : Dictionary) (m : MessageData) (id : ℕ) (v : Template) (a b c : Draft)
-    (n k : ℕ) (z : List ℕ) → slice_get (templates_of t) m.template ≡ Some v → IsKnownAs (tree_of t) m id
-    → a.bits.items ≡ [] → a.bytes.items ≡ [] → n ≡ 0 → k ≡ 0 → Wrote (EncodesField l identifier d (Some (U id))) a b mid
+    (n : ℕ) (z : List ℕ) → slice_get (templates_of t) m.template ≡ Some v → IsKnownAs (tree_of t) m id
+    → a.bits ≡ [] → a.bytes.items ≡ [] → n ≡ 0 → Wrote (EncodesField l identifier d (Some (U id))) a b mid
     → now ≡ (if v.reset then reset mid else mid) → Wrote (EncodesBody l (body_among (nodes_of t) v.body.items) now m.slots) b c d'
-    → Closes true (take n c.bytes.items) (drop n c.bytes.items) (drop k c.bits.items) z → EncodesMessage (tree_of t) l d m z d'
+    → Closes true (take n c.bytes.items) (drop n c.bytes.items) c.bits z → EncodesMessage (tree_of t) l d m z d'
 unfolding EncodesMessage
-message_written t l d mid now d' m id v a b c n k z found known no_bits no_bytes start_bytes start_bits (b1, x, bits, bytes, field) is
+message_written t l d mid now d' m id v a b c n z found known no_bits no_bytes start_bytes (b1, x, bits, bytes, field) is
     (b2, w, bits', bytes', body) (map, shortest, all) = (
       template_data (instructions_from 0 (nodes_of t)) v,
       id,
@@ -136,7 +134,7 @@ message_written t l d mid now d' m id v a b c n k z found known no_bits no_bytes
       identified t m id v found known,
       field,
       subst (λ (y : Dictionary). EncodesBody l (body_among (nodes_of t) v.body.items) y m.slots b2 w d') is body,
-      subst (λ (y : List Bool). ShortestMap true y map) (both_bits a b c k b1 b2 no_bits start_bits bits bits') shortest,
+      subst (λ (y : List Bool). ShortestMap true y map) (kept_bits a b c b1 b2 no_bits bits bits') shortest,
       all ∙ ap (λ (y : List ℕ). y ++ (map ++ drop n c.bytes.items)) (nothing_before n c.bytes.items start_bytes)
           ∙ ap (λ (y : List ℕ). map ++ y) (both_bytes a b c n x w no_bytes start_bytes bytes bytes') ∙ sym (append_assoc map x w),
     )
@@ -145,15 +143,12 @@ kept_bytes : (a b c : Draft) (x y : List ℕ) → a.bytes.items ≡ 0 ∷ [] →
     → c.bytes.items ≡ b.bytes.items ++ y → drop 1 c.bytes.items ≡ x ++ y
 kept_bytes a b c x y kept one two = ap (λ (z : List ℕ). drop 1 z) (two ∙ ap (λ (z : List ℕ). z ++ y) (one ∙ ap (λ (z : List ℕ). z ++ x) kept))
 
-kept_bits : (a b c : Draft) (x y : List Bool) → a.bits.items ≡ [] → b.bits.items ≡ a.bits.items ++ x → c.bits.items ≡ b.bits.items ++ y → c.bits.items ≡ x ++ y
-kept_bits a b c x y empty one two = two ∙ ap (λ (z : List Bool). z ++ y) (one ∙ ap (λ (z : List Bool). z ++ x) empty)
-
 -- All is written behind a byte, and the map takes its place.
 pub message_made : (t : Templates) (l : Limits) (d mid now d' : Dictionary) (m : MessageData) (id : ℕ) (v : Template) (a b c : Draft)
     (z : List ℕ) → slice_get (templates_of t) m.template ≡ Some v → IsKnownAs (tree_of t) m id
-    → a.bits.items ≡ [] → a.bytes.items ≡ 0 ∷ [] → Wrote (EncodesField l identifier d (Some (U id))) a b mid
+    → a.bits ≡ [] → a.bytes.items ≡ 0 ∷ [] → Wrote (EncodesField l identifier d (Some (U id))) a b mid
     → now ≡ (if v.reset then reset mid else mid) → Wrote (EncodesBody l (body_among (nodes_of t) v.body.items) now m.slots) b c d'
-    → Closes true [] (drop 1 c.bytes.items) c.bits.items z → EncodesMessage (tree_of t) l d m z d'
+    → Closes true [] (drop 1 c.bytes.items) c.bits z → EncodesMessage (tree_of t) l d m z d'
 unfolding EncodesMessage
 message_made t l d mid now d' m id v a b c z found known no_bits kept (b1, x, bits, bytes, field) is (b2, w, bits', bytes', body) (map, shortest, all) = (
   template_data (instructions_from 0 (nodes_of t)) v,

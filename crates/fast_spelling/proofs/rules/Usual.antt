@@ -284,6 +284,7 @@ absent_copy f p k u is held = (not, subst (λ (z : Operator). SentBy z f p None 
   where
     gives : ScalarData → Result Outcome Code
     gives w = keeps f.kind (next_value f.operator f.kind w)
+
     by : (r : Result ScalarData Code) (m : PreviousData) → r >>= gives ≡ Ok (record { value = None; next = m }) → ⊥
     by (Ok w) m e =
         let clash : Some (next_value f.operator f.kind w) ≡ None = ap (λ (z : Outcome). z.value) (one_ok (gives w) (record {
@@ -292,6 +293,7 @@ absent_copy f p k u is held = (not, subst (λ (z : Operator). SentBy z f p None 
         }) (record { value = None; next = m }) refl e) in
         absurd (cc clash)
     by (Err c) m e = absurd (let z : ◌≡◌ {A = Result Outcome Code} (Err c) (Ok (record { value = None; next = m })) = e in cc)
+
     not : ¬ (GoesUnsent f p None)
     not (m, _, (_, g)) =
         let h : decide_by Copy false f p nothing ≡ Ok (record {

@@ -40,11 +40,11 @@ next_of f p v = next_by f.operator f.kind p v
 
 -- Bits and bytes were appended that say what leads to this dictionary.
 abbrev pub Wrote : (List Bool → List ℕ → Dictionary → Type 0) → Draft → Draft → Dictionary → Type 0
-Wrote says old new d = (b : List Bool) × (w : List ℕ) × (new.bits.items ≡ old.bits.items ++ b) × (new.bytes.items ≡ old.bytes.items ++ w) × says b w d
+Wrote says old new d = (b : List Bool) × (w : List ℕ) × (new.bits ≡ old.bits ++ b) × (new.bytes.items ≡ old.bytes.items ++ w) × says b w d
 
 -- Behind the bytes that there were stands a segment that says what leads to this dictionary; the bits around it are as they were.
 abbrev pub WroteSegment : Limits → Body → Dictionary → Slots → Draft → Draft → Dictionary → Type 0
-WroteSegment l body d vs old new d' = (w : List ℕ) × (new.bits.items ≡ old.bits.items) × (new.bytes.items ≡ old.bytes.items ++ w)
+WroteSegment l body d vs old new d' = (w : List ℕ) × (new.bits ≡ old.bits) × (new.bytes.items ≡ old.bytes.items ++ w)
     × EncodesSegment body (EncodesBody l body) d vs w d'
 
 -- The numbers of the value are those of its Rust type.

@@ -14,7 +14,7 @@ pub record IsWritten (l : Limits) (whole : Body) (slots : Slots) (d : Dictionary
     (now : Dictionary) (new : Draft) : Type 0 where
   pub bits : List Bool
   pub bytes : List ℕ
-  pub bits_are : new.bits.items ≡ old.bits.items ++ bits
+  pub bits_are : new.bits ≡ old.bits ++ bits
   pub bytes_are : new.bytes.items ≡ old.bytes.items ++ bytes
   pub goes : (b : List Bool) (w : List ℕ) (d' : Dictionary) → EncodesBody l rest now left b w d' → EncodesBody l whole d slots (bits ++ b) (bytes ++ w) d'
   pub refuses : (c : EncodeFault) → RefusesBody l rest now left c → RefusesBody l whole d slots c
@@ -23,7 +23,7 @@ pub record IsWritten (l : Limits) (whole : Body) (slots : Slots) (d : Dictionary
 pub record AreWritten (l : Limits) (body : Body) (rows : Elements) (d : Dictionary) (old : Draft) (left : Elements) (now : Dictionary)
     (new : Draft) : Type 0 where
   pub bytes : List ℕ
-  pub bits_are : new.bits.items ≡ old.bits.items
+  pub bits_are : new.bits ≡ old.bits
   pub bytes_are : new.bytes.items ≡ old.bytes.items ++ bytes
   pub goes : (w : List ℕ) (d' : Dictionary) → EncodesElements (EncodesSegment body (EncodesBody l body)) now left w d'
       → EncodesElements (EncodesSegment body (EncodesBody l body)) d rows (bytes ++ w) d'

@@ -108,12 +108,7 @@ fn try_no_copy(plan: &Plan<'_>, node: u32, kind: Kind, work: &mut Work) -> Resul
 
 /// Writes the absence of a node that is a field of this type, without operator.
 #[inline(always)]
-fn try_no_plain(
-    plan: &Plan<'_>,
-    node: u32,
-    kind: Kind,
-    work: &mut Work,
-) -> Result<(), EncodeFault>
+fn try_no_plain(plan: &Plan<'_>, node: u32, kind: Kind, work: &mut Work) -> Result<(), EncodeFault>
     requires node { node < length (nodes_of plan.now.templates.now) }
     requires form { IsFieldAt (nodes_of plan.now.templates.now) node kind no_operator }
     requires ready { IsReady plan.now.templates.now plan.now.limits work.old.ledger }
@@ -133,12 +128,7 @@ fn try_no_plain(
 
 /// Writes the absence of a node that is a field of this type, under delta.
 #[inline(always)]
-fn try_no_delta(
-    plan: &Plan<'_>,
-    node: u32,
-    kind: Kind,
-    work: &mut Work,
-) -> Result<(), EncodeFault>
+fn try_no_delta(plan: &Plan<'_>, node: u32, kind: Kind, work: &mut Work) -> Result<(), EncodeFault>
     requires node { node < length (nodes_of plan.now.templates.now) }
     requires form { IsFieldAt (nodes_of plan.now.templates.now) node kind Delta }
     requires ready { IsReady plan.now.templates.now plan.now.limits work.old.ledger }

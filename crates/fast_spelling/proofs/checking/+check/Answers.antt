@@ -1429,13 +1429,11 @@ try_segment-returns-clause-ok t c =
     let kept = c.in_ok-mark.ensures in
     let a = c.args.work.now.draft in
     let m = kept.mark.0 ∙ a.bytes.ok.0 in
-    let n = kept.mark.1 ∙ a.bits.ok.0 in
     let wrote = c.if-not-try_body.ensures.ok refl in
     let new = c.try_body.new.work in
-    let bits = c.seal.ensures.bits in
-    on_both c.seal.result c.seal.ensures.ok bits (λ closes same.
+    on_both c.seal.result c.seal.ensures.ok c.seal.ensures.bits (λ closes same.
     let z = sealed l body (slots_data c.args.slots.now) c.args.work.now.ledger.now new.ledger.now a c.open.new.self new.draft
-    c.seal.new.self c.args.has_map _ _ kept.bytes c.open.ensures.bits wrote c.requires.map m n closes same in
+    c.seal.new.self c.args.has_map _ kept.bytes c.open.ensures.bits wrote c.requires.map m closes (same ∙ kept.mark.1) in
     (z.bytes, z.bits_are, z.bytes_are, z.says))
 
 pub try_segment-returns-in_err-mark-clause-suits : goal.try_segment-returns-in_err-mark-clause-suits
@@ -1587,14 +1585,8 @@ map_has_room false m old mid new more at e f =
     let all = ap length f ∙ length-append mid more in
     omega (arith, at, kept, all)
 
-not_shorter : {X : Type 0} (m : ℕ) (old mid new more : List X) → m ≡ length old → mid ≡ old → new ≡ mid ++ more → m ≤ length new
-not_shorter m old mid new more at e f =
-    let same = ap length e in
-    let all = ap length f ∙ length-append mid more in
-    omega (arith, at, same, all)
-
-pub try_segment-seal-requires-clause-bytes : goal.try_segment-seal-requires-clause-bytes
-try_segment-seal-requires-clause-bytes t c =
+pub try_segment-seal-requires : goal.try_segment-seal-requires
+try_segment-seal-requires t c =
     let kept = c.in_ok-mark.ensures in
     let a = c.args.work.now.draft.bytes in
     let b = c.try_body.new.work.draft.bytes in
@@ -1603,16 +1595,6 @@ try_segment-seal-requires-clause-bytes t c =
     let has_room = map_has_room c.args.has_map c.in_ok-mark.mark.bytes a.items c.open.new.self.bytes.items b.items wrote.1
     (kept.mark.0 ∙ a.ok.0) kept.bytes wrote.3 in
     omega (arith, has_room, long)
-
-pub try_segment-seal-requires-clause-bits : goal.try_segment-seal-requires-clause-bits
-try_segment-seal-requires-clause-bits t c =
-    let kept = c.in_ok-mark.ensures in
-    let a = c.args.work.now.draft.bits in
-    let b = c.try_body.new.work.draft.bits in
-    let wrote = c.if-not-try_body.ensures.ok refl in
-    let long : vec_len b ≡ length b.items = b.ok.0 in
-    let more = not_shorter c.in_ok-mark.mark.bits a.items c.open.new.self.bits.items b.items wrote.0 (kept.mark.1 ∙ a.ok.0) c.open.ensures.bits wrote.2 in
-    omega (arith, more, long)
 
 pub try_segment-returns-clause-suits : goal.try_segment-returns-clause-suits
 try_segment-returns-clause-suits t c = on_any c.seal.result (c.if-not-try_body.ensures.suits refl)

@@ -30,7 +30,7 @@ returns-clause-ok c = λ l same.
           let used : uses_bit f ≡ true = sym c.uses_bit.ensures ∙ w.if-uses_bit.true in (
             one,
             h.0,
-            ap (λ (d : Draft). d.bits.items) w.draft-is ∙ w.in_ok-push_bit.ensures.bits,
+            ap (λ (d : Draft). d.bits) w.draft-is ∙ w.in_ok-push_bit.ensures.bits,
             h.1
                 ∙ ap (λ (d : List ℕ). d ++ h.0) (ap (λ (d : Draft). d.bytes.items) w.draft-is ∙ w.push_bit.ensures.bytes),
             done one (ap (λ (u : Bool). if u then one else []) (sym used)),
@@ -39,7 +39,7 @@ returns-clause-ok c = λ l same.
           let used : uses_bit f ≡ false = sym c.uses_bit.ensures ∙ w.if-uses_bit.false in (
             [],
             h.0,
-            ap (λ (d : Draft). d.bits.items) w.draft-is ∙ sym (append-nil c.args.draft.now.bits.items),
+            ap (λ (d : Draft). d.bits) w.draft-is ∙ sym (append-nil c.args.draft.now.bits),
             h.1
                 ∙ ap (λ (d : List ℕ). d ++ h.0) (ap (λ (d : Draft). d.bytes.items) w.draft-is),
             done [] (ap (λ (u : Bool). if u then c.args.bit ∷ [] else []) (sym used)),

@@ -1,5 +1,5 @@
 -- A whole message, by its parts.
-use Rattle.std.proofs.Common.{ℕ, List, ap, sym, subst, ◌∙◌}
+use Rattle.std.proofs.Common.{ℕ, List, Vec, Global, ap, sym, subst, ◌∙◌}
 use Rattle.std.specs.Prelude.{length}
 use Rattle.std.proofs.lemmas.Result.{err_from_is_err_and}
 use mathlib.Core.List.{not-mem-nil}
@@ -33,7 +33,7 @@ returns-in_err-write_body-clause-err c =
     let h = told_at (RefusesBody c.args.limits (body_among (nodes_of t) c.deref.result.now) c.reset_if.new.ledger.now
     (slots_data c.deref-2.result.now)) Q f c.in_err-write_body.ensures.err
     (λ r. body_refused t c.args.limits c.args.ledger.now.now c.write_identifier.new.ledger.now c.reset_if.new.ledger.now
-    (message_data c.args.message.now) c.args.id c.template-template.result.now c.clear.new.self c.write_identifier.new.draft f
+    (message_data c.args.message.now) c.args.id c.template-template.result.now c.mark-mark.new.self c.write_identifier.new.draft f
     c.template-template.ensures.found c.requires.known c.in_ok-write_identifier.ensures.ok c.reset_if.ensures.now
     (rw (sym c.deref-2.ensures.value) (rw (sym c.deref.ensures.value) r))) in
     rw p.1 (subst (IsTold Q) (sym p.2) h)
@@ -55,19 +55,18 @@ pub returns-clause-ok : goal.returns-clause-ok
 returns-clause-ok c = on_ok c.close.result c.close.ensures.ok
     (message_written c.args.templates.now c.args.limits c.args.ledger.now.now c.write_identifier.new.ledger.now c.reset_if.new.ledger.now
     c.write_body.new.ledger.now (message_data c.args.message.now) c.args.id c.template-template.result.now
-    c.clear.new.self c.write_identifier.new.draft c.write_body.new.draft c.mark-mark.result.bytes c.mark-mark.result.bits c.close.new.self.bytes.items
-    c.template-template.ensures.found c.requires.known c.clear.ensures.bits c.clear.ensures.bytes
-    (c.mark-mark.ensures.bytes ∙ c.clear.new.self.bytes.ok.0 ∙ ap length c.clear.ensures.bytes)
-    (c.mark-mark.ensures.bits ∙ c.clear.new.self.bits.ok.0 ∙ ap length c.clear.ensures.bits)
+    c.mark-mark.new.self c.write_identifier.new.draft c.write_body.new.draft c.mark-mark.result.bytes c.close.new.self.bytes.items
+    c.template-template.ensures.found c.requires.known c.mark-mark.ensures.bits
+    (ap (λ (b : Vec ℕ Global). b.items) c.mark-mark.ensures.bytes ∙ c.clear.ensures.bytes)
+    (c.mark-mark.ensures.mark.0 ∙ c.clear.new.self.bytes.ok.0 ∙ ap length c.clear.ensures.bytes)
     c.in_ok-write_identifier.ensures.ok c.reset_if.ensures.now (body_wrote c))
 
 pub returns-clause-err : goal.returns-clause-err
 returns-clause-err c = told c.close.result c.close.ensures.err (λ e h.
     message_unmapped c.args.templates.now c.args.limits c.args.ledger.now.now c.write_identifier.new.ledger.now c.reset_if.new.ledger.now
     c.write_body.new.ledger.now (message_data c.args.message.now) c.args.id c.template-template.result.now
-    c.clear.new.self c.write_identifier.new.draft c.write_body.new.draft c.mark-mark.result.bits e
-    c.template-template.ensures.found c.requires.known c.clear.ensures.bits
-    (c.mark-mark.ensures.bits ∙ c.clear.new.self.bits.ok.0 ∙ ap length c.clear.ensures.bits)
+    c.mark-mark.new.self c.write_identifier.new.draft c.write_body.new.draft e
+    c.template-template.ensures.found c.requires.known c.mark-mark.ensures.bits
     c.in_ok-write_identifier.ensures.ok c.reset_if.ensures.now (body_wrote c) h.2 h.0)
 
 pub write_identifier-requires : goal.write_identifier-requires

@@ -70,14 +70,9 @@ returns-clause-ok c =
     let says = field_done l f d p (Some v) true (value v) [] w.0 d refl h.usable.tail suited (plain_ruled f p v h.under)
     (value_sendable f.kind v l.max_text small right (omega (arith, none))) spelled
     (ap (λ (u : Bool). if u then true ∷ [] else []) (sym unused)) kept in
-    encodes_as l (instruction_in nodes c.args.node) (field h.instruction.0 f) y y d old (record {
-      bits = old.bits;
-      bytes = c.write_unsigned_as.new.bytes;
-    }) d h.instruction.1 refl
-    (field_encodes l h.instruction.0 f v d old (record {
-      bits = old.bits;
-      bytes = c.write_unsigned_as.new.bytes;
-    }) d ([], w.0, sym (append-nil old.bits.items), w.1, says))
+    let new = record old { bytes = c.write_unsigned_as.new.bytes } in
+    encodes_as l (instruction_in nodes c.args.node) (field h.instruction.0 f) y y d old new d h.instruction.1 refl
+    (field_encodes l h.instruction.0 f v d old new d ([], w.0, sym (append-nil old.bits), w.1, says))
 
 pub branch-write_unsigned_as-requires : goal.branch-write_unsigned_as-requires
 branch-write_unsigned_as-requires c κs = (λ a m. absurd (not-mem-nil m), λ a m. absurd (not-mem-nil m))

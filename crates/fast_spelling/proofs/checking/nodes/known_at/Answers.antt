@@ -35,7 +35,8 @@ invariant_of-result c =
     let inside : c.args.node < length steps = let low = c.requires.node in omega (arith, low, long) in
     let read : slice_get steps c.args.node ≡ Some step = slice_get_read steps (length steps) c.args.node step refl inside c.index-step.ensures in
     let of_node = step_is nodes c.args.node step (subst (λ (z : List Step). slice_get z c.args.node ≡ Some step) same read) in
-    let of_field : step_of (Field f) ≡ step = ap step_of (sym (ap (λ (n : Node). n.shape) (some_is of_node.0 x (sym of_node.1 ∙ c.node.ensures.found)) ∙ is)) ∙ of_node.2 in
+    let same_node : of_node.0 ≡ x = some_is of_node.0 x (sym of_node.1 ∙ c.node.ensures.found) in
+    let of_field : step_of (Field f) ≡ step = ap step_of (sym (ap (λ (n : Node). n.shape) same_node ∙ is)) ∙ of_node.2 in
     let kept : keeps_value c.args.operator ≡ is_some f.entry = ap keeps_value (sym told.1) ∙ usable.kept in
     record {
       there = ap is_field is;

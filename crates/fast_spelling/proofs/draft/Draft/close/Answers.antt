@@ -1,7 +1,7 @@
 -- The map stands in front of the segment's bytes, or there is none.
-use Rattle.std.proofs.Common.{[], ap, sym, subst, ◌∙◌, drop, List}
-use Rattle.std.specs.Prelude.{Bool, true}
-use Rattle.std.proofs.lemmas.List.{take-append-drop, take_rest}
+use Rattle.std.proofs.Common.{[], ap, sym, subst, ◌∙◌}
+use Rattle.std.specs.Prelude.{Bool}
+use Rattle.std.proofs.lemmas.List.{take-append-drop}
 use mathlib.Core.List.{not-mem-nil}
 use Rattle.fast_spelling.specs.meaning.Encoding.{ShortestMap}
 use Rattle.fast_spelling.specs.declared.draft.Draft.{Draft}
@@ -12,17 +12,14 @@ use Rattle.fast_spelling.proofs.draft.Draft.close.Goals.{then-has_map+in_ok-put_
 pub returns-clause-ok : goal.returns-clause-ok
 returns-clause-ok c = elim c.if-has_map.branch [
   | then-has_map+in_ok-put_map w ↦
-      let k = w.in_ok-put_map.ensures.ok in
-      let b = drop c.args.mark.bits c.args.self.now.bits.items in (
+      let k = w.in_ok-put_map.ensures.ok in (
         k.0,
-        subst (λ (h : Bool). ShortestMap h b k.0) (sym w.if-has_map.true)
-            (subst (λ (z : List Bool). ShortestMap true z k.0) (take_rest w.deref.result.now c.args.mark.bits
-            ∙ ap (drop c.args.mark.bits) w.deref.ensures.value) k.1),
+        subst (λ (h : Bool). ShortestMap h c.args.self.now.bits k.0) (sym w.if-has_map.true) k.1,
         ap (λ (d : Draft). d.bytes.items) w.self-is ∙ k.2,
       )
   | else-has_map w ↦ (
     [],
-    closes_without c.args.has_map (drop c.args.mark.bits c.args.self.now.bits.items) w.if-has_map.false,
+    closes_without c.args.has_map c.args.self.now.bits w.if-has_map.false,
     ap (λ (d : Draft). d.bytes.items) w.self-is ∙ sym (take-append-drop c.args.mark.bytes c.args.self.now.bytes.items),
   )
 ]
@@ -30,14 +27,8 @@ returns-clause-ok c = elim c.if-has_map.branch [
 pub put_map-requires : goal.put_map-requires
 put_map-requires c = c.requires.bytes
 
-pub deref-requires : goal.deref-requires
-deref-requires c κs = (λ a m. absurd (not-mem-nil m), λ a m. absurd (not-mem-nil m))
-
 pub branch-put_map-requires : goal.branch-put_map-requires
 branch-put_map-requires c κs = (λ a m. absurd (not-mem-nil m), λ a m. absurd (not-mem-nil m))
 
 pub from_residual-requires : goal.from_residual-requires
 from_residual-requires c κs = (λ a m. absurd (not-mem-nil m), (λ a m. absurd (not-mem-nil m), λ a m. absurd (not-mem-nil m)))
-
-pub truncate-requires : goal.truncate-requires
-truncate-requires c κs = (λ a m. absurd (not-mem-nil m), λ a m. absurd (not-mem-nil m))

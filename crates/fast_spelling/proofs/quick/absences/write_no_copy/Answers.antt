@@ -21,7 +21,8 @@ returns-in_ok-push_bit-in-Empty-clause-ok c = λ l same.
       [],
       c.in_ok-push_bit-in-Empty.ensures.bits,
       c.push_bit.ensures.bytes ∙ sym (append-nil c.args.draft.now.bytes.items),
-      copy_absent l f c.args.ledger.now.now c.requires.operator c.requires.served.usable.tail c.requires.suited (sym c.previous_of.ensures.value ∙ ap previous_data c.in-Empty.is),
+      copy_absent l f c.args.ledger.now.now c.requires.operator c.requires.served.usable.tail c.requires.suited
+          (sym c.previous_of.ensures.value ∙ ap previous_data c.in-Empty.is),
     )
 
 pub send-requires-clause-ruled : goal.send-requires-clause-ruled

@@ -16,5 +16,6 @@ returns-in_ok-push_bit-in-None-clause-ok c = λ l same.
       [],
       c.in_ok-push_bit-in-None.ensures.bits,
       c.push_bit.ensures.bytes ∙ sym (append-nil c.args.draft.now.bytes.items),
-      default_absent l f c.args.ledger.now.now c.requires.operator c.requires.served.usable.tail c.requires.suited (sym (ap (λ (g : FieldInstruction). option_map value_data g.initial) c.field.ensures) ∙ ap (option_map value_data) c.in-None.is),
+      default_absent l f c.args.ledger.now.now c.requires.operator c.requires.served.usable.tail c.requires.suited
+          (sym (ap (λ (g : FieldInstruction). option_map value_data g.initial) c.field.ensures) ∙ ap (option_map value_data) c.in-None.is),
     )

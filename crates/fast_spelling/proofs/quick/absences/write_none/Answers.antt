@@ -1,15 +1,11 @@
 -- The field is handed on with what is known of it.
 use Rattle.std.proofs.Common.{sym, subst, ap, ◌∙◌}
-use Rattle.std.specs.Prelude.{true, None, IfErr}
+use Rattle.std.specs.Prelude.{None, IfErr}
 use Rattle.fast_tree.specs.declared.instructions.FieldInstruction.{FieldInstruction}
 use Rattle.fast_tree.specs.meaning.Nodes.{field_data}
 use Rattle.fast_spelling.specs.meaning.Encoding.{EncodesField}
 use Rattle.fast_spelling.specs.device.Fields.{Wrote, IsServed, IsSuited}
 use Rattle.fast_spelling.proofs.bytes.Spelling.{on_ok}
-use Rattle.fast_dict.specs.meaning.Dictionary.{previous_at}
-use Rattle.fast_dict.specs.meaning.Operators.{null}
-use Rattle.fast_dict.specs.meaning.Rule.{Rule}
-use Rattle.fast_spelling.proofs.rules.Usual.{absent_plain, absent_delta}
 use Rattle.fast_spelling.specs.device.Drafts.{IsTold}
 use Rattle.fast_spelling.specs.meaning.Refusals.{RefusesField}
 use Rattle.fast_spelling.proofs.quick.absences.write_none.Goals as goal

@@ -68,11 +68,12 @@ write_chosen-requires-clause-suited c = subst (λ (g : FieldInstruction). IsSuit
     (sym c.field.ensures) c.requires.suited
 
 pub write_chosen-requires-in_default-clause-served : goal.write_chosen-requires-in_default-clause-served
-write_chosen-requires-in_default-clause-served c = subst (λ (g : FieldInstruction). IsServed c.args.ledger.now (field_data g)) (sym c.field-in_default.ensures) c.requires.served
+write_chosen-requires-in_default-clause-served c = subst (λ (g : FieldInstruction). IsServed c.args.ledger.now (field_data g))
+    (sym c.field-in_default.ensures) c.requires.served
 
 pub write_chosen-requires-in_default-clause-suited : goal.write_chosen-requires-in_default-clause-suited
-write_chosen-requires-in_default-clause-suited c = subst (λ (g : FieldInstruction). IsSuited c.args.ledger.now.max_text (field_data g) (Some (scalar_data c.args.value)))
-    (sym c.field-in_default.ensures) c.requires.suited
+write_chosen-requires-in_default-clause-suited c = subst (λ (g : FieldInstruction). IsSuited c.args.ledger.now.max_text (field_data g)
+    (Some (scalar_data c.args.value))) (sym c.field-in_default.ensures) c.requires.suited
 
 pub send-requires-clause-operator : goal.send-requires-clause-operator
 send-requires-clause-operator c = c.requires.operator
@@ -96,7 +97,8 @@ returns-in_default-clause-ok c = subst (λ (g : FieldInstruction). OnOk c.write_
 
 pub returns-in_default-clause-err : goal.returns-in_default-clause-err
 returns-in_default-clause-err c = subst (λ (g : FieldInstruction). IfErr c.write_chosen-in_default.result
-    (IsTold (RefusesField (field_data g) c.args.ledger.now.now (Some (scalar_data c.args.value))))) c.field-in_default.ensures c.write_chosen-in_default.ensures.err
+    (IsTold (RefusesField (field_data g) c.args.ledger.now.now (Some (scalar_data c.args.value))))) c.field-in_default.ensures
+    c.write_chosen-in_default.ensures.err
 
 pub returns-in_default-clause-keeps : goal.returns-in_default-clause-keeps
 returns-in_default-clause-keeps c = record {

@@ -3,7 +3,7 @@ use Rattle.std.proofs.Common.{List, length, ap, ◌∙◌}
 use Rattle.std.specs.Prelude.{Bool, false, slice_index_or}
 use Rattle.std.proofs.lemmas.List.{take_all}
 use Rattle.fast_spelling.proofs.bytes.Bits.{blank, blank_length, wide}
-use Rattle.fast_spelling.proofs.draft.map_of.Goals as goal
+use Rattle.fast_spelling.proofs.bits.map_of.Goals as goal
 
 pub loop-i-init : goal.loop-i-init
 loop-i-init c = record {

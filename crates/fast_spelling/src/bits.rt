@@ -1,0 +1,166 @@
+//! The presence bits of a segment that is being encoded.
+
+ghost use Rattle.std.specs.Prelude.{◌≡◌, ◌≤◌, ◌<◌, ◌^◌, ◌∷◌, ◌++◌, [], true, vec_len, IfSome, IfNone, OnOk, IfOk};
+ghost use Rattle.fast_wire.specs.meaning.Maps.{bits, IsMap};
+ghost use Rattle.fast_spelling.specs.device.Presence.{bits_after};
+ghost use Rattle.fast_spelling.specs.meaning.Encoding.{SameBits};
+ghost use Rattle.fast_spelling.specs.meaning.Refusals.{HaveNoMap};
+
+use arrayvec::ArrayVec;
+use fast_wire::{MAP_LIMIT, MapBuilder};
+use std::alloc::{AllocError, Global};
+use std::marker::Model;
+
+/// The presence bits of a segment. The latest of them, most often all, are in one word.
+#[derive(Drop)]
+pub struct Bits {
+    /// The latest bits, at most 63, after a bit that is set: the last one is the least significant.
+    word: u64,
+    /// The bits before them.
+    more: Vec<bool>,
+}
+
+impl Model for Bits {
+    ghost use Rattle.std.specs.Prelude.{◌++◌, ◌≤◌, Bool, List};
+    ghost use Rattle.fast_spelling.specs.device.Presence.{bits_after};
+
+    ghost Value = { List Bool };
+
+    ghost view = { λ s. s.more.items ++ bits_after s.word };
+
+    ghost invariant = { λ s. record { marked : 1 ≤ s.word } };
+}
+
+/// The word without bits.
+const NO_BITS: u64 = 1;
+
+/// The least word that has no room for another bit.
+const FULL: u64 = 1 << 63;
+
+/// The greatest number of bits in a presence map.
+const MOST_BITS: usize = 7 * MAP_LIMIT;
+
+impl Bits {
+    /// Makes an empty list of bits.
+    #[inline(always)]
+    pub fn new(alloc: Global) -> Bits
+        ensures { result ≡ [] }
+    {
+        Bits {
+            word: NO_BITS,
+            more: Vec::new(alloc),
+        }
+    }
+
+    /// Removes all bits, and keeps the memory.
+    #[inline(always)]
+    pub fn clear(&mut self)
+        ensures { self.new ≡ [] }
+    {
+        self.word = NO_BITS;
+        self.more.clear();
+    }
+
+    /// Appends a bit.
+    ///
+    /// # Errors
+    ///
+    /// An allocation failed.
+    #[inline(always)]
+    pub fn push(&mut self, bit: bool) -> Result<(), AllocError>
+        ensures { OnOk result (self.new ≡ self.old ++ bit ∷ []) }
+    {
+        if self.word >= FULL {
+            spill(self.word, &mut self.more)?;
+            self.word = NO_BITS;
+        }
+        self.word = with_bit(self.word, bit);
+        Ok(())
+    }
+
+    /// Returns the presence map if one byte is enough, and all bits are in the word.
+    #[inline(always)]
+    pub fn as_byte(&self) -> Option<u8>
+        ensures map { IfSome result (λ byte. IsMap true (byte ∷ [])) }
+        ensures bits { IfSome result (λ byte. SameBits (bits (byte ∷ [])) self.now) }
+    {
+        if !self.more.is_empty() {
+            return None;
+        }
+        byte_of(self.word)
+    }
+
+    /// Returns the shortest presence map, if there is one.
+    ///
+    /// # Errors
+    ///
+    /// An allocation failed.
+    pub fn as_map(&mut self) -> Result<Option<ArrayVec<u8, MAP_LIMIT>>, AllocError>
+        ensures map { IfOk result (λ r. IfSome r (λ m. IsMap true m.items)) }
+        ensures bits { IfOk result (λ r. IfSome r (λ m. SameBits (bits m.items) self.old)) }
+        ensures none { IfOk result (λ r. IfNone r (HaveNoMap self.old)) }
+    {
+        spill(self.word, &mut self.more)?;
+        self.word = NO_BITS;
+        Ok(map_of(&self.more))
+    }
+}
+
+/// Returns the word with one bit more.
+#[inline(always)]
+fn with_bit(word: u64, bit: bool) -> u64
+    requires some { 1 ≤ word }
+    requires room { word < 2 ^ 63 }
+    ensures marked { 1 ≤ result }
+    ensures bits { bits_after result ≡ bits_after word ++ bit ∷ [] }
+{
+    if bit {
+        return word * 2 + 1;
+    }
+    word * 2
+}
+
+/// Appends the bits of the word to the vector.
+#[cold]
+fn spill(word: u64, more: &mut Vec<bool>) -> Result<(), AllocError>
+    requires { 1 ≤ word }
+    ensures { OnOk result (more.new.items ≡ more.old.items ++ bits_after word) }
+{
+    let count = 63 - word.leading_zeros();
+    for i in 0..count {
+        more.push((word >> (count - 1 - i)) % 2 == 1)?;
+    }
+    Ok(())
+}
+
+/// Returns the presence map of the bits of a word, if one byte is enough.
+#[inline(always)]
+fn byte_of(word: u64) -> Option<u8>
+    requires { 1 ≤ word }
+    ensures map { IfSome result (λ byte. IsMap true (byte ∷ [])) }
+    ensures bits { IfSome result (λ byte. SameBits (bits (byte ∷ [])) (bits_after word)) }
+{
+    let top = (word << word.leading_zeros()) << 1;
+    if top << 7 != 0 {
+        return None;
+    }
+    Some((top >> 57) as u8 | 0x80)
+}
+
+/// Returns the shortest presence map of the bits, if there is one.
+fn map_of(presence: &[bool]) -> Option<ArrayVec<u8, MAP_LIMIT>>
+    ensures map { IfSome result (λ m. IsMap true m.items) }
+    ensures bits { IfSome result (λ m. SameBits (bits m.items) presence.now) }
+    ensures none { IfNone result (HaveNoMap presence.now) }
+{
+    let mut map = MapBuilder::new();
+    for (i, bit) in presence.iter().enumerate() {
+        if *bit {
+            if i >= MOST_BITS {
+                return None;
+            }
+            map.set(i);
+        }
+    }
+    Some(map.finish())
+}
