@@ -113,6 +113,15 @@ const WIDE: &[&str] = &[
     "the last of 300 fields | lenient
      m0 -*299 u299=5 /m > 40 00*41 81 81 86
      m0 -*299 u299=5 /m > 80",
+    "the last bit of a byte, and the first one of the next | lenient
+     m0 -*5 u5=1 -*294 /m > C1 81 82
+     m0 -*6 u6=1 -*293 /m > 01 C0 80 82
+     m0 -*6 u6=1 -*293 /m > 80",
+    "the bits before and after the 63rd | lenient
+     m0 -*61 u61=1 u62=2 u63=3 -*236 /m > 40 00*7 01 E0 81 82 83 84
+     m0 -*61 u61=1 u62=2 u63=3 -*236 /m > 80
+     m0 -*124 u124=1 u125=2 -*174 /m > 00*8 01 60 00*7 01 C0 80 80 80 82 83
+     m0 -*300 /m > 00*17 01 C0 80 80",
 ];
 
 #[test]
