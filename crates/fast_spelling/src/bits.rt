@@ -2,7 +2,7 @@
 
 ghost use Rattle.std.specs.Prelude.{◌≡◌, ◌≤◌, ◌<◌, ◌^◌, ◌∷◌, ◌++◌, [], true, vec_len, IfSome, IfNone, OnOk, IfOk};
 ghost use Rattle.fast_wire.specs.meaning.Maps.{bits, IsMap};
-ghost use Rattle.fast_spelling.specs.device.Presence.{bits_after};
+ghost use Rattle.fast_spelling.specs.device.Presence.{bits_after, low_bits};
 ghost use Rattle.fast_spelling.specs.meaning.Encoding.{SameBits};
 ghost use Rattle.fast_spelling.specs.meaning.Refusals.{HaveNoMap};
 
@@ -90,6 +90,18 @@ impl Bits {
         byte_of(self.word)
     }
 
+    /// Returns the presence map if two bytes are the shortest one, and all bits are in the word.
+    #[inline(always)]
+    pub fn as_pair(&self) -> Option<(u8, u8)>
+        ensures map { IfSome result (λ pair. IsMap true (pair.0 ∷ pair.1 ∷ [])) }
+        ensures bits { IfSome result (λ pair. SameBits (bits (pair.0 ∷ pair.1 ∷ [])) self.now) }
+    {
+        if !self.more.is_empty() {
+            return None;
+        }
+        pair_of(self.word)
+    }
+
     /// Returns the shortest presence map, if there is one.
     ///
     /// # Errors
@@ -140,11 +152,34 @@ fn byte_of(word: u64) -> Option<u8>
     ensures map { IfSome result (λ byte. IsMap true (byte ∷ [])) }
     ensures bits { IfSome result (λ byte. SameBits (bits (byte ∷ [])) (bits_after word)) }
 {
-    let top = (word << word.leading_zeros()) << 1;
+    let top = top_of(word);
     if top << 7 != 0 {
         return None;
     }
     Some((top >> 57) as u8 | 0x80)
+}
+
+/// Returns the presence map of the bits of a word, if two bytes are the shortest one.
+#[inline(always)]
+fn pair_of(word: u64) -> Option<(u8, u8)>
+    requires { 1 ≤ word }
+    ensures map { IfSome result (λ pair. IsMap true (pair.0 ∷ pair.1 ∷ [])) }
+    ensures bits { IfSome result (λ pair. SameBits (bits (pair.0 ∷ pair.1 ∷ [])) (bits_after word)) }
+{
+    let top = top_of(word);
+    if top << 7 == 0 || top << 14 != 0 {
+        return None;
+    }
+    Some(((top >> 57) as u8, (top << 7 >> 57) as u8 | 0x80))
+}
+
+/// Returns the bits of a word from its most significant one on.
+#[inline(always)]
+fn top_of(word: u64) -> u64
+    requires { 1 ≤ word }
+    ensures { SameBits (low_bits 64 result) (bits_after word) }
+{
+    (word << word.leading_zeros()) << 1
 }
 
 /// Returns the shortest presence map of the bits, if there is one.

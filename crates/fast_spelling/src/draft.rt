@@ -223,6 +223,22 @@ fn put_kept_map(bytes: &mut Vec<u8>, place: usize, presence: &mut Bits) -> Resul
             bytes[place] = byte;
             Ok(())
         }
+        None => put_wide_map(bytes, place, presence),
+    }
+}
+
+/// Replaces the byte at an offset (`place`) by the shortest presence map of the bits, which usually has two bytes.
+fn put_wide_map(bytes: &mut Vec<u8>, place: usize, presence: &mut Bits) -> Result<(), EncodeFault>
+    requires { place < vec_len bytes.old }
+    ensures { OnOk result
+        (Closes true (take place bytes.old.items) (drop (place + 1) bytes.old.items) presence.old bytes.new.items) }
+{
+    match presence.as_pair() {
+        Some(pair) => {
+            bytes[place] = pair.0;
+            insert(bytes, place + 1, &[pair.1])?;
+            Ok(())
+        }
         None => widen(bytes, place, presence),
     }
 }

@@ -1,6 +1,6 @@
--- Maps of one byte.
-use Rattle.std.proofs.Common.{◌≡◌, ℕ, ◌++◌, ◌+◌, ◌*◌, ◌^◌, ◌<◌, List, [], ◌∷◌, length}
-use Rattle.std.proofs.Common.{refl, ap, ◌∙◌, arith}
+-- Maps of one byte, and of two.
+use Rattle.std.proofs.Common.{◌≡◌, ◌≢◌, ℕ, ◌++◌, ◌+◌, ◌*◌, ◌^◌, ◌<◌, List, [], ◌∷◌, length}
+use Rattle.std.proofs.Common.{zero, suc, get_or, refl, ap, ◌∙◌, arith}
 use Rattle.std.specs.Prelude.{Bool, true, bit_or}
 use Rattle.std.proofs.lemmas.List.{length-append}
 use Rattle.std.proofs.lemmas.Nat.{or_comm, or_shifted}
@@ -28,3 +28,22 @@ one_byte_map x h =
   where
     longer : (front : List ℕ) (byte last : ℕ) → bit_or x 128 ∷ [] ≡ front ++ byte ∷ last ∷ [] → 1 ≡ length front + 2
     longer front byte last e = ap length e ∙ length-append front (byte ∷ last ∷ [])
+
+pub two_byte_map : (a x : ℕ) → a < 128 → x < 128 → x ≢ 0 → IsMap true (a ∷ bit_or x 128 ∷ [])
+two_byte_map a x front small some =
+    let s : bit_or (1 * 2 ^ 7) x ≡ 1 * 2 ^ 7 + x = or_shifted 1 7 x small in
+    let is : bit_or x 128 ≡ 128 + x = or_comm x 128 ∙ s in
+    record {
+      entity = (a ∷ [], bit_or x 128, refl, first, omega (arith, is));
+      short = omega arith;
+      shortest = λ _ (before, byte, last, e, none). let same : bit_or x 128 ≡ last = last_is before byte last e in some (omega (arith, same, none, is, small));
+    }
+  where
+    first : (k d : ℕ) → k < 1 → get_or (a ∷ []) k d < 128
+    first zero d g = front
+    first (suc k) d g = absurd (omega (arith, g))
+
+    last_is : (before : List ℕ) (byte last : ℕ) → a ∷ bit_or x 128 ∷ [] ≡ before ++ byte ∷ last ∷ [] → bit_or x 128 ≡ last
+    last_is [] byte last e = cc
+    last_is (b ∷ before) byte last e = let long : 2 ≡ length (b ∷ before) + 2 = ap length e ∙ length-append (b ∷ before) (byte ∷ last ∷ []) in
+        absurd (omega (arith, long))

@@ -59,9 +59,6 @@ padded [] k i = blank k i
 padded (x ∷ b) k zero = refl
 padded (x ∷ b) k (suc i) = padded b k i
 
-same_padded : (b c : List Bool) (k m : ℕ) → b ++ replicate k false ≡ c ++ replicate m false → SameBits b c
-same_padded b c k m e = λ i. sym (padded b k i) ∙ ap (λ (l : List Bool). slice_index_or l i false) e ∙ padded c m i
-
 -- a number that is shifted to the left
 shifted : (n m q : ℕ) → low_bits (n + m) (q * 2 ^ m) ≡ low_bits n q ++ replicate m false
 unfolding low_bits
@@ -105,34 +102,21 @@ of_byte x = top_first 6 x ∙ ap (λ (l : List Bool). at 6 ∷ l) (top_first 5 x
     at : ℕ → Bool
     at k = nat_eq ((x / 2 ^ k) % 2) 1
 
--- a bit above the lower ones does not count
-below_top : (j q : ℕ) → low_bits j (2 ^ j + q) ≡ low_bits j q
+-- bits above the lower ones do not count
+above : (n a r : ℕ) → low_bits n (a * 2 ^ n + r) ≡ low_bits n r
 unfolding low_bits
-below_top zero q = refl
-below_top (suc j) q =
-    let twice : 2 ^ suc j ≡ 2 * 2 ^ j = double j in
-    let half : (2 ^ suc j + q) / 2 ≡ 2 ^ j + q / 2 = omega (arith, twice) in
-    let rest : (2 ^ suc j + q) % 2 ≡ q % 2 = omega (arith, twice) in
-    ap (λ (x : ℕ). low_bits j x ++ nat_eq ((2 ^ suc j + q) % 2) 1 ∷ []) half ∙ ap (λ (x : ℕ). low_bits j (2 ^ j + q / 2) ++ nat_eq x 1 ∷ []) rest
-    ∙ ap (λ (l : List Bool). l ++ nat_eq (q % 2) 1 ∷ []) (below_top j (q / 2))
-
--- The bits of a word are those of a byte, if they end there.
-pub one_byte : (j q cell : ℕ) → j ≤ 63 → q < 2 ^ j → q * 2 ^ (64 - j) ≡ cell * 2 ^ 57 → SameBits (bits (cell ∷ [])) (bits_after (2 ^ j + q))
-one_byte j q cell few small same =
-    let twice : 2 ^ suc j ≡ 2 * 2 ^ j = double j in
-    let long : j + (64 - j) ≡ 64 = omega (arith, few) in
-    let word : bits_after (2 ^ j + q) ≡ low_bits j q = after_is (2 ^ j + q) j few (omega arith) (omega (arith, small, twice)) ∙ below_top j q in
-    let left : low_bits 64 (q * 2 ^ (64 - j)) ≡ low_bits j q ++ replicate (64 - j) false =
-    ap (λ (k : ℕ). low_bits k (q * 2 ^ (64 - j))) (sym long) ∙ shifted j (64 - j) q in
-    let right : low_bits 64 (cell * 2 ^ 57) ≡ low_bits 7 cell ++ replicate 57 false = shifted 7 57 cell in
-    let both : bits (cell ∷ []) ++ replicate 57 false ≡ low_bits j q ++ replicate (64 - j) false =
-    ap (λ (l : List Bool). l ++ replicate 57 false) (sym (of_byte cell)) ∙ sym right ∙ sym (ap (low_bits 64) same) ∙ left in
-    λ i. same_padded (bits (cell ∷ [])) (low_bits j q) 57 (64 - j) both i ∙ ap (λ (l : List Bool). slice_index_or l i false) (sym word)
+above zero a r = refl
+above (suc n) a r =
+    let e = ap (λ (x : ℕ). a * x) (two-pow-succ n) ∙ mul-add a (2 ^ n) (2 ^ n) in
+    let half : (a * 2 ^ suc n + r) / 2 ≡ a * 2 ^ n + r / 2 = omega (arith, e) in
+    let rest : (a * 2 ^ suc n + r) % 2 ≡ r % 2 = omega (arith, e) in
+    ap (λ (x : ℕ). low_bits n x ++ nat_eq ((a * 2 ^ suc n + r) % 2) 1 ∷ []) half
+    ∙ ap (λ (x : ℕ). low_bits n (a * 2 ^ n + r / 2) ++ nat_eq x 1 ∷ []) rest
+    ∙ ap (λ (l : List Bool). l ++ nat_eq (r % 2) 1 ∷ []) (above n a (r / 2))
 
 -- A word that is shifted until its most significant bit is out of it.
-pub top_of : (w : ℕ) → 1 ≤ w → w < 2 ^ 64 → (j q : ℕ) × (j ≤ 63) × (q < 2 ^ j) × (w ≡ 2 ^ j + q)
-    × (w * 2 ^ count_leading_zeros 64 w % 2 ^ 64 * 2 % 2 ^ 64 ≡ q * 2 ^ (64 - j))
-top_of w some room =
+pub top_bits : (w : ℕ) → 1 ≤ w → w < 2 ^ 64 → SameBits (low_bits 64 (w * 2 ^ count_leading_zeros 64 w % 2 ^ 64 * 2 % 2 ^ 64)) (bits_after w)
+top_bits w some room =
     let (j, e, low, high) = leading_top 64 w (omega (arith, some)) room in
     let few : j ≤ 63 = omega (arith, e) in
     let twice = double j in
@@ -148,15 +132,40 @@ top_of w some room =
     let next : 64 - j ≡ suc (63 - j) = omega (arith, few) in
     let both : q * 2 ^ (64 - j) ≡ q * p + q * p = ap (λ (k : ℕ). q * 2 ^ k) next ∙ ap (λ (x : ℕ). q * x) (two-pow-succ (63 - j)) ∙ mul-add q p p in
     let shift : w * 2 ^ count_leading_zeros 64 w ≡ w * p = ap (λ (k : ℕ). w * 2 ^ k) count in
-    (j, q, few, small, is, ap (λ (x : ℕ). x % 2 ^ 64 * 2 % 2 ^ 64) shift ∙ omega (arith, full, parts, less, both))
+    let top : w * 2 ^ count_leading_zeros 64 w % 2 ^ 64 * 2 % 2 ^ 64 ≡ q * 2 ^ (64 - j) =
+    ap (λ (x : ℕ). x % 2 ^ 64 * 2 % 2 ^ 64) shift ∙ omega (arith, full, parts, less, both) in
+    let one : 2 ^ j + q ≡ 1 * 2 ^ j + q = omega arith in
+    let word : bits_after w ≡ low_bits j q = after_is w j few low high ∙ ap (low_bits j) (is ∙ one) ∙ above j 1 q in
+    let long : j + (64 - j) ≡ 64 = omega (arith, few) in
+    let left : low_bits 64 (q * 2 ^ (64 - j)) ≡ low_bits j q ++ replicate (64 - j) false =
+    ap (λ (k : ℕ). low_bits k (q * 2 ^ (64 - j))) (sym long) ∙ shifted j (64 - j) q in
+    λ i. ap (λ (l : List Bool). slice_index_or l i false) (ap (low_bits 64) top ∙ left) ∙ padded (low_bits j q) (64 - j) i
+    ∙ ap (λ (l : List Bool). slice_index_or l i false) (sym word)
 
-pub byte_bits : (w : ℕ) → 1 ≤ w → w < 2 ^ 64 → (top : ℕ) → top ≡ w * 2 ^ count_leading_zeros 64 w % 2 ^ 64 * 2 % 2 ^ 64
-    → top * 128 % 2 ^ 64 ≡ 0 → SameBits (bits (top / 2 ^ 57 ∷ [])) (bits_after w)
-byte_bits w some room top is none =
-    let (j, q, few, small, word, shift) = top_of w some room in
-    let less : top < 2 ^ 64 = omega (arith, is) in
-    let whole : top ≡ top / 2 ^ 57 * 2 ^ 57 = omega (arith, none, less) in
-    λ i. one_byte j q (top / 2 ^ 57) few small (sym shift ∙ sym is ∙ whole) i ∙ ap (λ (x : ℕ). slice_index_or (bits_after x) i false) (sym word)
+-- The bits of a number are those of one byte, if they end there,
+pub byte_bits : (top : ℕ) → top < 2 ^ 64 → top * 128 % 2 ^ 64 ≡ 0 → SameBits (bits (top / 2 ^ 57 ∷ [])) (low_bits 64 top)
+byte_bits top room none =
+    let cell : ℕ = top / 2 ^ 57 in
+    let whole : top ≡ cell * 2 ^ 57 = omega (arith, none, room) in
+    let all : low_bits 64 top ≡ bits (cell ∷ []) ++ replicate 57 false =
+    ap (low_bits 64) whole ∙ shifted 7 57 cell ∙ ap (λ (l : List Bool). l ++ replicate 57 false) (of_byte cell) in
+    λ i. sym (padded (bits (cell ∷ [])) 57 i) ∙ ap (λ (l : List Bool). slice_index_or l i false) (sym all)
+
+-- and those of two bytes, if they end there.
+pub pair_bits : (top : ℕ) → top < 2 ^ 64 → top * 16384 % 2 ^ 64 ≡ 0
+    → SameBits (bits (top / 2 ^ 57 ∷ top * 128 % 2 ^ 64 / 2 ^ 57 ∷ [])) (low_bits 64 top)
+pair_bits top room none =
+    let a : ℕ = top / 2 ^ 57 in
+    let b : ℕ = top * 128 % 2 ^ 64 / 2 ^ 57 in
+    let whole : top ≡ (a * 2 ^ 7 + b) * 2 ^ 50 = omega (arith, none, room) in
+    let upper : (a * 2 ^ 7 + b) / 2 ^ 7 ≡ a = omega (arith, room) in
+    let both : low_bits 14 (a * 2 ^ 7 + b) ≡ bits (a ∷ b ∷ []) =
+    split 7 7 (a * 2 ^ 7 + b) ∙ ap (λ (x : ℕ). low_bits 7 x ++ low_bits 7 (a * 2 ^ 7 + b)) upper
+    ∙ ap (λ (l : List Bool). l ++ low_bits 7 (a * 2 ^ 7 + b)) (of_byte a)
+    ∙ ap (λ (l : List Bool). seven_bits a ++ l) (above 7 a b ∙ of_byte b) in
+    let all : low_bits 64 top ≡ bits (a ∷ b ∷ []) ++ replicate 50 false =
+    ap (low_bits 64) whole ∙ shifted 14 50 (a * 2 ^ 7 + b) ∙ ap (λ (l : List Bool). l ++ replicate 50 false) both in
+    λ i. sym (padded (bits (a ∷ b ∷ [])) 50 i) ∙ ap (λ (l : List Bool). slice_index_or l i false) (sym all)
 
 -- One bit of a word after those above it.
 pub next_bit : (w n i : ℕ) → i < n → low_bits i (w / 2 ^ (n - i)) ++ nat_eq ((w / 2 ^ (n - 1 - i)) % 2) 1 ∷ [] ≡ low_bits (i + 1) (w / 2 ^ (n - (i + 1)))
