@@ -102,19 +102,23 @@ impl Bits {
         pair_of(self.word)
     }
 
-    /// Returns the shortest presence map, if there is one.
+    /// Returns the shortest presence map, if there is one. It overwrites `scratch`, whose memory is kept from one map to the next.
     ///
     /// # Errors
     ///
     /// An allocation failed.
-    pub fn as_map(&mut self) -> Result<Option<ArrayVec<u8, MAP_LIMIT>>, AllocError>
+    pub fn as_map(
+        &self,
+        scratch: &mut Vec<bool>,
+    ) -> Result<Option<ArrayVec<u8, MAP_LIMIT>>, AllocError>
         ensures map { IfOk result (λ r. IfSome r (λ m. IsMap true m.items)) }
-        ensures bits { IfOk result (λ r. IfSome r (λ m. SameBits (bits m.items) self.old)) }
-        ensures none { IfOk result (λ r. IfNone r (HaveNoMap self.old)) }
+        ensures bits { IfOk result (λ r. IfSome r (λ m. SameBits (bits m.items) self.now)) }
+        ensures none { IfOk result (λ r. IfNone r (HaveNoMap self.now)) }
     {
-        spill(self.word, &mut self.more)?;
-        self.word = NO_BITS;
-        Ok(map_of(&self.more))
+        scratch.clear();
+        scratch.extend_from_slice(&self.more)?;
+        spill(self.word, scratch)?;
+        Ok(map_of(scratch))
     }
 }
 

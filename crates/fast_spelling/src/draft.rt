@@ -17,8 +17,10 @@ pub struct Draft {
     pub bytes: Vec<u8>,
     /// The presence bits of the innermost open segment. Its [`Mark`] has those of the segment around it.
     pub bits: Bits,
-    /// Where new lists of bits have their memory.
-    pub alloc: Global,
+    /// Memory in which bits are put in a row for a map of more than two bytes.
+    scratch: Vec<bool>,
+    /// The allocator of new lists of bits.
+    alloc: Global,
 }
 
 /// The position in a draft at which a segment begins.
@@ -39,6 +41,7 @@ impl Draft {
         Draft {
             bytes: Vec::new(alloc),
             bits: Bits::new(alloc),
+            scratch: Vec::new(alloc),
             alloc,
         }
     }
@@ -77,7 +80,7 @@ impl Draft {
         requires { 1 ≤ vec_len self.old.bytes }
         ensures { OnOk result (Closes true [] (drop 1 self.old.bytes.items) self.old.bits self.new.bytes.items) }
     {
-        put_kept_map(&mut self.bytes, 0, &mut self.bits)
+        put_kept_map(&mut self.bytes, 0, &self.bits, &mut self.scratch)
     }
 
     /// Begins a segment, and reserves a byte for its presence map if it has one.
@@ -114,7 +117,7 @@ impl Draft {
         ensures bits { OnOk result (self.new.bits ≡ mark.bits) }
     {
         if has_map {
-            put_kept_map(&mut self.bytes, mark.bytes, &mut self.bits)?;
+            put_kept_map(&mut self.bytes, mark.bytes, &self.bits, &mut self.scratch)?;
         }
         self.bits = mark.bits;
         Ok(())
@@ -178,7 +181,7 @@ impl Draft {
             (IsTold (λ c. (c ≡ E3) × (has_map ≡ true) × HaveNoMap self.old.bits)) }
     {
         if has_map {
-            put_map(&mut self.bytes, mark.bytes, &mut self.bits)?;
+            put_map(&mut self.bytes, mark.bytes, &self.bits, &mut self.scratch)?;
         }
         self.bits = mark.bits;
         Ok(())
@@ -191,15 +194,20 @@ impl Draft {
 ///
 /// E3 if the bits do not fit in a presence map; `Memory` if an allocation failed.
 #[inline(always)]
-fn put_map(bytes: &mut Vec<u8>, place: usize, presence: &mut Bits) -> Result<(), EncodeFault>
+fn put_map(
+    bytes: &mut Vec<u8>,
+    place: usize,
+    presence: &Bits,
+    scratch: &mut Vec<bool>,
+) -> Result<(), EncodeFault>
     requires { place ≤ vec_len bytes.old }
     ensures ok { OnOk result
-        (Closes true (take place bytes.old.items) (drop place bytes.old.items) presence.old bytes.new.items) }
-    ensures err { IfErr result (IsTold (λ c. (c ≡ E3) × HaveNoMap presence.old)) }
+        (Closes true (take place bytes.old.items) (drop place bytes.old.items) presence.now bytes.new.items) }
+    ensures err { IfErr result (IsTold (λ c. (c ≡ E3) × HaveNoMap presence.now)) }
 {
     match presence.as_byte() {
         Some(byte) => insert(bytes, place, &[byte])?,
-        None => match presence.as_map()? {
+        None => match presence.as_map(scratch)? {
             Some(map) => insert(bytes, place, map.as_slice())?,
             None => return Err(EncodeFault::E3),
         },
@@ -213,25 +221,35 @@ fn put_map(bytes: &mut Vec<u8>, place: usize, presence: &mut Bits) -> Result<(),
 ///
 /// E3 if the bits do not fit in a presence map; `Memory` if an allocation failed.
 #[inline(always)]
-fn put_kept_map(bytes: &mut Vec<u8>, place: usize, presence: &mut Bits) -> Result<(), EncodeFault>
+fn put_kept_map(
+    bytes: &mut Vec<u8>,
+    place: usize,
+    presence: &Bits,
+    scratch: &mut Vec<bool>,
+) -> Result<(), EncodeFault>
     requires { place < vec_len bytes.old }
     ensures { OnOk result
-        (Closes true (take place bytes.old.items) (drop (place + 1) bytes.old.items) presence.old bytes.new.items) }
+        (Closes true (take place bytes.old.items) (drop (place + 1) bytes.old.items) presence.now bytes.new.items) }
 {
     match presence.as_byte() {
         Some(byte) => {
             bytes[place] = byte;
             Ok(())
         }
-        None => put_wide_map(bytes, place, presence),
+        None => put_wide_map(bytes, place, presence, scratch),
     }
 }
 
 /// Replaces the byte at an offset (`place`) by the shortest presence map of the bits, which usually has two bytes.
-fn put_wide_map(bytes: &mut Vec<u8>, place: usize, presence: &mut Bits) -> Result<(), EncodeFault>
+fn put_wide_map(
+    bytes: &mut Vec<u8>,
+    place: usize,
+    presence: &Bits,
+    scratch: &mut Vec<bool>,
+) -> Result<(), EncodeFault>
     requires { place < vec_len bytes.old }
     ensures { OnOk result
-        (Closes true (take place bytes.old.items) (drop (place + 1) bytes.old.items) presence.old bytes.new.items) }
+        (Closes true (take place bytes.old.items) (drop (place + 1) bytes.old.items) presence.now bytes.new.items) }
 {
     match presence.as_pair() {
         Some(pair) => {
@@ -239,19 +257,24 @@ fn put_wide_map(bytes: &mut Vec<u8>, place: usize, presence: &mut Bits) -> Resul
             insert(bytes, place + 1, &[pair.1])?;
             Ok(())
         }
-        None => widen(bytes, place, presence),
+        None => widen(bytes, place, presence, scratch),
     }
 }
 
 /// Replaces the byte at an offset (`place`) by the shortest presence map of the bits, of more than one byte.
 #[cold]
-fn widen(bytes: &mut Vec<u8>, place: usize, presence: &mut Bits) -> Result<(), EncodeFault>
+fn widen(
+    bytes: &mut Vec<u8>,
+    place: usize,
+    presence: &Bits,
+    scratch: &mut Vec<bool>,
+) -> Result<(), EncodeFault>
     requires { place < vec_len bytes.old }
     ensures { OnOk result
-        (Closes true (take place bytes.old.items) (drop (place + 1) bytes.old.items) presence.old bytes.new.items) }
+        (Closes true (take place bytes.old.items) (drop (place + 1) bytes.old.items) presence.now bytes.new.items) }
 {
     let _ = bytes.remove(place);
-    match presence.as_map()? {
+    match presence.as_map(scratch)? {
         Some(map) => Ok(insert(bytes, place, map.as_slice())?),
         None => Err(EncodeFault::E3),
     }
