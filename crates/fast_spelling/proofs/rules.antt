@@ -7,3 +7,5 @@ pub mod FieldsWritten
 pub mod Chosen
 pub mod Usual
 pub mod FormsTold
+pub mod Absences
+pub mod Heads

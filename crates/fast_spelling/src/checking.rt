@@ -30,7 +30,7 @@ use fast_template::{Operator, Shape};
 use fast_value::{Item, Kind, Message, Scalar};
 use fields::{
     try_chosen, try_constant, try_copied, try_copied_other, try_default, try_difference, try_next,
-    try_other, try_plain, try_plain_unsigned,
+    try_other, try_parts, try_plain, try_plain_unsigned,
 };
 use nodes::form_at;
 
@@ -158,6 +158,8 @@ pub fn try_body(plan: &Plan<'_>, body: &[u32], slots: &[Option<Item>], work: &mu
                 value,
                 work,
             ),
+            Form::DefaultParts => try_parts(plan, node, Operator::Default, value, work),
+            Form::CopyParts => try_parts(plan, node, Operator::Copy, value, work),
             Form::Other => try_other(plan, node, value, work),
         };
         if done.is_err() {

@@ -28,8 +28,7 @@ use crate::items::write_item;
 use crate::known::Known;
 use crate::ledger::Ledger;
 use crate::quick::{
-    write_ascii, write_bytes, write_none, write_signed, write_unicode, write_unsigned,
-    write_whole_decimal,
+    write_ascii, write_bytes, write_signed, write_unicode, write_unsigned, write_whole_decimal,
 };
 use fast_dict::operators::delta_base;
 use fast_dict::{Previous, Sent, choose};
@@ -62,7 +61,7 @@ pub fn write_field(
 {
     match value {
         Some(present) => write_present(draft, ledger, field, present),
-        None => write_none(draft, ledger, field),
+        None => write_chosen(draft, ledger, field, None),
     }
 }
 

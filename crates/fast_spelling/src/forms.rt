@@ -1,9 +1,10 @@
-//! Forms: the type and the operator of a node's field as one number, by which the encoder selects its code.
+//! Forms: the type and the operator of a node's field as one number, by which the encoder selects its code, and what the absence of a node
+//! writes.
 
 ghost use Rattle.std.specs.Prelude.{◌≡◌, IfOk};
 ghost use Rattle.fast_value.specs.declared.kinds.Kind.TheVariants.{UInt32, Int32, UInt64, Int64, Decimal, Ascii, Unicode, Bytes};
 ghost use Rattle.fast_template.specs.meaning.Flat.{nodes_of};
-ghost use Rattle.fast_spelling.specs.device.Forms.{form_by, step_of, steps_of};
+ghost use Rattle.fast_spelling.specs.device.Forms.{form_by, parts_by, absence_by, step_by, step_of, steps_of};
 
 use fast_template::{FieldInstruction, Operator, Shape, Templates};
 use fast_value::Kind;
@@ -86,7 +87,11 @@ pub enum Form {
     CopyDecimal,
     /// A field of decimals under delta.
     DeltaDecimal,
-    /// All else: decimals by parts, groups and sequences, and the less frequent fields.
+    /// A decimal by parts: an exponent under default, and a mantissa under delta.
+    DefaultParts,
+    /// A decimal by parts: an exponent under copy, and a mantissa under delta.
+    CopyParts,
+    /// All else: groups and sequences, and the less frequent fields and decimals by parts.
     Other,
 }
 
@@ -104,6 +109,17 @@ impl Form {
             Kind::Ascii => Form::of_ascii(field.operator),
             Kind::Unicode => Form::of_unicode(field.operator),
             Kind::Bytes => Form::of_bytes(field.operator),
+        }
+    }
+
+    /// Returns the form of a decimal by parts.
+    fn of_parts(exponent: &FieldInstruction, mantissa: &FieldInstruction) -> Form
+        ensures { result ≡ parts_by exponent.now.operator mantissa.now.operator }
+    {
+        match (exponent.operator, mantissa.operator) {
+            (Operator::Default, Operator::Delta) => Form::DefaultParts,
+            (Operator::Copy, Operator::Delta) => Form::CopyParts,
+            _ => Form::Other,
         }
     }
 
@@ -226,31 +242,87 @@ impl Form {
     }
 }
 
-/// A step: the form of a node, with the properties of the field that its code reads. It has 8 bytes, a node has about 140.
+/// The content of the stream for the absence of a node's field, group or sequence. It is decided by the head of the node: the field itself,
+/// the exponent of a decimal by parts, or the length of a sequence.
+#[derive(Clone, Copy, Debug, PartialEq, Eq)]
+pub enum Absence {
+    /// None: it may not be absent.
+    Refused,
+    /// NULL without a presence bit, as without operator and under delta.
+    Null,
+    /// A clear presence bit: a group, or a field under default without initial value.
+    Clear,
+    /// A clear presence bit if the entry is empty, and NULL if it holds a value, as under copy, increment and tail.
+    ByEntry,
+    /// Any, by the rule that chooses what is sent.
+    Chosen,
+}
+
+impl Absence {
+    /// Returns the absence of a field.
+    fn of_field(field: &FieldInstruction) -> Absence
+        ensures { result ≡ absence_by field.now.optional field.now.operator field.now.initial }
+    {
+        if !field.optional {
+            return Absence::Refused;
+        }
+        match field.operator {
+            Operator::None | Operator::Delta => Absence::Null,
+            Operator::Copy | Operator::Increment | Operator::Tail => Absence::ByEntry,
+            Operator::Constant => Absence::Chosen,
+            Operator::Default => match field.initial {
+                None => Absence::Clear,
+                Some(_) => Absence::Chosen,
+            },
+        }
+    }
+}
+
+/// A step: the form of a node, what its absence writes, and the properties of its head that the code of its form reads. It has 8 bytes, a
+/// node has about 140.
 #[derive(Clone, Copy, Debug)]
 pub struct Step {
     /// The form.
     pub form: Form,
-    /// True if the field may be absent, so that its values are nullable.
+    /// Its absence.
+    pub absence: Absence,
+    /// True if it may be absent: the values of a field are nullable then.
     pub nullable: bool,
-    /// The field's entry in the dictionary, or 0 if it has none.
+    /// The entry of its head in the dictionary, or 0 if there is none.
     pub entry: u32,
 }
 
 impl Step {
+    /// Returns the step of a node that has a head.
+    fn of_head(form: Form, head: &FieldInstruction) -> Step
+        ensures { result ≡ step_by form head.now }
+    {
+        Step {
+            form,
+            absence: Absence::of_field(head),
+            nullable: head.optional,
+            entry: head.entry.unwrap_or(0),
+        }
+    }
+
     /// Returns the step of a node.
     fn of(shape: &Shape) -> Step
         ensures { result ≡ step_of shape.now }
     {
         match shape {
-            Shape::Field(field) => Step {
-                form: Form::of_field(field),
-                nullable: field.optional,
-                entry: field.entry.unwrap_or(0),
-            },
-            Shape::Decimal { .. } | Shape::Group { .. } | Shape::Sequence { .. } => Step {
+            Shape::Field(field) => Step::of_head(Form::of_field(field), field),
+            Shape::Decimal { exponent, mantissa } => {
+                Step::of_head(Form::of_parts(exponent, mantissa), exponent)
+            }
+            Shape::Sequence { length, .. } => Step::of_head(Form::Other, length),
+            Shape::Group { optional, .. } => Step {
                 form: Form::Other,
-                nullable: false,
+                absence: if *optional {
+                    Absence::Clear
+                } else {
+                    Absence::Refused
+                },
+                nullable: *optional,
                 entry: 0,
             },
         }

@@ -35,7 +35,7 @@ pub fn write_item(bytes: &mut Vec<u8>, at: Known<'_>, item: Sent<'_>) -> Result<
     match item {
         Sent::Nothing => Ok(()),
         Sent::Null => {
-            bytes.extend_from_slice(&NULL)?;
+            push_byte(bytes, NULL)?;
             Ok(())
         }
         Sent::Value(value) => write_value(bytes, at.kind, at.nullable, value),
@@ -56,7 +56,7 @@ pub fn write_item(bytes: &mut Vec<u8>, at: Known<'_>, item: Sent<'_>) -> Result<
 }
 
 /// NULL, for every type.
-const NULL: [u8; 1] = [0x80];
+pub const NULL: u8 = 0x80;
 
 /// Writes a value of a type.
 #[inline(always)]
@@ -141,7 +141,7 @@ fn write_ascii(bytes: &mut Vec<u8>, nullable: bool, text: &[u8]) -> Result<(), E
         if nullable {
             bytes.extend_from_slice(&EMPTY_NULLABLE)?;
         } else {
-            bytes.extend_from_slice(&NULL)?;
+            push_byte(bytes, NULL)?;
         }
         return Ok(());
     }

@@ -4,14 +4,15 @@ ghost use Rattle.std.specs.Prelude.{◌≡◌, true};
 ghost use Rattle.fast_tree.specs.meaning.Nodes.{field_data};
 ghost use Rattle.fast_spelling.specs.device.Places.{field_there, is_there};
 
+use crate::plan::Plan;
 use fast_template::{FieldInstruction, Shape};
 use fast_value::Kind;
 
 /// The place of a field.
 #[derive(Clone, Copy)]
 pub enum Place<'t> {
-    /// In the shape of its node.
-    Node(&'t Shape),
+    /// In the node of this number.
+    Node(&'t Plan<'t>, u32),
     /// By itself: the exponent or the mantissa of a decimal, the length of a sequence, the template identifier.
     Alone(&'t FieldInstruction),
 }
@@ -55,7 +56,7 @@ impl<'t> Known<'t> {
     {
         match self.place {
             Place::Alone(field) => field,
-            Place::Node(shape) => match shape {
+            Place::Node(plan, node) => match &plan.templates.node(node).shape {
                 Shape::Field(field) => field,
                 Shape::Decimal { .. } | Shape::Group { .. } | Shape::Sequence { .. } =>
                     unreachable!(),

@@ -21,19 +21,21 @@ use crate::faults::EncodeFault;
 use crate::fields::write_field;
 use crate::known::Known;
 use crate::ledger::Ledger;
-use crate::quick::{write_copied, write_default, write_difference, write_signed};
+use crate::quick::{is_held, is_initial, write_difference, write_signed};
 use fast_template::{FieldInstruction, Operator, Shape, Templates};
 use fast_value::{Limits, Scalar, Value};
 
-/// Writes a decimal by parts: its exponent, and then its mantissa.
+/// Writes a decimal by parts: its exponent, and then its mantissa. Their operators may be known at compile time.
 #[inline(always)]
 pub fn write_decimal(
     exponent: &FieldInstruction,
     mantissa: &FieldInstruction,
+    operators: (Operator, Operator),
     value: &Value,
     draft: &mut Draft,
     ledger: &mut Ledger,
 ) -> Result<(), EncodeFault>
+    requires operators { (exponent.now.operator ≡ operators.0) × (mantissa.now.operator ≡ operators.1) }
     requires exponent { IsServed ledger.old (field_data exponent.now) }
     requires mantissa { IsServed ledger.old (field_data mantissa.now) }
     requires kinds { (exponent.now.kind ≡ Int32) × (mantissa.now.kind ≡ Int64) }
@@ -51,21 +53,23 @@ pub fn write_decimal(
             exponent: e,
             mantissa: m,
         } => {
-            write_exponent(draft, ledger, exponent, i64::from(*e))?;
-            write_mantissa(draft, ledger, mantissa, *m)
+            write_exponent(draft, ledger, exponent, operators.0, i64::from(*e))?;
+            write_mantissa(draft, ledger, mantissa, operators.1, *m)
         }
         _ => Err(EncodeFault::E3),
     }
 }
 
-/// Writes the exponent of a decimal by parts. The usual operators, default and copy, are tried first. Not marked to be inlined: with both
-/// it is larger than the compiler inlines.
+/// Writes the exponent of a decimal by parts. It seldom changes: the code for one that default or copy implies is inlined.
+#[inline(always)]
 fn write_exponent(
     draft: &mut Draft,
     ledger: &mut Ledger,
     field: &FieldInstruction,
+    operator: Operator,
     number: i64,
 ) -> Result<(), EncodeFault>
+    requires operator { field.now.operator ≡ operator }
     requires served { IsServed ledger.old (field_data field.now) }
     requires suited { IsSuited ledger.old.max_text (field_data field.now) (Some (I number)) }
     ensures ok { OnOk result ((l : Limits) → l.max_text ≡ ledger.old.max_text
@@ -74,9 +78,10 @@ fn write_exponent(
     ensures err { IfErr result (IsTold (RefusesField (field_data field.now) ledger.old.now (Some (I number)))) }
     ensures keeps { Keeps ledger.old ledger.new }
 {
-    match field.operator {
-        Operator::Default => write_default(draft, ledger, Known::of(field), Scalar::I(number)),
-        Operator::Copy => write_copied(draft, ledger, Known::of(field), Scalar::I(number)),
+    let at = Known::of(field);
+    match operator {
+        Operator::Default if is_initial(at, Scalar::I(number)) => Ok(draft.push_bit(false)?),
+        Operator::Copy if is_held(ledger, at, Scalar::I(number)) => Ok(draft.push_bit(false)?),
         _ => write_signed(draft, ledger, field, number),
     }
 }
@@ -87,8 +92,10 @@ fn write_mantissa(
     draft: &mut Draft,
     ledger: &mut Ledger,
     field: &FieldInstruction,
+    operator: Operator,
     number: i64,
 ) -> Result<(), EncodeFault>
+    requires operator { field.now.operator ≡ operator }
     requires served { IsServed ledger.old (field_data field.now) }
     requires suited { IsSuited ledger.old.max_text (field_data field.now) (Some (I number)) }
     ensures ok { OnOk result ((l : Limits) → l.max_text ≡ ledger.old.max_text
@@ -97,7 +104,7 @@ fn write_mantissa(
     ensures err { IfErr result (IsTold (RefusesField (field_data field.now) ledger.old.now (Some (I number)))) }
     ensures keeps { Keeps ledger.old ledger.new }
 {
-    match field.operator {
+    match operator {
         Operator::Delta => write_difference(draft, ledger, Known::of(field), Scalar::I(number)),
         _ => write_signed(draft, ledger, field, number),
     }

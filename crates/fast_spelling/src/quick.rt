@@ -1,7 +1,6 @@
 //! Fields under the usual operators and previous values, for which one comparison decides the case of the rule. This module selects by the
 //! type of the value, `operators` by the operator.
 
-mod absences;
 mod choices;
 mod deltas;
 mod held;
@@ -22,10 +21,10 @@ use crate::draft::Draft;
 use crate::faults::EncodeFault;
 use crate::known::Known;
 use crate::ledger::Ledger;
-pub use absences::{write_no_copy, write_no_default, write_no_delta, write_no_plain, write_none};
 pub use choices::choose_value;
 use fast_template::{FieldInstruction, Operator};
 use fast_value::Scalar;
+pub use held::{is_held, is_initial};
 pub use operators::{
     write_constant, write_copied, write_copied_other, write_default, write_difference, write_next,
     write_plain,

@@ -87,7 +87,8 @@ fn write_item(
             write_field(draft, ledger, field, Some(value.as_scalar()))
         }
         (Shape::Decimal { exponent, mantissa }, Item::One(value)) => {
-            write_decimal(exponent, mantissa, value, draft, ledger)
+            let operators = (exponent.operator, mantissa.operator);
+            write_decimal(exponent, mantissa, operators, value, draft, ledger)
         }
         (Shape::Group { optional, body }, Item::Group(slots)) => {
             draft.push_bit_if(*optional, true)?;

@@ -1,8 +1,8 @@
 -- What the form of a node says of it.
-use Rattle.std.proofs.Common.{◌≡◌, ℕ, ◌+◌, ◌++◌, ◌∷◌, [], ◌∙◌, refl, ap, sym, subst, List, take}
-use Rattle.std.proofs.lemmas.List.{take_more, map-append}
-use Rattle.std.proofs.lemmas.Option.{slice_get_within, get_or_from_slice_get}
-use Rattle.std.specs.Prelude.{true, false, Option, None, Some, is_some, unwrap_or, option_map, slice_get}
+use Rattle.std.proofs.Common.{◌≡◌, ℕ, ◌+◌, ◌<◌, ◌++◌, ◌∷◌, [], ◌∙◌, refl, ap, sym, subst, arith, List, take, length}
+use Rattle.std.proofs.lemmas.List.{take_more, map-append, length-map}
+use Rattle.std.proofs.lemmas.Option.{slice_get_read, slice_get_within, get_or_from_slice_get}
+use Rattle.std.specs.Prelude.{true, false, Option, None, Some, is_some, unwrap_or, option_map, slice_get, get_or}
 use Rattle.std.proofs.lemmas.Option.{slice_get-map}
 use Rattle.fast_value.specs.declared.kinds.Kind.{Kind}
 use Rattle.fast_value.specs.declared.kinds.Kind.TheVariants.{UInt32, Int32, UInt64, Int64, Decimal as decimal, Ascii, Unicode, Bytes}
@@ -12,11 +12,17 @@ use Rattle.fast_tree.specs.declared.instructions.FieldInstruction.{FieldInstruct
 use Rattle.fast_tree.specs.declared.instructions.Node.{Node}
 use Rattle.fast_tree.specs.declared.instructions.Shape.{Shape}
 use Rattle.fast_tree.specs.declared.instructions.Shape.TheVariants.{Field, Decimal, Group, Sequence}
+use Rattle.fast_template.specs.meaning.Flat.{nodes_of}
+use Rattle.fast_spelling.specs.declared.plan.Plan.{Plan}
 use Rattle.fast_spelling.specs.declared.forms.Step.{Step}
-use Rattle.fast_spelling.specs.device.Forms.{IsFieldOf, form_by, form_of, step_of, steps_of, Says}
+use Rattle.fast_spelling.specs.device.Forms.{IsFieldOf, IsPartsOf, form_by, parts_by, step_of, steps_of, Says}
 use Rattle.fast_spelling.specs.device.Places.{field_of}
 
--- a node that is a field of some type and operator is a field
+-- a node that is a decimal by parts is one, and a node that is a field of some type and operator is a field
+pub parts_told : (operator : Operator) (s : Shape) → IsPartsOf operator s → (e m : FieldInstruction) × (s ≡ Decimal e m)
+parts_told operator (Decimal e m) h = (e, m, refl)
+parts_told operator s h = absurd h
+
 pub field_told : (kind : Kind) (operator : Operator) (s : Shape) → IsFieldOf kind operator s → s ≡ Field (field_of s)
 field_told kind operator (Field f) h = refl
 field_told kind operator s h = absurd h
@@ -79,9 +85,14 @@ says_by f Bytes Copy a b = tt
 says_by f Bytes Increment a b = tt
 says_by f Bytes Delta a b = tt
 
-pub says : (x : Shape) → Says (form_of x) x
+says_parts : (e m : FieldInstruction) (p q : Operator) → e.operator ≡ p → m.operator ≡ q → Says (parts_by p q) (Decimal e m)
+says_parts e m Default Delta a b = (a, b)
+says_parts e m Copy Delta a b = (a, b)
+says_parts e m p q a b = tt
+
+pub says : (x : Shape) → Says (step_of x).form x
 says (Field f) = says_by f f.kind f.operator refl refl
-says (Decimal e m) = tt
+says (Decimal e m) = says_parts e m e.operator m.operator refl refl
 says (Group o b) = tt
 says (Sequence l b) = tt
 
@@ -101,6 +112,17 @@ mapped (Some x) c e = (x, refl, some_is (step_of x.shape) c e)
 -- and there is such a node
 pub step_is : (nodes : List Node) (n : ℕ) (c : Step) → slice_get (steps_of nodes) n ≡ Some c → (x : Node) × (slice_get nodes n ≡ Some x) × (step_of x.shape ≡ c)
 step_is nodes n c at = mapped (slice_get nodes n) c (sym (slice_get-map (λ (v : Node). step_of v.shape) nodes n) ∙ at)
+
+-- so is the one that a plan has for a node
+pub step_here : (plan : Plan) (n : ℕ) (c : Step) → n < length (nodes_of plan.templates.now) → c ≡ get_or plan.steps.items n c
+    → (x : Node) × (slice_get (nodes_of plan.templates.now) n ≡ Some x) × (step_of x.shape ≡ c)
+step_here plan n c within read =
+    let nodes = nodes_of plan.templates.now in
+    let same : plan.steps.items ≡ steps_of nodes = plan.steps_fit in
+    let long : length plan.steps.items ≡ length nodes = ap length same ∙ length-map nodes (λ (v : Node). step_of v.shape) in
+    let inside : n < length plan.steps.items = omega (arith, within, long) in
+    let there : slice_get plan.steps.items n ≡ Some c = slice_get_read plan.steps.items (length plan.steps.items) n c refl inside read in
+    step_is nodes n c (subst (λ (z : List Step). slice_get z n ≡ Some c) same there)
 
 -- an entry that is there, and one that is not
 pub entry_there : (o : Option ℕ) → is_some o ≡ true → o ≡ Some (unwrap_or o 0)

@@ -6,15 +6,15 @@ use Rattle.fast_value.specs.declared.kinds.Kind.{Kind}
 use Rattle.fast_value.specs.declared.kinds.Kind.TheVariants.{UInt32, Int32, UInt64, Int64, Decimal, Ascii, Unicode, Bytes}
 use Rattle.fast_value.specs.declared.settings.Limits.{Limits}
 use Rattle.fast_value.specs.declared.codes.Code.{Code}
-use Rattle.fast_value.specs.declared.codes.Code.TheVariants.{D4, D6}
+use Rattle.fast_value.specs.declared.codes.Code.TheVariants.{D4}
 use Rattle.fast_value.specs.meaning.Kinds.{ScalarData, U, I, Dec, AsciiText, UnicodeText, ByteVector, text_of, Family, texts, family}
 use Rattle.fast_value.specs.meaning.Kinds.{value_of_integer, value_of_text, integer_of, exponent_of, mantissa_of, same_kind}
 use Rattle.fast_tree.specs.declared.operators.Operator.{Operator}
 use Rattle.fast_tree.specs.declared.operators.Operator.TheVariants.{None as no_operator, Constant, Default, Copy, Increment, Delta, Tail}
 use Rattle.fast_tree.specs.meaning.Tree.{FieldData, operator_uses_bit, uses_bit}
-use Rattle.fast_dict.specs.meaning.Dictionary.{Dictionary, PreviousData, undefined, empty, assigned, previous_at, write_at}
-use Rattle.fast_dict.specs.meaning.Operators.{◌>>=◌, Outcome, Sent, nothing, null, value, integer_delta, decimal_delta, keeps, from_initial}
-use Rattle.fast_dict.specs.meaning.Operators.{fixed, of_kind, incremented, range_of, next_value, unsent, delta_base, tail_base, decide_by, IsItemBy}
+use Rattle.fast_dict.specs.meaning.Dictionary.{Dictionary, PreviousData, undefined, assigned, previous_at, write_at}
+use Rattle.fast_dict.specs.meaning.Operators.{◌>>=◌, Outcome, Sent, nothing, value, integer_delta, decimal_delta, keeps}
+use Rattle.fast_dict.specs.meaning.Operators.{fixed, incremented, range_of, next_value, unsent, delta_base, tail_base, decide_by, IsItemBy}
 use Rattle.fast_dict.specs.meaning.Rule.{GoesUnsent, IsDelta, IsTail, IsTextDelta, SentBy, Rule}
 use Rattle.fast_spelling.specs.device.Drafts.{IsSendable, IsSendableValue}
 use Rattle.fast_spelling.specs.meaning.Encoding.{EncodesField}
@@ -116,7 +116,7 @@ step_other f p u v is held differs = set f p (assigned f.kind (step f u)) v (Som
     (λ e. differs (some_is (step f u) v e)) refl
 
 -- default: the initial value is not sent, any other is
-default_gives : (f : FieldData) (p : PreviousData) (i : Option ScalarData) → f.initial ≡ i → fixed f.initial p ≡ Ok (record { value = i; next = p })
+pub default_gives : (f : FieldData) (p : PreviousData) (i : Option ScalarData) → f.initial ≡ i → fixed f.initial p ≡ Ok (record { value = i; next = p })
 default_gives f p i is = ap (λ (z : Option ScalarData). fixed z p) is ∙ by i
   where
     by : (i : Option ScalarData) → fixed i p ≡ Ok (record { value = i; next = p })
@@ -234,99 +234,6 @@ value_sendable Ascii (AsciiText t) m g (room, h) i = (omega (arith, g, i), h.1)
 value_sendable Unicode (UnicodeText t) m g (room, h) i = omega (arith, g, i)
 value_sendable Bytes (ByteVector t) m g (room, h) i = omega (arith, g, i)
 value_sendable kind v m g (room, h) i = absurd h
-
--- an absent field
-abbrev Absent : FieldData → PreviousData → PreviousData → Operator → Type 0
-Absent f p next o = (operator_uses_bit o f.optional ≡ true) × IsItemBy o false f nothing × (decide_by o false f p nothing ≡ Ok (record {
-  value = None;
-  next = next;
-}))
-
-absent_clear : (f : FieldData) (p next : PreviousData) (o : Operator) → f.operator ≡ o → Absent f p next o → Rule f p None false nothing
-absent_clear f p next o is c =
-    let k = subst (Absent f p next) (sym is) c in
-    ((next, k.0, (k.1, k.2)), refl)
-
--- without a bit NULL is sent
-pub absent_plain : (f : FieldData) (p : PreviousData) → f.operator ≡ no_operator → Rule f p None true null
-absent_plain f p is = (
-  λ (m, b, _). let clash : false ≡ true = subst (λ (z : Operator). operator_uses_bit z f.optional ≡ true) is b in
-      absurd (cc clash),
-  subst (λ (z : Operator). SentBy z f p None null) (sym is) refl,
-)
-
-pub absent_delta : (f : FieldData) (p : PreviousData) → f.operator ≡ Delta → Rule f p None true null
-absent_delta f p is = (
-  λ (m, b, _). let clash : false ≡ true = subst (λ (z : Operator). operator_uses_bit z f.optional ≡ true) is b in
-      absurd (cc clash),
-  subst (λ (z : Operator). SentBy z f p None null) (sym is) refl,
-)
-
--- a default that has an initial value is sent as NULL
-pub absent_default : (f : FieldData) (p : PreviousData) (v : ScalarData) → f.operator ≡ Default → f.initial ≡ Some v → Rule f p None true null
-absent_default f p v is held = (not, subst (λ (z : Operator). SentBy z f p None null) (sym is) refl)
-  where
-    not : ¬ (GoesUnsent f p None)
-    not (m, _, (_, g)) =
-        let h : decide_by Default false f p nothing ≡ Ok (record {
-          value = None;
-          next = m;
-        }) = subst (λ (z : Operator). decide_by z false f p nothing ≡ Ok (record { value = None; next = m })) is g in
-        let clash : Some v ≡ None = ap (λ (z : Outcome). z.value) (one_ok (decide_by Default false f p nothing) (record {
-          value = Some v;
-          next = p;
-        }) (record { value = None; next = m }) (default_gives f p (Some v) held) h) in
-        absurd (cc clash)
-
--- a copy whose entry holds a value is sent as NULL
-pub absent_copy : (f : FieldData) (p : PreviousData) (k : Kind) (u : ScalarData) → f.operator ≡ Copy → p ≡ assigned k u → Rule f p None true null
-absent_copy f p k u is held = (not, subst (λ (z : Operator). SentBy z f p None null) (sym is) refl)
-  where
-    gives : ScalarData → Result Outcome Code
-    gives w = keeps f.kind (next_value f.operator f.kind w)
-
-    by : (r : Result ScalarData Code) (m : PreviousData) → r >>= gives ≡ Ok (record { value = None; next = m }) → ⊥
-    by (Ok w) m e =
-        let clash : Some (next_value f.operator f.kind w) ≡ None = ap (λ (z : Outcome). z.value) (one_ok (gives w) (record {
-          value = Some (next_value f.operator f.kind w);
-          next = assigned f.kind (next_value f.operator f.kind w);
-        }) (record { value = None; next = m }) refl e) in
-        absurd (cc clash)
-    by (Err c) m e = absurd (let z : ◌≡◌ {A = Result Outcome Code} (Err c) (Ok (record { value = None; next = m })) = e in cc)
-
-    not : ¬ (GoesUnsent f p None)
-    not (m, _, (_, g)) =
-        let h : decide_by Copy false f p nothing ≡ Ok (record {
-          value = None;
-          next = m;
-        }) = subst (λ (z : Operator). decide_by z false f p nothing ≡ Ok (record { value = None; next = m })) is g in
-        by (of_kind f.kind k u) m (sym (ap (unsent f) held) ∙ h)
-
-absent_passed : (l : Limits) (f : FieldData) (d : Dictionary) → uses_bit f ≡ true → (f.operator ≡ Tail → family f.kind ≡ texts)
-    → IsSuited l.max_text f None → Rule f (previous_at f.entry d) None false nothing
-    → next_of f (previous_at f.entry d) None ≡ previous_at f.entry d → EncodesField l f d None (false ∷ []) [] d
-absent_passed l f d used tail suited rule same =
-    field_done l f d (previous_at f.entry d) None false nothing (false ∷ []) [] d refl tail suited rule tt refl
-    (ap (λ (u : Bool). if u then false ∷ [] else []) (sym used))
-    (sym (ap (λ (p : PreviousData). write_at f.entry p d) same ∙ write_back f.entry d))
-
-pub default_absent : (l : Limits) (f : FieldData) (d : Dictionary) → f.operator ≡ Default → (f.operator ≡ Tail → family f.kind ≡ texts)
-    → IsSuited l.max_text f None → f.initial ≡ None → EncodesField l f d None (false ∷ []) [] d
-default_absent l f d is tail suited none =
-    absent_passed l f d (ap (λ (o : Operator). operator_uses_bit o f.optional) is) tail suited
-    (absent_clear f (previous_at f.entry d) (previous_at f.entry d) Default is (refl, refl, default_gives f (previous_at f.entry d) None none))
-    (ap (λ (o : Operator). next_by o f.kind (previous_at f.entry d) None) is)
-
-pub copy_absent : (l : Limits) (f : FieldData) (d : Dictionary) → f.operator ≡ Copy → (f.operator ≡ Tail → family f.kind ≡ texts)
-    → IsSuited l.max_text f None → previous_at f.entry d ≡ empty → EncodesField l f d None (false ∷ []) [] d
-copy_absent l f d is tail suited held =
-    let gives : unsent f (previous_at f.entry d) ≡ Ok (record {
-      value = None;
-      next = empty;
-    }) = ap (unsent f) held ∙ ap (λ (b : Bool). from_initial f.kind b D6 None) suited in
-    absent_passed l f d (ap (λ (o : Operator). operator_uses_bit o f.optional) is) tail suited
-    (absent_clear f (previous_at f.entry d) empty Copy is (refl, refl, gives))
-    (ap (λ (o : Operator). next_by o f.kind (previous_at f.entry d) None) is ∙ sym held)
 
 -- tail: what the entry holds is not sent, and of another text what its tail is
 tailed : (f : FieldData) (p : PreviousData) (u : ScalarData) → f.operator ≡ Tail → p ≡ assigned f.kind u → unsent f p ≡ keeps f.kind u

@@ -1,21 +1,26 @@
 -- What a form says of a node.
-use Rattle.std.specs.Prelude.{◌≡◌, ℕ, Bool, false, List, map, slice_get, Some, unwrap_or}
+use Rattle.std.specs.Prelude.{◌≡◌, ℕ, Bool, true, false, if◌then◌else◌, List, map, slice_get, Option, None, Some, unwrap_or}
+use Rattle.fast_value.specs.declared.values.Value.{Value}
 use Rattle.fast_value.specs.declared.kinds.Kind.{Kind}
 use Rattle.fast_value.specs.declared.kinds.Kind.TheVariants.{UInt32, Int32, UInt64, Int64, Decimal as decimal, Ascii, Unicode, Bytes}
 use Rattle.fast_tree.specs.declared.operators.Operator.{Operator}
 use Rattle.fast_tree.specs.declared.operators.Operator.TheVariants.{None as no_operator, Constant, Default, Copy, Increment, Delta, Tail}
 use Rattle.fast_tree.specs.declared.instructions.Node.{Node}
 use Rattle.fast_tree.specs.declared.instructions.Shape.{Shape}
-use Rattle.fast_tree.specs.declared.instructions.Shape.TheVariants.{Field}
+use Rattle.fast_tree.specs.declared.instructions.FieldInstruction.{FieldInstruction}
+use Rattle.fast_tree.specs.declared.instructions.Shape.TheVariants.{Field, Decimal as Parts, Group, Sequence}
 use Rattle.fast_spelling.specs.declared.forms.Form.{Form}
 use Rattle.fast_spelling.specs.declared.forms.Step.{Step}
+use Rattle.fast_spelling.specs.declared.forms.Absence.{Absence}
+use Rattle.fast_spelling.specs.declared.forms.Absence.TheVariants.{Refused, Null, Clear, ByEntry, Chosen}
 use Rattle.fast_spelling.specs.declared.forms.Form.TheVariants.{PlainUInt32, PlainInt32, PlainUInt64, PlainInt64, ConstantUInt32}
 use Rattle.fast_spelling.specs.declared.forms.Form.TheVariants.{ConstantInt32, ConstantUInt64, ConstantInt64, DefaultUInt32, DefaultInt32}
 use Rattle.fast_spelling.specs.declared.forms.Form.TheVariants.{DefaultUInt64, DefaultInt64, CopyUInt32, CopyInt32, CopyUInt64, CopyInt64}
 use Rattle.fast_spelling.specs.declared.forms.Form.TheVariants.{IncrementUInt32, IncrementInt32, IncrementUInt64, IncrementInt64}
 use Rattle.fast_spelling.specs.declared.forms.Form.TheVariants.{DeltaUInt32, DeltaInt32, DeltaUInt64, DeltaInt64, PlainAscii, ConstantAscii}
 use Rattle.fast_spelling.specs.declared.forms.Form.TheVariants.{DefaultAscii, CopyAscii, TailAscii, DeltaAscii, PlainUnicode, DeltaUnicode}
-use Rattle.fast_spelling.specs.declared.forms.Form.TheVariants.{PlainBytes, TailBytes, PlainDecimal, CopyDecimal, DeltaDecimal, Other}
+use Rattle.fast_spelling.specs.declared.forms.Form.TheVariants.{PlainBytes, TailBytes, PlainDecimal, CopyDecimal, DeltaDecimal}
+use Rattle.fast_spelling.specs.declared.forms.Form.TheVariants.{DefaultParts, CopyParts, Other}
 
 -- the form of a field of this type under this operator
 abbrev pub form_by : Kind → Operator → Form
@@ -58,24 +63,51 @@ form_by decimal Copy = CopyDecimal
 form_by decimal Delta = DeltaDecimal
 form_by kind operator = Other
 
--- the form of a node
-abbrev pub form_of : Shape → Form
-form_of (Field f) = form_by f.kind f.operator
-form_of x = Other
+-- the form of a decimal by parts with these operators
+abbrev pub parts_by : Operator → Operator → Form
+parts_by Default Delta = DefaultParts
+parts_by Copy Delta = CopyParts
+parts_by exponent mantissa = Other
 
--- whether the field of a node may be absent
-abbrev pub is_nullable : Shape → Bool
-is_nullable (Field f) = f.optional
-is_nullable x = false
+-- what the absence of a field writes, if it may be absent, by its operator and its initial value
+abbrev pub absence_by : Bool → Operator → Option Value → Absence
+absence_by false operator initial = Refused
+absence_by true no_operator initial = Null
+absence_by true Delta initial = Null
+absence_by true Copy initial = ByEntry
+absence_by true Increment initial = ByEntry
+absence_by true Tail initial = ByEntry
+absence_by true Constant initial = Chosen
+absence_by true Default None = Clear
+absence_by true Default (Some v) = Chosen
 
--- the entry of a node's field, or 0
-abbrev pub entry_of : Shape → ℕ
-entry_of (Field f) = unwrap_or f.entry 0
-entry_of x = 0
+-- what is done at a node with this head
+abbrev pub step_by : Form → FieldInstruction → Step
+step_by form f = record {
+  form = form;
+  absence = absence_by f.optional f.operator f.initial;
+  nullable = f.optional;
+  entry = unwrap_or f.entry 0;
+}
+
+-- the field whose absence is that of the whole node; a group has none
+abbrev pub head_of : Shape → Option FieldInstruction
+head_of (Field f) = Some f
+head_of (Parts e m) = Some e
+head_of (Sequence length body) = Some length
+head_of (Group optional body) = None
 
 -- what is done at a node
 abbrev pub step_of : Shape → Step
-step_of x = record { form = form_of x; nullable = is_nullable x; entry = entry_of x }
+step_of (Field f) = step_by (form_by f.kind f.operator) f
+step_of (Parts e m) = step_by (parts_by e.operator m.operator) e
+step_of (Sequence length body) = step_by Other length
+step_of (Group optional body) = record {
+  form = Other;
+  absence = if optional then Clear else Refused;
+  nullable = optional;
+  entry = 0;
+}
 
 abbrev pub steps_of : List Node → List Step
 steps_of = map (λ x. step_of x.shape)
@@ -88,6 +120,15 @@ IsFieldOf kind operator x = ⊥
 -- so is that of the node with this number
 abbrev pub IsFieldAt : List Node → ℕ → Kind → Operator → Type 0
 IsFieldAt nodes n kind operator = (x : Node) → slice_get nodes n ≡ Some x → IsFieldOf kind operator x.shape
+
+-- The shape is a decimal by parts: an exponent under this operator, and a mantissa under delta.
+abbrev pub IsPartsOf : Operator → Shape → Type 0
+IsPartsOf operator (Parts e m) = (e.operator ≡ operator) × (m.operator ≡ Delta)
+IsPartsOf operator x = ⊥
+
+-- so is that of the node with this number
+abbrev pub IsPartsAt : List Node → ℕ → Operator → Type 0
+IsPartsAt nodes n operator = (x : Node) → slice_get nodes n ≡ Some x → IsPartsOf operator x.shape
 
 -- What a form says of a field, and of a node.
 abbrev pub Says : Form → Shape → Type 0
@@ -128,4 +169,6 @@ Says TailBytes x = IsFieldOf Bytes Tail x
 Says PlainDecimal x = IsFieldOf decimal no_operator x
 Says CopyDecimal x = IsFieldOf decimal Copy x
 Says DeltaDecimal x = IsFieldOf decimal Delta x
+Says DefaultParts x = IsPartsOf Default x
+Says CopyParts x = IsPartsOf Copy x
 Says Other x = Unit {0}

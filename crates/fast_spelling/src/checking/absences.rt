@@ -1,26 +1,26 @@
-//! Absent fields, by operator, checked as they are written.
+//! Absent fields, groups and sequences, checked as they are written.
 
-ghost use Rattle.std.specs.Prelude.{None, ◌≡◌, ◌<◌, length, OnOk};
+ghost use Rattle.std.specs.Prelude.{None, Some, ◌≡◌, ◌<◌, length, slice_get, OnOk};
+ghost use Rattle.fast_tree.specs.declared.instructions.Node.{Node};
 ghost use Rattle.fast_template.specs.meaning.Flat.{nodes_of};
 ghost use Rattle.fast_spelling.specs.meaning.Encoding.{Encodes};
+ghost use Rattle.fast_spelling.specs.declared.forms.Absence.TheVariants.{ByEntry};
 ghost use Rattle.fast_spelling.specs.device.Fields.{Wrote};
-ghost use Rattle.fast_spelling.specs.device.Forms.{IsFieldAt};
+ghost use Rattle.fast_spelling.specs.device.Forms.{step_of};
 ghost use Rattle.fast_spelling.specs.device.Nodes.{instruction_in, IsReady, Keeps};
 ghost use Rattle.fast_spelling.specs.meaning.Suiting.{Suits};
-ghost use Rattle.fast_tree.specs.declared.operators.Operator.TheVariants.{None as no_operator, Default, Copy, Delta};
 
-use super::nodes::{form_at, known_at};
 use crate::faults::EncodeFault;
-use crate::forms::Form;
+use crate::forms::Absence;
+use crate::integers::push_byte;
+use crate::items::NULL;
 use crate::parts::write_absent;
 use crate::plan::{Plan, Work};
-use crate::quick::{write_no_copy, write_no_default, write_no_delta, write_no_plain};
 use crate::suiting::may_be_absent;
-use fast_template::Operator;
-use fast_value::Kind;
+use fast_dict::Previous;
 
-/// Writes the absence of a node's field, group or sequence.
-#[inline(always)]
+/// Writes the absence of a node's field, group or sequence. Not marked to be inlined: the compiler does so late, after the arms of present
+/// values each go their own way.
 pub fn try_none(plan: &Plan<'_>, node: u32, work: &mut Work) -> Result<(), EncodeFault>
     requires node { node < length (nodes_of plan.now.templates.now) }
     requires ready { IsReady plan.now.templates.now plan.now.limits work.old.ledger }
@@ -31,47 +31,24 @@ pub fn try_none(plan: &Plan<'_>, node: u32, work: &mut Work) -> Result<(), Encod
     ensures keeps { Keeps work.old.ledger work.new.ledger }
     ensures room { work.new.room ≡ work.old.room }
 {
-    match form_at(plan, node) {
-        Form::CopyUInt32 => try_no_copy(plan, node, Kind::UInt32, work),
-        Form::CopyInt32 => try_no_copy(plan, node, Kind::Int32, work),
-        Form::CopyUInt64 => try_no_copy(plan, node, Kind::UInt64, work),
-        Form::CopyInt64 => try_no_copy(plan, node, Kind::Int64, work),
-        Form::CopyAscii => try_no_copy(plan, node, Kind::Ascii, work),
-        Form::DefaultUInt32 => try_no_default(plan, node, Kind::UInt32, work),
-        Form::DefaultInt32 => try_no_default(plan, node, Kind::Int32, work),
-        Form::DefaultUInt64 => try_no_default(plan, node, Kind::UInt64, work),
-        Form::DefaultInt64 => try_no_default(plan, node, Kind::Int64, work),
-        Form::DefaultAscii => try_no_default(plan, node, Kind::Ascii, work),
-        Form::PlainUInt32 => try_no_plain(plan, node, Kind::UInt32, work),
-        Form::PlainInt32 => try_no_plain(plan, node, Kind::Int32, work),
-        Form::PlainUInt64 => try_no_plain(plan, node, Kind::UInt64, work),
-        Form::PlainInt64 => try_no_plain(plan, node, Kind::Int64, work),
-        Form::PlainAscii => try_no_plain(plan, node, Kind::Ascii, work),
-        Form::PlainUnicode => try_no_plain(plan, node, Kind::Unicode, work),
-        Form::PlainBytes => try_no_plain(plan, node, Kind::Bytes, work),
-        Form::PlainDecimal => try_no_plain(plan, node, Kind::Decimal, work),
-        Form::DeltaUInt32 => try_no_delta(plan, node, Kind::UInt32, work),
-        Form::DeltaInt32 => try_no_delta(plan, node, Kind::Int32, work),
-        Form::DeltaUInt64 => try_no_delta(plan, node, Kind::UInt64, work),
-        Form::DeltaInt64 => try_no_delta(plan, node, Kind::Int64, work),
-        Form::DeltaAscii => try_no_delta(plan, node, Kind::Ascii, work),
-        Form::DeltaUnicode => try_no_delta(plan, node, Kind::Unicode, work),
-        Form::DeltaDecimal => try_no_delta(plan, node, Kind::Decimal, work),
-        _ => try_absence(plan, node, work),
+    let step = plan.steps[node as usize];
+    match step.absence {
+        Absence::Refused => Err(EncodeFault::E2),
+        Absence::Null => Ok(push_byte(&mut work.draft.bytes, NULL)?),
+        Absence::Clear => Ok(work.draft.push_bit(false)?),
+        Absence::ByEntry => try_by_entry(plan, node, step.entry, work),
+        Absence::Chosen => try_absence(plan, node, work),
     }
 }
 
-/// Writes the absence of a node that is a field of this type, under default.
+/// Writes an absence for which the entry of the node's head decides: if that is empty, nothing is sent, and NULL if it holds a value, after
+/// which it is empty.
 #[inline(always)]
-fn try_no_default(
-    plan: &Plan<'_>,
-    node: u32,
-    kind: Kind,
-    work: &mut Work,
-) -> Result<(), EncodeFault>
+fn try_by_entry(plan: &Plan<'_>, node: u32, entry: u32, work: &mut Work) -> Result<(), EncodeFault>
     requires node { node < length (nodes_of plan.now.templates.now) }
-    requires form { IsFieldAt (nodes_of plan.now.templates.now) node kind Default }
     requires ready { IsReady plan.now.templates.now plan.now.limits work.old.ledger }
+    requires by_entry { (x : Node) × (slice_get (nodes_of plan.now.templates.now) node ≡ Some x)
+        × ((step_of x.shape).absence ≡ ByEntry) × ((step_of x.shape).entry ≡ entry) }
     ensures suits { OnOk result (Suits (instruction_in (nodes_of plan.now.templates.now) node) None) }
     ensures ok { OnOk result
         (Wrote (Encodes plan.now.limits (instruction_in (nodes_of plan.now.templates.now) node) work.old.ledger.now
@@ -79,74 +56,19 @@ fn try_no_default(
     ensures keeps { Keeps work.old.ledger work.new.ledger }
     ensures room { work.new.room ≡ work.old.room }
 {
-    let at = known_at(plan, node, kind, Operator::Default);
-    if !at.nullable {
-        return Err(EncodeFault::E2);
+    match work.ledger.get(entry as usize) {
+        Previous::Empty => Ok(work.draft.push_bit(false)?),
+        Previous::Assigned(_, _) => {
+            work.draft.push_bit(true)?;
+            push_byte(&mut work.draft.bytes, NULL)?;
+            work.ledger.set_empty(entry as usize);
+            Ok(())
+        }
+        Previous::Undefined => try_absence(plan, node, work),
     }
-    write_no_default(&mut work.draft, &mut work.ledger, at)
 }
 
-/// Writes the absence of a node that is a field of this type, under copy.
-#[inline(always)]
-fn try_no_copy(plan: &Plan<'_>, node: u32, kind: Kind, work: &mut Work) -> Result<(), EncodeFault>
-    requires node { node < length (nodes_of plan.now.templates.now) }
-    requires form { IsFieldAt (nodes_of plan.now.templates.now) node kind Copy }
-    requires ready { IsReady plan.now.templates.now plan.now.limits work.old.ledger }
-    ensures suits { OnOk result (Suits (instruction_in (nodes_of plan.now.templates.now) node) None) }
-    ensures ok { OnOk result
-        (Wrote (Encodes plan.now.limits (instruction_in (nodes_of plan.now.templates.now) node) work.old.ledger.now
-        None) work.old.draft work.new.draft work.new.ledger.now) }
-    ensures keeps { Keeps work.old.ledger work.new.ledger }
-    ensures room { work.new.room ≡ work.old.room }
-{
-    let at = known_at(plan, node, kind, Operator::Copy);
-    if !at.nullable {
-        return Err(EncodeFault::E2);
-    }
-    write_no_copy(&mut work.draft, &mut work.ledger, at)
-}
-
-/// Writes the absence of a node that is a field of this type, without operator.
-#[inline(always)]
-fn try_no_plain(plan: &Plan<'_>, node: u32, kind: Kind, work: &mut Work) -> Result<(), EncodeFault>
-    requires node { node < length (nodes_of plan.now.templates.now) }
-    requires form { IsFieldAt (nodes_of plan.now.templates.now) node kind no_operator }
-    requires ready { IsReady plan.now.templates.now plan.now.limits work.old.ledger }
-    ensures suits { OnOk result (Suits (instruction_in (nodes_of plan.now.templates.now) node) None) }
-    ensures ok { OnOk result
-        (Wrote (Encodes plan.now.limits (instruction_in (nodes_of plan.now.templates.now) node) work.old.ledger.now
-        None) work.old.draft work.new.draft work.new.ledger.now) }
-    ensures keeps { Keeps work.old.ledger work.new.ledger }
-    ensures room { work.new.room ≡ work.old.room }
-{
-    let at = known_at(plan, node, kind, Operator::None);
-    if !at.nullable {
-        return Err(EncodeFault::E2);
-    }
-    write_no_plain(&mut work.draft, &mut work.ledger, at)
-}
-
-/// Writes the absence of a node that is a field of this type, under delta.
-#[inline(always)]
-fn try_no_delta(plan: &Plan<'_>, node: u32, kind: Kind, work: &mut Work) -> Result<(), EncodeFault>
-    requires node { node < length (nodes_of plan.now.templates.now) }
-    requires form { IsFieldAt (nodes_of plan.now.templates.now) node kind Delta }
-    requires ready { IsReady plan.now.templates.now plan.now.limits work.old.ledger }
-    ensures suits { OnOk result (Suits (instruction_in (nodes_of plan.now.templates.now) node) None) }
-    ensures ok { OnOk result
-        (Wrote (Encodes plan.now.limits (instruction_in (nodes_of plan.now.templates.now) node) work.old.ledger.now
-        None) work.old.draft work.new.draft work.new.ledger.now) }
-    ensures keeps { Keeps work.old.ledger work.new.ledger }
-    ensures room { work.new.room ≡ work.old.room }
-{
-    let at = known_at(plan, node, kind, Operator::Delta);
-    if !at.nullable {
-        return Err(EncodeFault::E2);
-    }
-    write_no_delta(&mut work.draft, &mut work.ledger, at)
-}
-
-/// Writes the absence of any other node.
+/// Writes the absence of any node, by the rule that chooses what is sent.
 #[inline(never)]
 fn try_absence(plan: &Plan<'_>, node: u32, work: &mut Work) -> Result<(), EncodeFault>
     requires node { node < length (nodes_of plan.now.templates.now) }

@@ -5,7 +5,7 @@ ghost use Rattle.fast_value.specs.meaning.Messages.{one};
 ghost use Rattle.fast_template.specs.meaning.Flat.{nodes_of};
 ghost use Rattle.fast_spelling.specs.meaning.Encoding.{Encodes};
 ghost use Rattle.fast_spelling.specs.device.Fields.{Wrote};
-ghost use Rattle.fast_spelling.specs.device.Forms.{IsFieldAt};
+ghost use Rattle.fast_spelling.specs.device.Forms.{IsFieldAt, IsPartsAt};
 ghost use Rattle.fast_spelling.specs.device.Usual.{IsOfNumbers};
 ghost use Rattle.fast_spelling.specs.device.Nodes.{instruction_in, IsReady, Keeps};
 ghost use Rattle.fast_spelling.specs.meaning.Suiting.{Suits};
@@ -13,8 +13,8 @@ ghost use Rattle.fast_tree.specs.declared.operators.Operator.TheVariants.{None a
 ghost use Rattle.fast_value.specs.meaning.Kinds.{text_of};
 ghost use Rattle.fast_value.specs.meaning.Values.{value_data};
 
-use super::nodes::{field_at, known_at, note_field};
-use super::values::{may_be, right_number, right_unsigned, right_value};
+use super::nodes::{field_at, known_at};
+use super::values::{may_be, right_decimal, right_number, right_unsigned, right_value};
 use crate::faults::EncodeFault;
 use crate::fields::write_field;
 use crate::integers::write_unsigned_as;
@@ -48,7 +48,6 @@ pub fn try_plain_unsigned(
     ensures keeps { Keeps work.old.ledger work.new.ledger }
     ensures room { work.new.room ≡ work.old.room }
 {
-    note_field(plan, node, kind, Operator::None);
     let Some(Scalar::U(number)) = right_unsigned(kind, value) else {
         return Err(EncodeFault::E2);
     };
@@ -288,6 +287,43 @@ pub fn try_chosen(
     choose_value(&mut work.draft, &mut work.ledger, field, scalar)
 }
 
+/// Writes a decimal by parts: an exponent under default or copy, and a mantissa under delta.
+#[inline(always)]
+pub fn try_parts(
+    plan: &Plan<'_>,
+    node: u32,
+    operator: Operator,
+    value: &Value,
+    work: &mut Work,
+) -> Result<(), EncodeFault>
+    requires node { node < length (nodes_of plan.now.templates.now) }
+    requires form { IsPartsAt (nodes_of plan.now.templates.now) node operator }
+    requires ready { IsReady plan.now.templates.now plan.now.limits work.old.ledger }
+    ensures suits { OnOk result
+        (Suits (instruction_in (nodes_of plan.now.templates.now) node) (Some (one (value_data value.now)))) }
+    ensures fits { OnOk result (length (text_of (value_data value.now)) ≤ plan.now.limits.max_text) }
+    ensures ok { OnOk result
+        (Wrote (Encodes plan.now.limits (instruction_in (nodes_of plan.now.templates.now) node) work.old.ledger.now
+        (Some (one (value_data value.now)))) work.old.draft work.new.draft work.new.ledger.now) }
+    ensures keeps { Keeps work.old.ledger work.new.ledger }
+    ensures room { work.new.room ≡ work.old.room }
+{
+    let Some(_) = right_decimal(value) else {
+        return Err(EncodeFault::E2);
+    };
+    match &plan.templates.node(node).shape {
+        Shape::Decimal { exponent, mantissa } => write_decimal(
+            exponent,
+            mantissa,
+            (operator, Operator::Delta),
+            value,
+            &mut work.draft,
+            &mut work.ledger,
+        ),
+        Shape::Field(_) | Shape::Group { .. } | Shape::Sequence { .. } => unreachable!(),
+    }
+}
+
 /// Writes a value of any other node.
 #[inline(never)]
 pub fn try_other(
@@ -320,7 +356,15 @@ pub fn try_other(
             if !may_be(plan.limits, Kind::Decimal, value) {
                 return Err(EncodeFault::E2);
             }
-            write_decimal(exponent, mantissa, value, &mut work.draft, &mut work.ledger)?;
+            let operators = (exponent.operator, mantissa.operator);
+            write_decimal(
+                exponent,
+                mantissa,
+                operators,
+                value,
+                &mut work.draft,
+                &mut work.ledger,
+            )?;
             Ok(())
         }
         Shape::Group { .. } | Shape::Sequence { .. } => Err(EncodeFault::E2),

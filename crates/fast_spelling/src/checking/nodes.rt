@@ -4,8 +4,7 @@ ghost use Rattle.std.specs.Prelude.{slice_get, ℕ, ◌≡◌, ◌<◌, length, 
 ghost use Rattle.fast_template.specs.meaning.Flat.{field_data, nodes_of, tree_of};
 ghost use Rattle.fast_spelling.specs.device.Places.{field_there};
 ghost use Rattle.fast_spelling.specs.device.Forms.{Says, IsFieldAt};
-ghost use Rattle.fast_spelling.specs.device.Nodes.{instruction_in, IsThatField};
-ghost use Rattle.fast_tree.specs.declared.instructions.FieldInstruction.{FieldInstruction};
+ghost use Rattle.fast_spelling.specs.device.Nodes.{instruction_in};
 ghost use Rattle.fast_tree.specs.declared.instructions.Node.{Node};
 ghost use Rattle.fast_tree.specs.declared.instructions.Shape.TheVariants.{Field};
 ghost use Rattle.fast_tree.specs.meaning.Usable.{IsUsable};
@@ -54,21 +53,10 @@ pub fn field_at<'t>(
     }
 }
 
-/// Notes, for the proof alone, that the node is a field of this type and operator. Has no other effect.
-#[inline(always)]
-pub fn note_field(plan: &Plan<'_>, node: u32, kind: Kind, operator: Operator)
-    requires node { node < length (nodes_of plan.now.templates.now) }
-    requires form { IsFieldAt (nodes_of plan.now.templates.now) node kind operator }
-    ensures there { (f : FieldInstruction) × IsThatField plan.now.templates.now node kind operator f }
-{
-    let _ = (kind, operator);
-    plan.templates.node(node);
-}
-
 /// Returns the field of a node, which must be one, with its type, its nullability and its entry taken from the node's step: the node is not
 /// read.
 #[inline(always)]
-pub fn known_at<'t>(plan: &Plan<'t>, node: u32, kind: Kind, operator: Operator) -> Known<'t>
+pub fn known_at<'t>(plan: &'t Plan<'t>, node: u32, kind: Kind, operator: Operator) -> Known<'t>
     requires node { node < length (nodes_of plan.now.templates.now) }
     requires form { IsFieldAt (nodes_of plan.now.templates.now) node kind operator }
     ensures kind { (field_there result.place).kind ≡ kind }
@@ -81,7 +69,7 @@ pub fn known_at<'t>(plan: &Plan<'t>, node: u32, kind: Kind, operator: Operator) 
 {
     let step = plan.steps[node as usize];
     Known {
-        place: Place::Node(&plan.templates.node(node).shape),
+        place: Place::Node(plan, node),
         kind,
         nullable: step.nullable,
         entry: if keeps(operator) {

@@ -65,7 +65,7 @@ fn right_signed(kind: Kind, value: &Value) -> Option<Scalar<'static>>
 
 /// Returns the value if it is a decimal; else `None`.
 #[inline(always)]
-fn right_decimal(value: &Value) -> Option<Scalar<'static>>
+pub fn right_decimal(value: &Value) -> Option<Scalar<'static>>
     ensures value { IfSome result (λ v. scalar_data v ≡ value_data value.now) }
     ensures right { IsSome result → IsRight Decimal (value_data value.now) }
     ensures short { IsSome result → text_of (value_data value.now) ≡ [] }

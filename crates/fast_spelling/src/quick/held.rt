@@ -21,12 +21,27 @@ use fast_value::{Kind, Scalar, Value};
 pub fn is_initial(at: Known<'_>, value: Scalar<'_>) -> bool
     ensures { IsTrue result ↔ ((field_data (field_there at.entry.place)).initial ≡ Some (scalar_data value.entry)) }
 {
-    match (&at.field().initial, value) {
-        (Some(Value::U(initial)), Scalar::U(number)) => *initial == number,
-        (Some(Value::I(initial)), Scalar::I(number)) => *initial == number,
-        (Some(Value::Ascii(initial)), Scalar::Ascii(text)) => is_same_text(initial, text),
-        (Some(initial), _) => is_same(initial.as_scalar(), value),
-        (None, _) => false,
+    let Some(initial) = &at.field().initial else {
+        return false;
+    };
+    match (initial, value) {
+        (Value::U(initial), Scalar::U(number)) => *initial == number,
+        (Value::I(initial), Scalar::I(number)) => *initial == number,
+        (Value::Ascii(initial), Scalar::Ascii(text)) => is_same_text(initial, text),
+        (initial, _) => is_same(initial.as_scalar(), value),
+    }
+}
+
+/// Returns whether the field's entry holds this integer, which a field of its type assigned.
+#[inline(always)]
+pub fn is_held(ledger: &Ledger, at: Known<'_>, value: Scalar<'_>) -> bool
+    requires { IsServed ledger.now (field_data (field_there at.place)) }
+    ensures { IsTrue result → previous_at (field_data (field_there at.entry.place)).entry ledger.now.now
+        ≡ assigned (field_data (field_there at.entry.place)).kind (scalar_data value.entry) }
+{
+    match held_number_in(ledger, at, value) {
+        Some(held) => is_same(held, value),
+        None => false,
     }
 }
 

@@ -50,7 +50,8 @@ use Rattle.fast_spelling.proofs.checking.+check.Goals.{try_body-in-PlainAscii, t
 use Rattle.fast_spelling.proofs.checking.+check.Goals.{try_body-in-CopyAscii, try_body-in-TailAscii, try_body-in-DeltaAscii}
 use Rattle.fast_spelling.proofs.checking.+check.Goals.{try_body-in-PlainUnicode, try_body-in-DeltaUnicode, try_body-in-PlainBytes}
 use Rattle.fast_spelling.proofs.checking.+check.Goals.{try_body-in-TailBytes, try_body-in-PlainDecimal, try_body-in-CopyDecimal}
-use Rattle.fast_spelling.proofs.checking.+check.Goals.{try_body-in-DeltaDecimal, try_body-in-Other}
+use Rattle.fast_spelling.proofs.checking.+check.Goals.{try_body-in-DeltaDecimal, try_body-in-DefaultParts, try_body-in-CopyParts}
+use Rattle.fast_spelling.proofs.checking.+check.Goals.{try_body-in-Other}
 
 pub try_body-loop-i-init : goal.try_body-loop-i-init
 try_body-loop-i-init t c =
@@ -560,6 +561,26 @@ try_body-try_chosen-done-requires-in-DeltaDecimal-clause-form t c = c.in-DeltaDe
 pub try_body-try_chosen-done-requires-in-DeltaDecimal-clause-ready : goal.try_body-try_chosen-done-requires-in-DeltaDecimal-clause-ready
 try_body-try_chosen-done-requires-in-DeltaDecimal-clause-ready t c = c.loop-i.invariant.ready
 
+pub try_body-try_parts-done-requires-clause-node : goal.try_body-try_parts-done-requires-clause-node
+try_body-try_parts-done-requires-clause-node t c =
+    c.requires.nodes c.loop-i.i (omega (arith, c.if-not-has_slot_for_each.ensures.0 refl, c.loop-i-test.true))
+
+pub try_body-try_parts-done-requires-clause-form : goal.try_body-try_parts-done-requires-clause-form
+try_body-try_parts-done-requires-clause-form t c = c.in-DefaultParts.ensures
+
+pub try_body-try_parts-done-requires-clause-ready : goal.try_body-try_parts-done-requires-clause-ready
+try_body-try_parts-done-requires-clause-ready t c = c.loop-i.invariant.ready
+
+pub try_body-try_parts-done-requires-in-CopyParts-clause-node : goal.try_body-try_parts-done-requires-in-CopyParts-clause-node
+try_body-try_parts-done-requires-in-CopyParts-clause-node t c =
+    c.requires.nodes c.loop-i.i (omega (arith, c.if-not-has_slot_for_each.ensures.0 refl, c.loop-i-test.true))
+
+pub try_body-try_parts-done-requires-in-CopyParts-clause-form : goal.try_body-try_parts-done-requires-in-CopyParts-clause-form
+try_body-try_parts-done-requires-in-CopyParts-clause-form t c = c.in-CopyParts.ensures
+
+pub try_body-try_parts-done-requires-in-CopyParts-clause-ready : goal.try_body-try_parts-done-requires-in-CopyParts-clause-ready
+try_body-try_parts-done-requires-in-CopyParts-clause-ready t c = c.loop-i.invariant.ready
+
 pub try_body-try_other-done-requires-clause-node : goal.try_body-try_other-done-requires-clause-node
 try_body-try_other-done-requires-clause-node t c = c.requires.nodes c.loop-i.i (omega (arith, c.if-not-has_slot_for_each.ensures.0 refl, c.loop-i-test.true))
 
@@ -863,6 +884,22 @@ try_body-returns-then-is_err-2-clause-keeps t c =
             ok = w.try_chosen-done-in-DeltaDecimal.ensures.ok;
             keeps = w.try_chosen-done-in-DeltaDecimal.ensures.keeps;
             room = w.try_chosen-done-in-DeltaDecimal.ensures.room;
+          })
+      | try_body-in-DefaultParts w ↦ moved l here old v w.try_parts-done.new.work new
+          w.try_parts-done.result done w.work-is w.done-is (record {
+            suits = w.try_parts-done.ensures.suits;
+            fits = w.try_parts-done.ensures.fits;
+            ok = w.try_parts-done.ensures.ok;
+            keeps = w.try_parts-done.ensures.keeps;
+            room = w.try_parts-done.ensures.room;
+          })
+      | try_body-in-CopyParts w ↦ moved l here old v w.try_parts-done-in-CopyParts.new.work new
+          w.try_parts-done-in-CopyParts.result done w.work-is w.done-is (record {
+            suits = w.try_parts-done-in-CopyParts.ensures.suits;
+            fits = w.try_parts-done-in-CopyParts.ensures.fits;
+            ok = w.try_parts-done-in-CopyParts.ensures.ok;
+            keeps = w.try_parts-done-in-CopyParts.ensures.keeps;
+            room = w.try_parts-done-in-CopyParts.ensures.room;
           })
       | try_body-in-Other w ↦ moved l here old v w.try_other-done.new.work new w.try_other-done.result done w.work-is w.done-is (record {
         suits = w.try_other-done.ensures.suits;
@@ -1175,6 +1212,22 @@ try_body-loop-i-preserved t c =
             ok = w.try_chosen-done-in-DeltaDecimal.ensures.ok;
             keeps = w.try_chosen-done-in-DeltaDecimal.ensures.keeps;
             room = w.try_chosen-done-in-DeltaDecimal.ensures.room;
+          })
+      | try_body-in-DefaultParts w ↦ moved l here old v w.try_parts-done.new.work new
+          w.try_parts-done.result done w.work-is w.done-is (record {
+            suits = w.try_parts-done.ensures.suits;
+            fits = w.try_parts-done.ensures.fits;
+            ok = w.try_parts-done.ensures.ok;
+            keeps = w.try_parts-done.ensures.keeps;
+            room = w.try_parts-done.ensures.room;
+          })
+      | try_body-in-CopyParts w ↦ moved l here old v w.try_parts-done-in-CopyParts.new.work new
+          w.try_parts-done-in-CopyParts.result done w.work-is w.done-is (record {
+            suits = w.try_parts-done-in-CopyParts.ensures.suits;
+            fits = w.try_parts-done-in-CopyParts.ensures.fits;
+            ok = w.try_parts-done-in-CopyParts.ensures.ok;
+            keeps = w.try_parts-done-in-CopyParts.ensures.keeps;
+            room = w.try_parts-done-in-CopyParts.ensures.room;
           })
       | try_body-in-Other w ↦ moved l here old v w.try_other-done.new.work new w.try_other-done.result done w.work-is w.done-is (record {
         suits = w.try_other-done.ensures.suits;

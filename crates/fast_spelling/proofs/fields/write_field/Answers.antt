@@ -21,6 +21,6 @@ returns-in-Some-clause-err c = told c.write_present.result c.write_present.ensur
     subst (λ (v : Option ScalarData). RefusesField (field_data c.args.field.now) c.args.ledger.now.now v f) (sym (ap (option_map scalar_data) c.in-Some.is)) h)
 
 pub returns-in-None-clause-ok : goal.returns-in-None-clause-ok
-returns-in-None-clause-ok c = on_ok c.write_none.result c.write_none.ensures.ok (λ k l same.
+returns-in-None-clause-ok c = on_ok c.write_chosen.result c.write_chosen.ensures.ok (λ k l same.
     subst (λ (v : Option ScalarData). Wrote (EncodesField l (field_data c.args.field.now) c.args.ledger.now.now v) c.args.draft.now
-    c.write_none.new.draft c.write_none.new.ledger.now) (sym (ap (option_map scalar_data) c.in-None.is)) (k l same))
+    c.write_chosen.new.draft c.write_chosen.new.ledger.now) (sym (ap (option_map scalar_data) c.in-None.is)) (k l same))

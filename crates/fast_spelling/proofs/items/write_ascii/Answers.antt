@@ -25,7 +25,7 @@ returns-clause-ok c =
     let i = c.len-last.result - 1 in
     let some : length t ≡ suc n = some_left t c.if-is_empty.ensures in
     let other : get_or t 0 0 ≢ 0 = omega arith in
-    let whole = c.in_ok-extend_from_slice-3.ensures.items in
+    let whole = c.in_ok-extend_from_slice-2.ensures.items in
     let all : length c.extend_from_slice-2.new.self.items ≡ length old + length t = ap length whole ∙ length-append old t in
     let long : c.len-last.result ≡ length c.extend_from_slice-2.new.self.items = c.len-last.ensures ∙ c.extend_from_slice-2.new.self.ok.0 in
     let place : i ≡ length old + n = omega (arith, long, all, some) in (
@@ -46,12 +46,6 @@ branch-extend_from_slice-requires c κs = (λ a m. absurd (not-mem-nil m), λ a 
 pub from_residual-requires : goal.from_residual-requires
 from_residual-requires c κs = (λ a m. absurd (not-mem-nil m), (λ a m. absurd (not-mem-nil m), λ a m. absurd (not-mem-nil m)))
 
-pub extend_from_slice-requires-else-nullable : goal.extend_from_slice-requires-else-nullable
-extend_from_slice-requires-else-nullable c κs = (λ a m. absurd (not-mem-nil m), λ a m. absurd (not-mem-nil m))
-
-pub branch-extend_from_slice-requires-else-nullable : goal.branch-extend_from_slice-requires-else-nullable
-branch-extend_from_slice-requires-else-nullable c κs = (λ a m. absurd (not-mem-nil m), λ a m. absurd (not-mem-nil m))
-
 pub from_residual-requires-in_err-extend_from_slice-2 : goal.from_residual-requires-in_err-extend_from_slice-2
 from_residual-requires-in_err-extend_from_slice-2 c κs = (λ a m. absurd (not-mem-nil m), (λ a m. absurd (not-mem-nil m), λ a m. absurd (not-mem-nil m)))
 
@@ -60,9 +54,6 @@ extend_from_slice-requires-2 c κs = (λ a m. absurd (not-mem-nil m), λ a m. ab
 
 pub branch-extend_from_slice-requires-2 : goal.branch-extend_from_slice-requires-2
 branch-extend_from_slice-requires-2 c κs = (λ a m. absurd (not-mem-nil m), λ a m. absurd (not-mem-nil m))
-
-pub from_residual-requires-in_err-extend_from_slice-3 : goal.from_residual-requires-in_err-extend_from_slice-3
-from_residual-requires-in_err-extend_from_slice-3 c κs = (λ a m. absurd (not-mem-nil m), (λ a m. absurd (not-mem-nil m), λ a m. absurd (not-mem-nil m)))
 
 pub len-last-requires : goal.len-last-requires
 len-last-requires c κs = (λ a m. absurd (not-mem-nil m), λ a m. absurd (not-mem-nil m))

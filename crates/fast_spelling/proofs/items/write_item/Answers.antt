@@ -79,12 +79,6 @@ pub write_text-requires : goal.write_text-requires
 write_text-requires c = subst (λ (k : Kind). IsSendablePart k c.in-TextDelta.part.now) c.args.at.same_kind
     (subst (λ (x : Sent). IsSendable (field_data (field_there c.args.at.place)) (sent_data x)) c.in-TextDelta.is c.requires).1
 
-pub extend_from_slice-requires : goal.extend_from_slice-requires
-extend_from_slice-requires c κs = (λ a m. absurd (not-mem-nil m), λ a m. absurd (not-mem-nil m))
-
-pub branch-extend_from_slice-requires : goal.branch-extend_from_slice-requires
-branch-extend_from_slice-requires c κs = (λ a m. absurd (not-mem-nil m), λ a m. absurd (not-mem-nil m))
-
 pub from_residual-requires : goal.from_residual-requires
 from_residual-requires c κs = (λ a m. absurd (not-mem-nil m), (λ a m. absurd (not-mem-nil m), λ a m. absurd (not-mem-nil m)))
 

@@ -1,5 +1,5 @@
 -- A mantissa is handed on, and the field with what is known of it.
-use Rattle.std.proofs.Common.{◌≡◌, ℤ, subst, to_z, of_z, sym, ℕ, FitsSigned}
+use Rattle.std.proofs.Common.{◌≡◌, ◌∙◌, ℤ, subst, to_z, of_z, sym, ℕ, FitsSigned}
 use Rattle.std.specs.Prelude.{Some}
 use Rattle.std.specs.Int.{w64}
 use Rattle.std.proofs.lemmas.Int.{to_z-of_z}
@@ -35,7 +35,7 @@ returns-in-Delta-clause-err c = told c.write_difference.result c.write_differenc
     (subst (λ (g : FieldInstruction). RefusesField (field_data g) c.args.ledger.now.now (Some (I (to_z w64 (of_z w64 c.args.number)))) f) c.of.ensures h))
 
 pub write_difference-requires-clause-operator : goal.write_difference-requires-clause-operator
-write_difference-requires-clause-operator c = subst (λ (g : FieldInstruction). g.operator ≡ Delta) (sym c.of.ensures) c.in-Delta.is
+write_difference-requires-clause-operator c = subst (λ (g : FieldInstruction). g.operator ≡ Delta) (sym c.of.ensures) (c.requires.operator ∙ c.in-Delta.is)
 
 pub write_difference-requires-clause-served : goal.write_difference-requires-clause-served
 write_difference-requires-clause-served c = subst (λ (g : FieldInstruction). IsServed c.args.ledger.now (field_data g)) (sym c.of.ensures) c.requires.served

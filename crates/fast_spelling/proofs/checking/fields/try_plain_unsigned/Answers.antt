@@ -1,17 +1,15 @@
 -- The integer is written as it is, and the dictionary is left as it was.
-use Rattle.std.proofs.Common.{◌≡◌, ◌<◌, ◌∙◌, ap, sym, refl, subst, arith, List, [], ◌∷◌, length}
-use Rattle.std.specs.Prelude.{Bool, true, false, pos, Option, Some, slice_get, if◌then◌else◌}
-use Rattle.std.proofs.lemmas.Option.{slice_get_read}
-use Rattle.std.proofs.lemmas.List.{append-nil, length-map}
+use Rattle.std.proofs.Common.{◌≡◌, ◌∙◌, ap, sym, refl, subst, arith, [], ◌∷◌, length}
+use Rattle.std.specs.Prelude.{Bool, true, false, pos, Option, Some, if◌then◌else◌}
+use Rattle.std.proofs.lemmas.List.{append-nil}
 use mathlib.Core.List.{not-mem-nil}
 use Rattle.fast_wire.specs.meaning.Shortest.{IsShortest}
 use Rattle.fast_value.specs.declared.kinds.Kind.{Kind}
 use Rattle.fast_value.specs.meaning.Kinds.{ScalarData, U, text_of}
 use Rattle.fast_value.specs.meaning.Messages.{ItemData, one}
 use Rattle.fast_value.specs.meaning.Values.{scalar_data, value_data}
-use Rattle.fast_tree.specs.declared.instructions.Node.{Node}
-use Rattle.fast_tree.specs.declared.instructions.Shape.TheVariants.{Field}
 use Rattle.fast_tree.specs.declared.operators.Operator.{Operator}
+use Rattle.fast_tree.specs.declared.operators.Operator.TheVariants.{None as no_operator}
 use Rattle.fast_tree.specs.meaning.Tree.{FieldData, Instruction, field, operator_uses_bit, uses_bit}
 use Rattle.fast_dict.specs.meaning.Dictionary.{PreviousData, previous_at, write_at}
 use Rattle.fast_dict.specs.meaning.Operators.{value}
@@ -19,18 +17,17 @@ use Rattle.fast_template.specs.meaning.Flat.{nodes_of, field_data}
 use Rattle.fast_spelling.specs.declared.forms.Step.{Step}
 use Rattle.fast_spelling.specs.device.Drafts.{SpellsItem}
 use Rattle.fast_spelling.specs.device.Fields.{IsSuited, next_by}
-use Rattle.fast_spelling.specs.device.Forms.{step_of, steps_of}
 use Rattle.fast_spelling.specs.device.Nodes.{instruction_in}
 use Rattle.fast_spelling.specs.meaning.Suiting.{IsRight, Suits}
 use Rattle.fast_spelling.proofs.encodings.Instructions.{encodes_as, field_encodes}
 use Rattle.fast_spelling.proofs.rules.FieldsWritten.{field_done}
-use Rattle.fast_spelling.proofs.rules.FormsTold.{step_is}
+use Rattle.fast_spelling.proofs.rules.Heads.{field_step}
 use Rattle.fast_spelling.proofs.rules.Usual.{plain_ruled, value_sendable, write_back}
 use Rattle.fast_spelling.proofs.checking.fields.try_plain_unsigned.Goals as goal
 
 pub returns-clause-suits : goal.returns-clause-suits
 returns-clause-suits c =
-    let h = c.note_field.ensures.there.1 in
+    let h = (field_step c.args.plan.now c.args.node c.args.kind no_operator c.index.result.now c.requires.node c.index.ensures c.requires.form).known in
     let v = value_data c.args.value.now in
     subst (λ (i : Instruction). Suits i (Some (one v))) (sym h.instruction.1)
     (subst (λ (k : Kind). IsRight k v) (sym h.of_kind) (c.in-Some-U.ensures.right refl))
@@ -38,23 +35,17 @@ returns-clause-suits c =
 pub returns-clause-ok : goal.returns-clause-ok
 returns-clause-ok c =
     let nodes = nodes_of c.args.plan.now.templates.now in
-    let steps = c.args.plan.now.steps.items in
     let step = c.index.result.now in
     let l = c.args.plan.now.limits in
     let d = c.args.work.now.ledger.now in
     let old = c.args.work.now.draft in
-    let i = c.note_field.ensures.there.0 in
-    let h = c.note_field.ensures.there.1 in
+    let there = field_step c.args.plan.now c.args.node c.args.kind no_operator c.index.result.now c.requires.node c.index.ensures c.requires.form in
+    let i = there.field in
+    let h = there.known in
     let f : FieldData = field_data i in
     let v = value_data c.args.value.now in
     let y : Option ItemData = Some (one v) in
-    let same : steps ≡ steps_of nodes = c.args.plan.now.steps_fit in
-    let long : length steps ≡ length nodes = ap length same ∙ length-map nodes (λ (n : Node). step_of n.shape) in
-    let inside : c.args.node < length steps = let low = c.requires.node in omega (arith, low, long) in
-    let read : slice_get steps c.args.node ≡ Some step = slice_get_read steps (length steps) c.args.node step refl inside c.index.ensures in
-    let of_node = step_is nodes c.args.node step (subst (λ (z : List Step). slice_get z c.args.node ≡ Some step) same read) in
-    let of_field : step_of (Field i) ≡ step = ap step_of (sym (h.shape of_node.0 of_node.1)) ∙ of_node.2 in
-    let nullable : f.optional ≡ step.nullable = ap (λ (s : Step). s.nullable) of_field in
+    let nullable : f.optional ≡ step.nullable = ap (λ (s : Step). s.nullable) there.step in
     let is : U c.in-Some-U.number ≡ v = sym (ap scalar_data c.in-Some-U.field-0-is) ∙ c.in-Some-U.ensures.value in
     let w = c.in_ok-write_unsigned_as.ensures in
     let spelled : SpellsItem f (value v) w.0 = subst (λ (z : ScalarData). SpellsItem f (value z) w.0) is
