@@ -252,7 +252,8 @@ pub enum Absence {
     Null,
     /// A clear presence bit: a group, or a field under default without initial value.
     Clear,
-    /// A clear presence bit if the entry is empty, and NULL if it holds a value, as under copy, increment and tail.
+    /// A clear presence bit if the entry is empty, and NULL if it holds a value, as under copy, increment and tail. If it is undefined, the
+    /// rule chooses.
     ByEntry,
     /// Any, by the rule that chooses what is sent.
     Chosen,

@@ -19,8 +19,7 @@ use crate::plan::{Plan, Work};
 use crate::suiting::may_be_absent;
 use fast_dict::Previous;
 
-/// Writes the absence of a node's field, group or sequence. Not marked to be inlined: the compiler does so late, after the arms of present
-/// values each go their own way.
+/// Writes the absence of a node's field, group or sequence.
 pub fn try_none(plan: &Plan<'_>, node: u32, work: &mut Work) -> Result<(), EncodeFault>
     requires node { node < length (nodes_of plan.now.templates.now) }
     requires ready { IsReady plan.now.templates.now plan.now.limits work.old.ledger }
@@ -42,7 +41,7 @@ pub fn try_none(plan: &Plan<'_>, node: u32, work: &mut Work) -> Result<(), Encod
 }
 
 /// Writes an absence for which the entry of the node's head decides: if that is empty, nothing is sent, and NULL if it holds a value, after
-/// which it is empty.
+/// which it is empty. If it is undefined, the rule chooses what is sent.
 #[inline(always)]
 fn try_by_entry(plan: &Plan<'_>, node: u32, entry: u32, work: &mut Work) -> Result<(), EncodeFault>
     requires node { node < length (nodes_of plan.now.templates.now) }
