@@ -1,6 +1,6 @@
-//! The presence bits of a segment that is being encoded.
+//! The presence bits of the segments that are being encoded.
 
-ghost use Rattle.std.specs.Prelude.{◌≡◌, ◌≤◌, ◌<◌, ◌^◌, ◌∷◌, ◌++◌, [], true, vec_len, IfSome, IfNone, OnOk, IfOk};
+ghost use Rattle.std.specs.Prelude.{◌≡◌, ◌≤◌, ◌<◌, ◌+◌, ◌^◌, ◌∷◌, ◌++◌, [], true, vec_len, length, take, drop, IfSome, IfNone, OnOk, IfOk};
 ghost use Rattle.fast_wire.specs.meaning.Maps.{bits, IsMap};
 ghost use Rattle.fast_spelling.specs.device.Presence.{bits_after, low_bits};
 ghost use Rattle.fast_spelling.specs.meaning.Encoding.{SameBits};
@@ -11,7 +11,8 @@ use fast_wire::{MAP_LIMIT, MapBuilder};
 use std::alloc::{AllocError, Global};
 use std::marker::Model;
 
-/// The presence bits of a segment. The latest of them, most often all, are in one word.
+/// The presence bits of all open segments, an outer segment's before those of the segments in it. The latest of them, most often all, are in
+/// one word.
 #[derive(Drop)]
 pub struct Bits {
     /// The latest bits, at most 63, after a bit that is set: the last one is the least significant.
@@ -78,47 +79,74 @@ impl Bits {
         Ok(())
     }
 
-    /// Returns the presence map if one byte is enough, and all bits are in the word.
+    /// Returns the number of bits.
     #[inline(always)]
-    pub fn as_byte(&self) -> Option<u8>
+    pub fn len(&self) -> usize
+        ensures { result ≡ length self.now }
+    {
+        self.more.len() + count_of(self.word)
+    }
+
+    /// Keeps the first `len` bits.
+    #[inline(always)]
+    pub fn truncate(&mut self, len: usize)
+        requires { len ≤ length self.old }
+        ensures { self.new ≡ take len self.old }
+    {
+        if len >= self.more.len() {
+            self.word = first_of(self.word, len - self.more.len());
+        } else {
+            self.more.truncate(len);
+            self.word = NO_BITS;
+        }
+    }
+
+    /// Returns the presence map of the bits from an index on, if one byte is enough, and these bits are all in the word.
+    #[inline(always)]
+    pub fn as_byte(&self, from: usize) -> Option<u8>
+        requires { from ≤ length self.now }
         ensures map { IfSome result (λ byte. IsMap true (byte ∷ [])) }
-        ensures bits { IfSome result (λ byte. SameBits (bits (byte ∷ [])) self.now) }
+        ensures bits { IfSome result (λ byte. SameBits (bits (byte ∷ [])) (drop from self.now)) }
     {
-        if !self.more.is_empty() {
+        if from < self.more.len() {
             return None;
         }
-        byte_of(self.word)
+        byte_of(self.word, from - self.more.len())
     }
 
-    /// Returns the presence map if two bytes are the shortest one, and all bits are in the word.
+    /// Returns the presence map of the bits from an index on, if two bytes are the shortest one, and these bits are all in the word.
     #[inline(always)]
-    pub fn as_pair(&self) -> Option<(u8, u8)>
+    pub fn as_pair(&self, from: usize) -> Option<(u8, u8)>
+        requires { from ≤ length self.now }
         ensures map { IfSome result (λ pair. IsMap true (pair.0 ∷ pair.1 ∷ [])) }
-        ensures bits { IfSome result (λ pair. SameBits (bits (pair.0 ∷ pair.1 ∷ [])) self.now) }
+        ensures bits { IfSome result (λ pair. SameBits (bits (pair.0 ∷ pair.1 ∷ [])) (drop from self.now)) }
     {
-        if !self.more.is_empty() {
+        if from < self.more.len() {
             return None;
         }
-        pair_of(self.word)
+        pair_of(self.word, from - self.more.len())
     }
 
-    /// Returns the shortest presence map, if there is one. It overwrites `scratch`, whose memory is kept from one map to the next.
+    /// Returns the shortest presence map of the bits from an index on, if there is one. It overwrites `scratch`, whose memory is kept from one
+    /// map to the next.
     ///
     /// # Errors
     ///
     /// An allocation failed.
     pub fn as_map(
         &self,
+        from: usize,
         scratch: &mut Vec<bool>,
     ) -> Result<Option<ArrayVec<u8, MAP_LIMIT>>, AllocError>
+        requires { from ≤ length self.now }
         ensures map { IfOk result (λ r. IfSome r (λ m. IsMap true m.items)) }
-        ensures bits { IfOk result (λ r. IfSome r (λ m. SameBits (bits m.items) self.now)) }
-        ensures none { IfOk result (λ r. IfNone r (HaveNoMap self.now)) }
+        ensures bits { IfOk result (λ r. IfSome r (λ m. SameBits (bits m.items) (drop from self.now))) }
+        ensures none { IfOk result (λ r. IfNone r (HaveNoMap (drop from self.now))) }
     {
         scratch.clear();
         scratch.extend_from_slice(&self.more)?;
         spill(self.word, scratch)?;
-        Ok(map_of(scratch))
+        Ok(map_of(&scratch[from..]))
     }
 }
 
@@ -136,6 +164,26 @@ fn with_bit(word: u64, bit: bool) -> u64
     word * 2
 }
 
+/// Returns the number of bits in the word.
+#[inline(always)]
+fn count_of(word: u64) -> usize
+    requires { 1 ≤ word }
+    ensures { result ≡ length (bits_after word) }
+{
+    63 - word.leading_zeros() as usize
+}
+
+/// Returns the word with its first `count` bits.
+#[inline(always)]
+fn first_of(word: u64, count: usize) -> u64
+    requires some { 1 ≤ word }
+    requires few { count ≤ length (bits_after word) }
+    ensures marked { 1 ≤ result }
+    ensures bits { bits_after result ≡ take count (bits_after word) }
+{
+    word >> (63 - (word.leading_zeros() as usize + count))
+}
+
 /// Appends the bits of the word to the vector.
 #[cold]
 fn spill(word: u64, more: &mut Vec<bool>) -> Result<(), AllocError>
@@ -149,41 +197,44 @@ fn spill(word: u64, more: &mut Vec<bool>) -> Result<(), AllocError>
     Ok(())
 }
 
-/// Returns the presence map of the bits of a word, if one byte is enough.
+/// Returns the presence map of the bits of a word from an index on, if one byte is enough.
 #[inline(always)]
-fn byte_of(word: u64) -> Option<u8>
-    requires { 1 ≤ word }
+fn byte_of(word: u64, from: usize) -> Option<u8>
+    requires some { 1 ≤ word }
+    requires few { from ≤ length (bits_after word) }
     ensures map { IfSome result (λ byte. IsMap true (byte ∷ [])) }
-    ensures bits { IfSome result (λ byte. SameBits (bits (byte ∷ [])) (bits_after word)) }
+    ensures bits { IfSome result (λ byte. SameBits (bits (byte ∷ [])) (drop from (bits_after word))) }
 {
-    let top = top_of(word);
+    let top = top_of(word, from);
     if top << 7 != 0 {
         return None;
     }
     Some((top >> 57) as u8 | 0x80)
 }
 
-/// Returns the presence map of the bits of a word, if two bytes are the shortest one.
+/// Returns the presence map of the bits of a word from an index on, if two bytes are the shortest one.
 #[inline(always)]
-fn pair_of(word: u64) -> Option<(u8, u8)>
-    requires { 1 ≤ word }
+fn pair_of(word: u64, from: usize) -> Option<(u8, u8)>
+    requires some { 1 ≤ word }
+    requires few { from ≤ length (bits_after word) }
     ensures map { IfSome result (λ pair. IsMap true (pair.0 ∷ pair.1 ∷ [])) }
-    ensures bits { IfSome result (λ pair. SameBits (bits (pair.0 ∷ pair.1 ∷ [])) (bits_after word)) }
+    ensures bits { IfSome result (λ pair. SameBits (bits (pair.0 ∷ pair.1 ∷ [])) (drop from (bits_after word))) }
 {
-    let top = top_of(word);
+    let top = top_of(word, from);
     if top << 7 == 0 || top << 14 != 0 {
         return None;
     }
     Some(((top >> 57) as u8, (top << 7 >> 57) as u8 | 0x80))
 }
 
-/// Returns the bits of a word from its most significant one on.
+/// Returns the bits of a word from an index on, from the most significant bit of the result on.
 #[inline(always)]
-fn top_of(word: u64) -> u64
-    requires { 1 ≤ word }
-    ensures { SameBits (low_bits 64 result) (bits_after word) }
+fn top_of(word: u64, from: usize) -> u64
+    requires some { 1 ≤ word }
+    requires few { from ≤ length (bits_after word) }
+    ensures { SameBits (low_bits 64 result) (drop from (bits_after word)) }
 {
-    (word << word.leading_zeros()) << 1
+    (word << (word.leading_zeros() as usize + from)) << 1
 }
 
 /// Returns the shortest presence map of the bits, if there is one.

@@ -1,6 +1,6 @@
 //! The draft of a message that is being encoded.
 
-ghost use Rattle.std.specs.Prelude.{◌≡◌, ◌≤◌, ◌∷◌, ◌++◌, [], true, if◌then◌else◌, take, drop, vec_len, ◌+◌, ◌<◌, IfSome, IfNone, IfOk, OnOk, IfErr};
+ghost use Rattle.std.specs.Prelude.{◌≡◌, ◌≤◌, ◌∷◌, ◌++◌, [], true, if◌then◌else◌, take, drop, vec_len, length, ◌+◌, ◌<◌, IfSome, IfNone, IfOk, OnOk, IfErr};
 ghost use Rattle.fast_spelling.specs.declared.faults.EncodeFault.TheVariants.{E3};
 ghost use Rattle.fast_spelling.specs.device.Drafts.{IsTold, Closes};
 ghost use Rattle.fast_spelling.specs.meaning.Refusals.{HaveNoMap};
@@ -8,28 +8,25 @@ ghost use Rattle.fast_spelling.specs.meaning.Refusals.{HaveNoMap};
 use crate::bits::Bits;
 use crate::faults::EncodeFault;
 use std::alloc::{AllocError, Global};
-use std::mem;
 
-/// The bytes of a message so far, and the presence bits of its innermost open segment.
+/// The bytes of a message so far, and the presence bits of its open segments.
 #[derive(Drop)]
 pub struct Draft {
     /// The bytes of all segments that are complete, without the presence maps of open segments.
     pub bytes: Vec<u8>,
-    /// The presence bits of the innermost open segment. Its [`Mark`] has those of the segment around it.
+    /// The presence bits of the open segments, the outermost one's first.
     pub bits: Bits,
     /// Memory in which bits are put in a row for a map of more than two bytes.
     scratch: Vec<bool>,
-    /// The allocator of new lists of bits.
-    alloc: Global,
 }
 
 /// The position in a draft at which a segment begins.
-#[derive(Drop)]
+#[derive(Clone, Copy)]
 pub struct Mark {
     /// The number of bytes before it.
     pub bytes: usize,
-    /// The presence bits of the segment around it.
-    pub bits: Bits,
+    /// The number of presence bits before it, of the segments around it.
+    pub bits: usize,
 }
 
 impl Draft {
@@ -42,7 +39,6 @@ impl Draft {
             bytes: Vec::new(alloc),
             bits: Bits::new(alloc),
             scratch: Vec::new(alloc),
-            alloc,
         }
     }
 
@@ -80,7 +76,12 @@ impl Draft {
         requires { 1 ≤ vec_len self.old.bytes }
         ensures { OnOk result (Closes true [] (drop 1 self.old.bytes.items) self.old.bits self.new.bytes.items) }
     {
-        put_kept_map(&mut self.bytes, 0, &self.bits, &mut self.scratch)
+        put_kept_map(
+            &mut self.bytes,
+            Mark { bytes: 0, bits: 0 },
+            &self.bits,
+            &mut self.scratch,
+        )
     }
 
     /// Begins a segment, and reserves a byte for its presence map if it has one.
@@ -90,10 +91,10 @@ impl Draft {
     /// An allocation failed.
     #[inline(always)]
     pub fn open(&mut self, has_map: bool) -> Result<Mark, AllocError>
-        ensures mark { IfOk result (λ m. (m.bytes ≡ vec_len self.old.bytes) × (m.bits ≡ self.old.bits)) }
+        ensures mark { IfOk result (λ m. (m.bytes ≡ vec_len self.old.bytes) × (m.bits ≡ length self.old.bits)) }
         ensures bytes { OnOk result
             (self.new.bytes.items ≡ self.old.bytes.items ++ (if has_map then 0 ∷ [] else [])) }
-        ensures bits { self.new.bits ≡ [] }
+        ensures bits { self.new.bits ≡ self.old.bits }
     {
         let mark = self.mark();
         if has_map {
@@ -110,16 +111,17 @@ impl Draft {
     #[inline(always)]
     pub fn seal(&mut self, mark: Mark, has_map: bool) -> Result<(), EncodeFault>
         requires bytes { mark.bytes + (if has_map then 1 else 0) ≤ vec_len self.old.bytes }
+        requires bits { mark.bits ≤ length self.old.bits }
         ensures ok { OnOk result
             (Closes has_map (take mark.bytes self.old.bytes.items)
             (drop (mark.bytes + (if has_map then 1 else 0)) self.old.bytes.items)
-            self.old.bits self.new.bytes.items) }
-        ensures bits { OnOk result (self.new.bits ≡ mark.bits) }
+            (drop mark.bits self.old.bits) self.new.bytes.items) }
+        ensures bits { OnOk result (self.new.bits ≡ take mark.bits self.old.bits) }
     {
         if has_map {
-            put_kept_map(&mut self.bytes, mark.bytes, &self.bits, &mut self.scratch)?;
+            put_kept_map(&mut self.bytes, mark, &self.bits, &mut self.scratch)?;
         }
-        self.bits = mark.bits;
+        self.bits.truncate(mark.bits);
         Ok(())
     }
 
@@ -152,16 +154,14 @@ impl Draft {
         Ok(())
     }
 
-    /// Begins a segment: returns its position, with the bits of the segment around it.
+    /// Returns the position of a segment that begins here.
     #[inline(always)]
-    pub fn mark(&mut self) -> Mark
-        ensures mark { (result.bytes ≡ vec_len self.old.bytes) × (result.bits ≡ self.old.bits) }
-        ensures bytes { self.new.bytes ≡ self.old.bytes }
-        ensures bits { self.new.bits ≡ [] }
+    pub fn mark(&self) -> Mark
+        ensures { (result.bytes ≡ vec_len self.now.bytes) × (result.bits ≡ length self.now.bits) }
     {
         Mark {
             bytes: self.bytes.len(),
-            bits: mem::replace(&mut self.bits, Bits::new(self.alloc)),
+            bits: self.bits.len(),
         }
     }
 
@@ -173,22 +173,23 @@ impl Draft {
     #[inline(always)]
     pub fn close(&mut self, mark: Mark, has_map: bool) -> Result<(), EncodeFault>
         requires bytes { mark.bytes ≤ vec_len self.old.bytes }
+        requires bits { mark.bits ≤ length self.old.bits }
         ensures ok { OnOk result
             (Closes has_map (take mark.bytes self.old.bytes.items) (drop mark.bytes self.old.bytes.items)
-            self.old.bits self.new.bytes.items) }
-        ensures bits { OnOk result (self.new.bits ≡ mark.bits) }
+            (drop mark.bits self.old.bits) self.new.bytes.items) }
+        ensures bits { OnOk result (self.new.bits ≡ take mark.bits self.old.bits) }
         ensures err { IfErr result
-            (IsTold (λ c. (c ≡ E3) × (has_map ≡ true) × HaveNoMap self.old.bits)) }
+            (IsTold (λ c. (c ≡ E3) × (has_map ≡ true) × HaveNoMap (drop mark.bits self.old.bits))) }
     {
         if has_map {
-            put_map(&mut self.bytes, mark.bytes, &self.bits, &mut self.scratch)?;
+            put_map(&mut self.bytes, mark, &self.bits, &mut self.scratch)?;
         }
-        self.bits = mark.bits;
+        self.bits.truncate(mark.bits);
         Ok(())
     }
 }
 
-/// Inserts the shortest presence map of the bits at an offset (`place`).
+/// Inserts the shortest presence map of the bits after a mark at its position.
 ///
 /// # Errors
 ///
@@ -196,26 +197,28 @@ impl Draft {
 #[inline(always)]
 fn put_map(
     bytes: &mut Vec<u8>,
-    place: usize,
+    mark: Mark,
     presence: &Bits,
     scratch: &mut Vec<bool>,
 ) -> Result<(), EncodeFault>
-    requires { place ≤ vec_len bytes.old }
+    requires place { mark.bytes ≤ vec_len bytes.old }
+    requires bits { mark.bits ≤ length presence.now }
     ensures ok { OnOk result
-        (Closes true (take place bytes.old.items) (drop place bytes.old.items) presence.now bytes.new.items) }
-    ensures err { IfErr result (IsTold (λ c. (c ≡ E3) × HaveNoMap presence.now)) }
+        (Closes true (take mark.bytes bytes.old.items) (drop mark.bytes bytes.old.items) (drop mark.bits presence.now)
+        bytes.new.items) }
+    ensures err { IfErr result (IsTold (λ c. (c ≡ E3) × HaveNoMap (drop mark.bits presence.now))) }
 {
-    match presence.as_byte() {
-        Some(byte) => insert(bytes, place, &[byte])?,
-        None => match presence.as_map(scratch)? {
-            Some(map) => insert(bytes, place, map.as_slice())?,
+    match presence.as_byte(mark.bits) {
+        Some(byte) => insert(bytes, mark.bytes, &[byte])?,
+        None => match presence.as_map(mark.bits, scratch)? {
+            Some(map) => insert(bytes, mark.bytes, map.as_slice())?,
             None => return Err(EncodeFault::E3),
         },
     }
     Ok(())
 }
 
-/// Replaces the byte at an offset (`place`) by the shortest presence map of the bits.
+/// Replaces the byte at a mark by the shortest presence map of the bits after it.
 ///
 /// # Errors
 ///
@@ -223,59 +226,65 @@ fn put_map(
 #[inline(always)]
 fn put_kept_map(
     bytes: &mut Vec<u8>,
-    place: usize,
+    mark: Mark,
     presence: &Bits,
     scratch: &mut Vec<bool>,
 ) -> Result<(), EncodeFault>
-    requires { place < vec_len bytes.old }
+    requires place { mark.bytes < vec_len bytes.old }
+    requires bits { mark.bits ≤ length presence.now }
     ensures { OnOk result
-        (Closes true (take place bytes.old.items) (drop (place + 1) bytes.old.items) presence.now bytes.new.items) }
+        (Closes true (take mark.bytes bytes.old.items) (drop (mark.bytes + 1) bytes.old.items)
+        (drop mark.bits presence.now) bytes.new.items) }
 {
-    match presence.as_byte() {
+    match presence.as_byte(mark.bits) {
         Some(byte) => {
-            bytes[place] = byte;
+            bytes[mark.bytes] = byte;
             Ok(())
         }
-        None => put_wide_map(bytes, place, presence, scratch),
+        None => put_wide_map(bytes, mark, presence, scratch),
     }
 }
 
-/// Replaces the byte at an offset (`place`) by the shortest presence map of the bits, which usually has two bytes.
+/// Replaces the byte at a mark by the shortest presence map of the bits after it, which usually has two bytes.
 fn put_wide_map(
     bytes: &mut Vec<u8>,
-    place: usize,
+    mark: Mark,
     presence: &Bits,
     scratch: &mut Vec<bool>,
 ) -> Result<(), EncodeFault>
-    requires { place < vec_len bytes.old }
+    requires place { mark.bytes < vec_len bytes.old }
+    requires bits { mark.bits ≤ length presence.now }
     ensures { OnOk result
-        (Closes true (take place bytes.old.items) (drop (place + 1) bytes.old.items) presence.now bytes.new.items) }
+        (Closes true (take mark.bytes bytes.old.items) (drop (mark.bytes + 1) bytes.old.items)
+        (drop mark.bits presence.now) bytes.new.items) }
 {
-    match presence.as_pair() {
+    match presence.as_pair(mark.bits) {
         Some(pair) => {
-            bytes[place] = pair.0;
-            insert(bytes, place + 1, &[pair.1])?;
+            bytes[mark.bytes] = pair.0;
+            insert(bytes, mark.bytes + 1, &[pair.1])?;
             Ok(())
         }
-        None => widen(bytes, place, presence, scratch),
+        None => widen(bytes, mark, presence, scratch),
     }
 }
 
-/// Replaces the byte at an offset (`place`) by the shortest presence map of the bits, of more than one byte.
+/// Replaces the byte at a mark by the shortest presence map of the bits after it, of more than one byte.
 #[cold]
 fn widen(
     bytes: &mut Vec<u8>,
-    place: usize,
+    mark: Mark,
     presence: &Bits,
     scratch: &mut Vec<bool>,
 ) -> Result<(), EncodeFault>
-    requires { place < vec_len bytes.old }
+    requires place { mark.bytes < vec_len bytes.old }
+    requires bits { mark.bits ≤ length presence.now }
     ensures { OnOk result
-        (Closes true (take place bytes.old.items) (drop (place + 1) bytes.old.items) presence.now bytes.new.items) }
+        (Closes true (take mark.bytes bytes.old.items) (drop (mark.bytes + 1) bytes.old.items)
+        (drop mark.bits presence.now) bytes.new.items) }
 {
-    let _ = bytes.remove(place);
-    match presence.as_map(scratch)? {
-        Some(map) => Ok(insert(bytes, place, map.as_slice())?),
+    let _ = bytes.remove(mark.bytes);
+    match presence.as_map(mark.bits, scratch)? {
+        Some(map) => Ok(insert(bytes, mark.bytes, map.as_slice())?),
         None => Err(EncodeFault::E3),
     }
 }

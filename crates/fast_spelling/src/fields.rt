@@ -272,7 +272,7 @@ pub fn note_range(value: Scalar<'_>)
 
 /// Keeps the value or the absence in the entry that the field's operator writes.
 #[inline(always)]
-fn keep(
+pub fn keep(
     ledger: &mut Ledger,
     at: Known<'_>,
     operator: Operator,

@@ -3,7 +3,7 @@
 
 mod long;
 
-ghost use Rattle.std.specs.Prelude.{◌++◌, ◌∷◌, [], ◌≡◌, ◌<◌, ◌≤◌, ◌+◌, ◌-◌, ◌*◌, ◌^◌, ◌<ℤ◌, ◌≤ℤ◌, ◌-ℤ◌, neg_ℤ, Some, pos, negsuc, true, false, OnOk};
+ghost use Rattle.std.specs.Prelude.{◌++◌, ◌∷◌, [], ◌≡◌, ◌<◌, ◌≤◌, ◌+◌, ◌-◌, ◌*◌, ◌^◌, ◌<ℤ◌, ◌≤ℤ◌, ◌-ℤ◌, Some, pos, negsuc, true, false, vec_len, vec_capacity, OnOk};
 ghost use Rattle.fast_wire.specs.meaning.Integers.{signed_range, IsWithin, Means};
 ghost use Rattle.fast_wire.specs.meaning.Shortest.{IsShortest};
 ghost use Rattle.fast_spelling.specs.device.Drafts.{Adds};
@@ -29,11 +29,6 @@ const HUGE_UNSIGNED: u64 = (1 << 56) - 1;
 /// The least complement (`-1 - number`) of a negative integer that has more than five bytes.
 const LONG_COMPLEMENT: u64 = 1 << 34;
 
-const LONG_NATURAL: i128 = (1 << 34) - 1;
-
-/// The least integer of five bytes.
-const LEAST_SHORT: i128 = -(1 << 34);
-
 /// Writes an unsigned integer. The code for a single byte is inlined.
 #[inline(always)]
 pub fn write_unsigned_as(bytes: &mut Vec<u8>, nullable: bool, number: u64) -> Result<(), AllocError>
@@ -53,7 +48,8 @@ fn write_wide_unsigned(bytes: &mut Vec<u8>, nullable: bool, number: u64) -> Resu
         return write_long_unsigned(bytes, nullable, number);
     }
     let sent = raised(nullable, number);
-    push_groups(bytes, sent, groups(sent))
+    push_groups(bytes, sent, groups(sent));
+    Ok(())
 }
 
 /// Writes a signed integer of 64 bits. The code for a single byte is inlined.
@@ -70,7 +66,6 @@ pub fn write_narrow_as(bytes: &mut Vec<u8>, nullable: bool, number: i64) -> Resu
 /// Writes the signed integer `-1 - complement`. The code for a single byte is inlined.
 #[inline(always)]
 fn write_negative(bytes: &mut Vec<u8>, nullable: bool, complement: u64) -> Result<(), AllocError>
-    requires { complement < 2 ^ 63 }
     ensures { OnOk result (Adds (IsShortest true nullable (Some (negsuc complement))) bytes.old.items bytes.new.items) }
 {
     if complement < 0x40 {
@@ -85,13 +80,13 @@ fn write_wide_negative(
     nullable: bool,
     complement: u64,
 ) -> Result<(), AllocError>
-    requires { complement < 2 ^ 63 }
     ensures { OnOk result (Adds (IsShortest true nullable (Some (negsuc complement))) bytes.old.items bytes.new.items) }
 {
     if complement >= LONG_COMPLEMENT || bytes.capacity() - bytes.len() < ROOM {
         return write_long_signed(bytes, nullable, negative_of(complement));
     }
-    push_negative(bytes, complement)
+    push_negative(bytes, complement);
+    Ok(())
 }
 
 /// Returns the negative integer `-1 - complement`.
@@ -105,7 +100,6 @@ fn negative_of(complement: u64) -> i128
 /// Writes a non-negative integer as a signed integer. The code for a single byte is inlined.
 #[inline(always)]
 fn write_natural(bytes: &mut Vec<u8>, nullable: bool, number: u64) -> Result<(), AllocError>
-    requires { number < 2 ^ 63 }
     ensures { OnOk result (Adds (IsShortest true nullable (Some (pos number))) bytes.old.items bytes.new.items) }
 {
     if number < 0x3f {
@@ -116,21 +110,20 @@ fn write_natural(bytes: &mut Vec<u8>, nullable: bool, number: u64) -> Result<(),
 
 /// Writes a non-negative integer of any length as a signed integer.
 fn write_wide_natural(bytes: &mut Vec<u8>, nullable: bool, number: u64) -> Result<(), AllocError>
-    requires { number < 2 ^ 63 }
     ensures { OnOk result (Adds (IsShortest true nullable (Some (pos number))) bytes.old.items bytes.new.items) }
 {
     if number >= LONG_NUMBER || bytes.capacity() - bytes.len() < ROOM {
         return write_long_signed(bytes, nullable, i128::from(number));
     }
-    push_natural(bytes, raised(nullable, number))
+    push_natural(bytes, raised(nullable, number));
+    Ok(())
 }
 
 /// Returns a non-negative integer of 64 bits as unsigned.
 #[inline(always)]
 fn natural_in(number: i64) -> u64
     requires { pos 0 ≤ℤ number }
-    ensures value { number ≡ pos result }
-    ensures small { result < 2 ^ 63 }
+    ensures { number ≡ pos result }
 {
     number as u64
 }
@@ -139,36 +132,62 @@ fn natural_in(number: i64) -> u64
 #[inline(always)]
 fn complement_in(number: i64) -> u64
     requires { number <ℤ pos 0 }
-    ensures value { number ≡ negsuc result }
-    ensures small { result < 2 ^ 63 }
+    ensures { number ≡ negsuc result }
 {
     (-1 - number) as u64
 }
 
-/// Writes a difference of two integers, which usually fits in 64 bits.
+/// Writes the difference of two unsigned integers, `a` minus `b`.
 #[inline(always)]
+pub fn write_unsigned_apart(
+    bytes: &mut Vec<u8>,
+    nullable: bool,
+    a: u64,
+    b: u64,
+) -> Result<(), AllocError>
+    ensures { OnOk result
+        (Adds (IsShortest true nullable (Some (pos a -ℤ pos b))) bytes.old.items bytes.new.items) }
+{
+    if a >= b {
+        return write_natural(bytes, nullable, a - b);
+    }
+    write_negative(bytes, nullable, b - a - 1)
+}
+
+/// Writes the difference of two signed integers, `a` minus `b`.
+#[inline(always)]
+pub fn write_signed_apart(
+    bytes: &mut Vec<u8>,
+    nullable: bool,
+    a: i64,
+    b: i64,
+) -> Result<(), AllocError>
+    ensures { OnOk result (Adds (IsShortest true nullable (Some (a -ℤ b))) bytes.old.items bytes.new.items) }
+{
+    if a >= b {
+        return write_natural(bytes, nullable, distance(b, a));
+    }
+    write_negative(bytes, nullable, distance(a, b) - 1)
+}
+
+/// Returns the distance between two integers, `high` minus `low`.
+#[inline(always)]
+fn distance(low: i64, high: i64) -> u64
+    requires { low ≤ℤ high }
+    ensures { high -ℤ low ≡ pos result }
+{
+    (i128::from(high) - i128::from(low)) as u64
+}
+
+/// Writes a difference of two integers, which usually fits in 64 bits.
 pub fn write_delta_as(bytes: &mut Vec<u8>, nullable: bool, number: i128) -> Result<(), AllocError>
     requires { IsWithin (signed_range 68) number }
     ensures { OnOk result (Adds (IsShortest true nullable (Some number)) bytes.old.items bytes.new.items) }
 {
     match i64::try_from(number) {
         Ok(narrow) => write_narrow_as(bytes, nullable, narrow),
-        Err(_) => write_signed_as(bytes, nullable, number),
+        Err(_) => write_long_signed(bytes, nullable, number),
     }
-}
-
-/// Writes a signed integer.
-pub fn write_signed_as(bytes: &mut Vec<u8>, nullable: bool, number: i128) -> Result<(), AllocError>
-    requires { IsWithin (signed_range 68) number }
-    ensures { OnOk result (Adds (IsShortest true nullable (Some number)) bytes.old.items bytes.new.items) }
-{
-    if number < LEAST_SHORT || number >= LONG_NATURAL {
-        return write_long_signed(bytes, nullable, number);
-    }
-    if number < 0 {
-        return push_negative(bytes, complement_of(number));
-    }
-    push_natural(bytes, raised(nullable, natural_of(number)))
 }
 
 /// Returns the number that the stream has for a non-negative integer: one more if the field is nullable.
@@ -184,45 +203,25 @@ fn raised(nullable: bool, number: u64) -> u64
     number
 }
 
-/// Returns a non-negative integer of at most 34 bits as unsigned.
+/// Appends the shortest encoding of a non-negative integer, in two's complement. There is room for it.
 #[inline(always)]
-fn natural_of(number: i128) -> u64
-    requires natural { pos 0 ≤ℤ number }
-    requires small { number <ℤ (pos (2 ^ 34) -ℤ pos 1) }
-    ensures value { number ≡ pos result }
-    ensures small { result + 1 < 2 ^ 34 }
+fn push_natural(bytes: &mut Vec<u8>, sum: u64)
+    requires fits { sum < 2 ^ 34 }
+    requires room { vec_len bytes.old + 5 ≤ vec_capacity bytes.old }
+    ensures { Adds (IsLeast (pos sum)) bytes.old.items bytes.new.items }
 {
-    number as u64
+    push_groups(bytes, sum, groups(sum * 2));
 }
 
-/// Returns the complement, `-1 - number`, of a negative integer of at most 34 bits.
+/// Appends the shortest encoding of `-1 - complement`, in two's complement. There is room for it.
 #[inline(always)]
-fn complement_of(number: i128) -> u64
-    requires negative { number <ℤ pos 0 }
-    requires small { neg_ℤ (pos (2 ^ 34)) ≤ℤ number }
-    ensures value { number ≡ negsuc result }
-    ensures small { result < 2 ^ 34 }
-{
-    (-1 - number) as u64
-}
-
-/// Appends the shortest encoding of a non-negative integer, in two's complement.
-#[inline(always)]
-fn push_natural(bytes: &mut Vec<u8>, sum: u64) -> Result<(), AllocError>
-    requires { sum < 2 ^ 34 }
-    ensures { OnOk result (Adds (IsLeast (pos sum)) bytes.old.items bytes.new.items) }
-{
-    push_groups(bytes, sum, groups(sum * 2))
-}
-
-/// Appends the shortest encoding of `-1 - complement`, in two's complement.
-#[inline(always)]
-fn push_negative(bytes: &mut Vec<u8>, complement: u64) -> Result<(), AllocError>
-    requires { complement < 2 ^ 34 }
-    ensures { OnOk result (Adds (IsLeast (negsuc complement)) bytes.old.items bytes.new.items) }
+fn push_negative(bytes: &mut Vec<u8>, complement: u64)
+    requires fits { complement < 2 ^ 34 }
+    requires room { vec_len bytes.old + 5 ≤ vec_capacity bytes.old }
+    ensures { Adds (IsLeast (negsuc complement)) bytes.old.items bytes.new.items }
 {
     let len = groups(complement * 2);
-    push_groups(bytes, reach(len) - 1 - complement, len)
+    push_groups(bytes, reach(len) - 1 - complement, len);
 }
 
 /// Returns the number of groups of seven bits, one to five, that the number needs.
@@ -263,16 +262,17 @@ fn reach(len: usize) -> u64
     }
 }
 
-/// Appends the number in `len` bytes of seven bits each, with the stop bit on the last.
+/// Appends the number in `len` bytes of seven bits each, with the stop bit on the last. There is room for them.
 #[inline(always)]
-fn push_groups(bytes: &mut Vec<u8>, number: u64, len: usize) -> Result<(), AllocError>
+fn push_groups(bytes: &mut Vec<u8>, number: u64, len: usize)
     requires some { 1 ≤ len }
     requires few { len ≤ 5 }
     requires fits { number < 2 ^ (7 * len) }
-    ensures { OnOk result (Adds (IsGroups number len) bytes.old.items bytes.new.items) }
+    requires room { vec_len bytes.old + 5 ≤ vec_capacity bytes.old }
+    ensures { Adds (IsGroups number len) bytes.old.items bytes.new.items }
 {
     match len {
-        1 => push_one(bytes, number),
+        1 => push_last(bytes, number),
         2 => push_two(bytes, number),
         3 => push_three(bytes, number),
         4 => push_four(bytes, number),
@@ -310,59 +310,64 @@ fn push_and_grow(bytes: &mut Vec<u8>, byte: u8) -> Result<(), AllocError>
     Ok(())
 }
 
-/// Appends the number in two bytes, with the stop bit on the last.
+/// Appends the number in one byte, with the stop bit. There is room for it.
 #[inline(always)]
-fn push_two(bytes: &mut Vec<u8>, number: u64) -> Result<(), AllocError>
-    requires { number < 2 ^ 14 }
-    ensures { OnOk result (Adds (IsGroups number 2) bytes.old.items bytes.new.items) }
+fn push_last(bytes: &mut Vec<u8>, number: u64)
+    requires fits { number < 2 ^ 7 }
+    requires room { vec_len bytes.old + 1 ≤ vec_capacity bytes.old }
+    ensures { Adds (IsGroups number 1) bytes.old.items bytes.new.items }
 {
-    bytes.extend_from_slice(&[(number / 0x80 % 0x80) as u8, (number % 0x80) as u8 + 0x80])?;
-    Ok(())
+    bytes.push_reserved((number % 0x80) as u8 + 0x80);
 }
 
-/// Appends the number in three bytes, with the stop bit on the last.
+/// Appends the number in two bytes, with the stop bit on the last. There is room for them.
 #[inline(always)]
-fn push_three(bytes: &mut Vec<u8>, number: u64) -> Result<(), AllocError>
-    requires { number < 2 ^ 21 }
-    ensures { OnOk result (Adds (IsGroups number 3) bytes.old.items bytes.new.items) }
+fn push_two(bytes: &mut Vec<u8>, number: u64)
+    requires fits { number < 2 ^ 14 }
+    requires room { vec_len bytes.old + 2 ≤ vec_capacity bytes.old }
+    ensures { Adds (IsGroups number 2) bytes.old.items bytes.new.items }
 {
-    bytes.extend_from_slice(&[
-        (number / 0x4000 % 0x80) as u8,
-        (number / 0x80 % 0x80) as u8,
-        (number % 0x80) as u8 + 0x80,
-    ])?;
-    Ok(())
+    bytes.push_reserved((number / 0x80 % 0x80) as u8);
+    bytes.push_reserved((number % 0x80) as u8 + 0x80);
 }
 
-/// Appends the number in four bytes, with the stop bit on the last.
+/// Appends the number in three bytes, with the stop bit on the last. There is room for them.
 #[inline(always)]
-fn push_four(bytes: &mut Vec<u8>, number: u64) -> Result<(), AllocError>
-    requires { number < 2 ^ 28 }
-    ensures { OnOk result (Adds (IsGroups number 4) bytes.old.items bytes.new.items) }
+fn push_three(bytes: &mut Vec<u8>, number: u64)
+    requires fits { number < 2 ^ 21 }
+    requires room { vec_len bytes.old + 3 ≤ vec_capacity bytes.old }
+    ensures { Adds (IsGroups number 3) bytes.old.items bytes.new.items }
 {
-    bytes.extend_from_slice(&[
-        (number / 0x200000 % 0x80) as u8,
-        (number / 0x4000 % 0x80) as u8,
-        (number / 0x80 % 0x80) as u8,
-        (number % 0x80) as u8 + 0x80,
-    ])?;
-    Ok(())
+    bytes.push_reserved((number / 0x4000 % 0x80) as u8);
+    bytes.push_reserved((number / 0x80 % 0x80) as u8);
+    bytes.push_reserved((number % 0x80) as u8 + 0x80);
 }
 
-/// Appends the number in five bytes, with the stop bit on the last.
+/// Appends the number in four bytes, with the stop bit on the last. There is room for them.
 #[inline(always)]
-fn push_five(bytes: &mut Vec<u8>, number: u64) -> Result<(), AllocError>
-    requires { number < 2 ^ 35 }
-    ensures { OnOk result (Adds (IsGroups number 5) bytes.old.items bytes.new.items) }
+fn push_four(bytes: &mut Vec<u8>, number: u64)
+    requires fits { number < 2 ^ 28 }
+    requires room { vec_len bytes.old + 4 ≤ vec_capacity bytes.old }
+    ensures { Adds (IsGroups number 4) bytes.old.items bytes.new.items }
 {
-    bytes.extend_from_slice(&[
-        (number / 0x10000000 % 0x80) as u8,
-        (number / 0x200000 % 0x80) as u8,
-        (number / 0x4000 % 0x80) as u8,
-        (number / 0x80 % 0x80) as u8,
-        (number % 0x80) as u8 + 0x80,
-    ])?;
-    Ok(())
+    bytes.push_reserved((number / 0x200000 % 0x80) as u8);
+    bytes.push_reserved((number / 0x4000 % 0x80) as u8);
+    bytes.push_reserved((number / 0x80 % 0x80) as u8);
+    bytes.push_reserved((number % 0x80) as u8 + 0x80);
+}
+
+/// Appends the number in five bytes, with the stop bit on the last. There is room for them.
+#[inline(always)]
+fn push_five(bytes: &mut Vec<u8>, number: u64)
+    requires fits { number < 2 ^ 35 }
+    requires room { vec_len bytes.old + 5 ≤ vec_capacity bytes.old }
+    ensures { Adds (IsGroups number 5) bytes.old.items bytes.new.items }
+{
+    bytes.push_reserved((number / 0x10000000 % 0x80) as u8);
+    bytes.push_reserved((number / 0x200000 % 0x80) as u8);
+    bytes.push_reserved((number / 0x4000 % 0x80) as u8);
+    bytes.push_reserved((number / 0x80 % 0x80) as u8);
+    bytes.push_reserved((number % 0x80) as u8 + 0x80);
 }
 
 /// Writes an unsigned integer of more than five bytes, or one for which the vector may have to grow.
@@ -375,7 +380,9 @@ fn write_long_unsigned(bytes: &mut Vec<u8>, nullable: bool, number: u64) -> Resu
     }
     let sent = raised(nullable, number);
     if sent < LONG_SUM {
-        return push_groups(bytes, sent, groups(sent));
+        bytes.reserve(ROOM)?;
+        push_groups(bytes, sent, groups(sent));
+        return Ok(());
     }
     push_long_groups(bytes, sent, long_groups(sent))
 }

@@ -1,23 +1,29 @@
 //! Items: the bytes that are sent for a field, each integer in its shortest form.
 
-ghost use Rattle.std.specs.Prelude.{◌≡◌, ℕ, ◌<◌, ◌≤◌, ◌∷◌, List, false, All, length, Some, OnOk, IfErr};
+ghost use Rattle.std.specs.Prelude.{◌≡◌, ℕ, ◌<◌, ◌≤◌, ◌∷◌, ◌-ℤ◌, List, true, false, All, length, Some, OnOk, IfErr};
+ghost use Rattle.fast_wire.specs.meaning.Shortest.{IsShortest};
 ghost use Rattle.fast_wire.specs.meaning.Texts.{SpellsAscii};
+ghost use Rattle.fast_value.specs.meaning.Kinds.{integer_of, exponent_of, mantissa_of};
 ghost use Rattle.fast_value.specs.meaning.Values.{scalar_data};
 ghost use Rattle.fast_tree.specs.meaning.Nodes.{field_data};
 ghost use Rattle.fast_dict.specs.meaning.Operators.{Sent as SentData};
 ghost use Rattle.fast_dict.specs.meaning.Sending.{sent_data};
 ghost use Rattle.fast_spelling.specs.device.Places.{field_there};
 ghost use Rattle.fast_spelling.specs.declared.faults.EncodeFault.TheVariants.{R9};
-ghost use Rattle.fast_spelling.specs.device.Drafts.{Adds, IsTold, IsSendable, IsSendableValue, IsSendablePart, SpellsItem, SpellsValue, SpellsPart};
+ghost use Rattle.fast_spelling.specs.device.Drafts.{Adds, IsTold, IsSendable, IsSendableValue, IsSendablePart, SpellsItem, SpellsPair, SpellsValue, SpellsPart};
 ghost use Rattle.fast_spelling.specs.meaning.Refusals.{HasZeroInFront};
 
 use crate::faults::EncodeFault;
 use crate::integers::{
-    push_byte, write_delta_as, write_narrow_as, write_signed_as, write_unsigned_as,
+    push_byte, write_delta_as, write_narrow_as, write_signed_apart, write_unsigned_apart,
+    write_unsigned_as,
 };
 use crate::known::Known;
 use fast_dict::Sent;
+use fast_dict::operators::decimals::{exponent_of, mantissa_of};
+use fast_dict::operators::integers::integer_of;
 use fast_value::{Kind, Scalar};
+use std::alloc::AllocError;
 
 /// Writes the item of a field: no bytes for [`Sent::Nothing`].
 ///
@@ -44,13 +50,61 @@ pub fn write_item(bytes: &mut Vec<u8>, at: Known<'_>, item: Sent<'_>) -> Result<
             Ok(())
         }
         Sent::DecimalDelta(exponent, mantissa) => {
-            write_signed_as(bytes, at.nullable, exponent)?;
-            write_signed_as(bytes, false, mantissa)?;
+            write_delta_as(bytes, at.nullable, exponent)?;
+            write_delta_as(bytes, false, mantissa)?;
             Ok(())
         }
         Sent::TextDelta(taken, part) => {
-            write_signed_as(bytes, at.nullable, taken)?;
+            write_delta_as(bytes, at.nullable, taken)?;
             write_text(bytes, at.kind, false, part)
+        }
+    }
+}
+
+/// Writes the difference of two integers, `a` minus `b`.
+#[inline(always)]
+pub fn write_apart(
+    bytes: &mut Vec<u8>,
+    nullable: bool,
+    a: Scalar<'_>,
+    b: Scalar<'_>,
+) -> Result<(), AllocError>
+    ensures { OnOk result (Adds (IsShortest true nullable
+        (Some (integer_of (scalar_data a.entry) -ℤ integer_of (scalar_data b.entry)))) bytes.old.items bytes.new.items) }
+{
+    match (a, b) {
+        (Scalar::U(a), Scalar::U(b)) => write_unsigned_apart(bytes, nullable, a, b),
+        (Scalar::I(a), Scalar::I(b)) => write_signed_apart(bytes, nullable, a, b),
+        _ => write_delta_as(bytes, nullable, integer_of(a) - integer_of(b)),
+    }
+}
+
+/// Writes the difference of two decimals, `a` minus `b`: that of their exponents, then that of their mantissas.
+#[inline(always)]
+pub fn write_decimals_apart(
+    bytes: &mut Vec<u8>,
+    nullable: bool,
+    a: Scalar<'_>,
+    b: Scalar<'_>,
+) -> Result<(), AllocError>
+    ensures { OnOk result (Adds (SpellsPair nullable
+        (exponent_of (scalar_data a.entry) -ℤ exponent_of (scalar_data b.entry))
+        (mantissa_of (scalar_data a.entry) -ℤ mantissa_of (scalar_data b.entry))) bytes.old.items bytes.new.items) }
+{
+    match (a, b) {
+        (
+            Scalar::Dec { exponent, mantissa },
+            Scalar::Dec {
+                exponent: e,
+                mantissa: m,
+            },
+        ) => {
+            write_signed_apart(bytes, nullable, i64::from(exponent), i64::from(e))?;
+            write_signed_apart(bytes, false, mantissa, m)
+        }
+        _ => {
+            write_delta_as(bytes, nullable, exponent_of(a) - exponent_of(b))?;
+            write_delta_as(bytes, false, mantissa_of(a) - mantissa_of(b))
         }
     }
 }

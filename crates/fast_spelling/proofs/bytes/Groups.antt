@@ -1,6 +1,7 @@
 -- Entities of a few bytes.
-use Rattle.std.proofs.Common.{◌≡◌, ℕ, zero, suc, ◌+◌, ◌*◌, ◌-◌, ◌/◌, ◌%◌, ◌^◌, ◌<◌, ◌≤◌, List, [], ◌∷◌, ◌++◌, refl, arith}
+use Rattle.std.proofs.Common.{◌≡◌, ℕ, zero, suc, ◌+◌, ◌*◌, ◌-◌, ◌/◌, ◌%◌, ◌^◌, ◌<◌, ◌≤◌, List, [], ◌∷◌, ◌++◌, refl, ap, ◌∙◌, arith}
 use Rattle.std.specs.Prelude.{Bool, true, false, if◌then◌else◌, ℤ, pos, negsuc, Some, Result, Ok, Err, OnOk, is_ok}
+use Rattle.std.proofs.lemmas.List.{append_assoc}
 use Rattle.fast_wire.specs.meaning.Entities.{HaveNoStop, number, signed, IsOverlong}
 use Rattle.fast_wire.specs.meaning.Integers.{Means}
 use Rattle.fast_wire.specs.meaning.Shortest.{IsShortest}
@@ -172,3 +173,7 @@ pub added : {R E : Type 0} (P : List ℕ → Type 0) (old new w : List ℕ) (r :
     → OnOk r (Adds P old new)
 added P old new w (Ok x) e p = (w, e, p)
 added P old new w (Err x) e p = tt
+
+-- a byte more
+pub then_one : (old w now new : List ℕ) (a : ℕ) → now ≡ old ++ w → new ≡ now ++ a ∷ [] → new ≡ old ++ (w ++ a ∷ [])
+then_one old w now new a so_far next = next ∙ ap (λ (l : List ℕ). l ++ a ∷ []) so_far ∙ append_assoc old w (a ∷ [])

@@ -1,11 +1,12 @@
 -- The bits of a segment as those of a number.
 use Rattle.std.proofs.Common.{◌≡◌, ◌⊎◌, inl, inr, ℕ, zero, suc, ◌+◌, ◌-◌, ◌*◌, ◌/◌, ◌%◌, ◌^◌, ◌<◌, ◌≤◌, ◌++◌, List, [], ◌∷◌, refl, ap, sym, ◌∙◌, arith}
-use Rattle.std.specs.Prelude.{Bool, false, nat_eq, slice_index_or, replicate}
+use Rattle.std.specs.Prelude.{Bool, false, nat_eq, slice_index_or, replicate, length, take, drop}
 use Rattle.std.specs.Int.Count.{count_leading_zeros, leading_unique}
-use Rattle.std.proofs.Math.Nat.{add-mul, div-div-eq-div-mul, mul-add, mul-lt-mul_of_pos_right, one-le-pow, pow-le-pow_right, pow-suc, two-pow-succ}
+use Rattle.std.proofs.Math.Nat.{add-mul, div-div-eq-div-mul, div-lt_iff_lt-mul, mod-add-div', mod-lt, mul-add, mul_assoc, mul-lt-mul_of_pos_right, one-le-pow, pow-le-pow_right, pow-suc, two-pow-succ}
 use Rattle.std.proofs.lemmas.Bool.{cases_lt}
-use Rattle.std.proofs.lemmas.Nat.{leading_top, pow-add}
-use Rattle.std.proofs.lemmas.List.{append-nil, append_assoc, replicate-append-replicate}
+use Rattle.std.proofs.lemmas.Nat.{leading_top, le-div, pow-add}
+use Rattle.std.proofs.lemmas.List.{append-nil, append_assoc, length-append, replicate-append-replicate}
+use Rattle.std.proofs.Math.Seq.{take-append_seam, take-append-add, drop-append_seam, drop-append-add}
 use Rattle.fast_wire.specs.meaning.Maps.{bits, seven_bits}
 use Rattle.fast_spelling.specs.device.Presence.{low_bits, bits_after}
 use Rattle.fast_spelling.specs.meaning.Encoding.{SameBits}
@@ -114,32 +115,69 @@ above (suc n) a r =
     ∙ ap (λ (x : ℕ). low_bits n (a * 2 ^ n + r / 2) ++ nat_eq x 1 ∷ []) rest
     ∙ ap (λ (l : List Bool). l ++ nat_eq (r % 2) 1 ∷ []) (above n a (r / 2))
 
--- A word that is shifted until its most significant bit is out of it.
-pub top_bits : (w : ℕ) → 1 ≤ w → w < 2 ^ 64 → SameBits (low_bits 64 (w * 2 ^ count_leading_zeros 64 w % 2 ^ 64 * 2 % 2 ^ 64)) (bits_after w)
-top_bits w some room =
+-- a number that is not zero has at most 63 zeros before it
+pub few_zeros : (w : ℕ) → 1 ≤ w → w < 2 ^ 64 → count_leading_zeros 64 w ≤ 63
+few_zeros w some room = let (j, e, low, high) = leading_top 64 w (omega (arith, some)) room in omega (arith, e)
+
+-- how many bits they are
+pub length_low : (n x : ℕ) → length (low_bits n x) ≡ n
+unfolding low_bits
+length_low zero x = refl
+length_low (suc n) x = let next : n + 1 ≡ suc n = omega arith in length-append (low_bits n (x / 2)) (nat_eq (x % 2) 1 ∷ []) ∙ ap (λ (k : ℕ). k + 1) (length_low n (x / 2)) ∙ next
+
+-- The bits of a word from an index on are its lower ones,
+pub later_bits : (w from : ℕ) → from ≤ 63 - count_leading_zeros 64 w
+    → drop from (bits_after w) ≡ low_bits (63 - (count_leading_zeros 64 w + from)) w
+later_bits w from few =
+    let k : ℕ = 63 - (count_leading_zeros 64 w + from) in
+    let all : 63 - count_leading_zeros 64 w ≡ from + k = omega (arith, few) in
+    let upper = low_bits from (w / 2 ^ k) in
+    ap (λ (n : ℕ). drop from (low_bits n w)) all ∙ ap (drop from) (split from k w)
+    ∙ ap (λ (n : ℕ). drop n (upper ++ low_bits k w)) (sym (length_low from (w / 2 ^ k))) ∙ drop-append_seam upper (low_bits k w)
+
+-- and those before it are the bits of a word that is shifted to the right.
+pub first_bits : (w from : ℕ) → 1 ≤ w → w < 2 ^ 64 → from ≤ 63 - count_leading_zeros 64 w
+    → (1 ≤ w / 2 ^ (63 - (count_leading_zeros 64 w + from))) × (bits_after (w / 2 ^ (63 - (count_leading_zeros 64 w + from))) ≡ take from (bits_after w))
+first_bits w from some room few =
     let (j, e, low, high) = leading_top 64 w (omega (arith, some)) room in
-    let few : j ≤ 63 = omega (arith, e) in
-    let twice = double j in
-    let q : ℕ = w - 2 ^ j in
-    let is : w ≡ 2 ^ j + q = omega (arith, low) in
-    let small : q < 2 ^ j = omega (arith, low, high, twice) in
-    let p : ℕ = 2 ^ (63 - j) in
-    let count : count_leading_zeros 64 w ≡ 63 - j = omega (arith, e) in
-    let sum : j + (63 - j) ≡ 63 = omega (arith, few) in
-    let full : 2 ^ j * p ≡ 2 ^ 63 = sym (pow-add 2 j (63 - j)) ∙ ap (λ (k : ℕ). 2 ^ k) sum in
-    let parts : w * p ≡ 2 ^ j * p + q * p = ap (λ (x : ℕ). x * p) is ∙ add-mul (2 ^ j) q p in
-    let less : q * p < 2 ^ j * p = mul-lt-mul_of_pos_right small (one-le-pow (63 - j) 2 (omega arith)) in
-    let next : 64 - j ≡ suc (63 - j) = omega (arith, few) in
-    let both : q * 2 ^ (64 - j) ≡ q * p + q * p = ap (λ (k : ℕ). q * 2 ^ k) next ∙ ap (λ (x : ℕ). q * x) (two-pow-succ (63 - j)) ∙ mul-add q p p in
-    let shift : w * 2 ^ count_leading_zeros 64 w ≡ w * p = ap (λ (k : ℕ). w * 2 ^ k) count in
-    let top : w * 2 ^ count_leading_zeros 64 w % 2 ^ 64 * 2 % 2 ^ 64 ≡ q * 2 ^ (64 - j) =
-    ap (λ (x : ℕ). x % 2 ^ 64 * 2 % 2 ^ 64) shift ∙ omega (arith, full, parts, less, both) in
-    let one : 2 ^ j + q ≡ 1 * 2 ^ j + q = omega arith in
-    let word : bits_after w ≡ low_bits j q = after_is w j few low high ∙ ap (low_bits j) (is ∙ one) ∙ above j 1 q in
-    let long : j + (64 - j) ≡ 64 = omega (arith, few) in
-    let left : low_bits 64 (q * 2 ^ (64 - j)) ≡ low_bits j q ++ replicate (64 - j) false =
-    ap (λ (k : ℕ). low_bits k (q * 2 ^ (64 - j))) (sym long) ∙ shifted j (64 - j) q in
-    λ i. ap (λ (l : List Bool). slice_index_or l i false) (ap (low_bits 64) top ∙ left) ∙ padded (low_bits j q) (64 - j) i
+    let k : ℕ = 63 - (count_leading_zeros 64 w + from) in
+    let all : j ≡ from + k = omega (arith, few, e) in
+    let count : 63 - count_leading_zeros 64 w ≡ from + k = omega (arith, few) in
+    let size : 2 ^ j ≡ 2 ^ from * 2 ^ k = ap (λ (n : ℕ). 2 ^ n) all ∙ pow-add 2 from k in
+    let next : suc j ≡ suc from + k = omega (arith, all) in
+    let more : 2 ^ suc j ≡ 2 ^ suc from * 2 ^ k = ap (λ (n : ℕ). 2 ^ n) next ∙ pow-add 2 (suc from) k in
+    let some_k : 0 < 2 ^ k = let one = one-le-pow k 2 (omega arith) in omega (arith, one) in
+    let least : 2 ^ from ≤ w / 2 ^ k = le-div (2 ^ from) w (2 ^ k) some_k (omega (arith, low, size)) in
+    let most : w / 2 ^ k < 2 ^ suc from = (div-lt_iff_lt-mul some_k).1 (omega (arith, high, more)) in
+    let one : 1 ≤ 2 ^ from = one-le-pow from 2 (omega arith) in
+    let upper = low_bits from (w / 2 ^ k) in
+    let word : bits_after (w / 2 ^ k) ≡ upper = after_is (w / 2 ^ k) from (omega (arith, few)) least most in
+    let first : take from (bits_after w) ≡ upper =
+    ap (λ (n : ℕ). take from (low_bits n w)) count ∙ ap (take from) (split from k w)
+    ∙ ap (λ (n : ℕ). take n (upper ++ low_bits k w)) (sym (length_low from (w / 2 ^ k))) ∙ take-append_seam upper (low_bits k w) in
+    (omega (arith, one, least), word ∙ sym first)
+
+-- A word of which only the lower k bits are left, from the most significant bit on.
+pub top_bits : (w k : ℕ) → w < 2 ^ 64 → k ≤ 63 → SameBits (low_bits 64 (w * 2 ^ (63 - k) % 2 ^ 64 * 2 % 2 ^ 64)) (low_bits k w)
+top_bits w k room few =
+    let a : ℕ = w / 2 ^ k in
+    let r : ℕ = w % 2 ^ k in
+    let p : ℕ = 2 ^ (63 - k) in
+    let some : 1 ≤ 2 ^ k = one-le-pow k 2 (omega arith) in
+    let is : w ≡ a * 2 ^ k + r = let e = mod-add-div' w (2 ^ k) in omega (arith, e) in
+    let small : r < 2 ^ k = mod-lt w (omega (arith, some)) in
+    let sum : k + (63 - k) ≡ 63 = omega (arith, few) in
+    let full : 2 ^ k * p ≡ 2 ^ 63 = sym (pow-add 2 k (63 - k)) ∙ ap (λ (n : ℕ). 2 ^ n) sum in
+    let parts : w * p ≡ a * 2 ^ 63 + r * p = ap (λ (x : ℕ). x * p) is ∙ add-mul (a * 2 ^ k) r p ∙ ap (λ (x : ℕ). x + r * p) (mul_assoc a (2 ^ k) p ∙ ap (λ (x : ℕ). a * x) full) in
+    let less : r * p < 2 ^ k * p = mul-lt-mul_of_pos_right small (one-le-pow (63 - k) 2 (omega arith)) in
+    let next : 64 - k ≡ suc (63 - k) = omega (arith, few) in
+    let both : r * 2 ^ (64 - k) ≡ r * p + r * p = ap (λ (n : ℕ). r * 2 ^ n) next ∙ ap (λ (x : ℕ). r * x) (two-pow-succ (63 - k)) ∙ mul-add r p p in
+    let top : w * 2 ^ (63 - k) % 2 ^ 64 * 2 % 2 ^ 64 ≡ r * 2 ^ (64 - k) = omega (arith, full, parts, less, both) in
+    let long : k + (64 - k) ≡ 64 = omega (arith, few) in
+    let left : low_bits 64 (r * 2 ^ (64 - k)) ≡ low_bits k r ++ replicate (64 - k) false =
+    ap (λ (n : ℕ). low_bits n (r * 2 ^ (64 - k))) (sym long) ∙ shifted k (64 - k) r in
+    let word : low_bits k w ≡ low_bits k r = ap (low_bits k) is ∙ above k a r in
+    λ i. ap (λ (l : List Bool). slice_index_or l i false) (ap (low_bits 64) top ∙ left) ∙ padded (low_bits k r) (64 - k) i
     ∙ ap (λ (l : List Bool). slice_index_or l i false) (sym word)
 
 -- The bits of a number are those of one byte, if they end there,
@@ -185,3 +223,17 @@ all_bits w i is =
     let none : 63 - count_leading_zeros 64 w - i ≡ 0 = omega (arith, is) in
     let one : w / 2 ^ 0 ≡ w = omega arith in
     ap (λ (k : ℕ). low_bits i (w / 2 ^ k)) none ∙ ap (low_bits i) one ∙ ap (λ (k : ℕ). low_bits k w) (sym is)
+
+-- What is in a vector and a word, from an index that is in the word on,
+pub in_word : (more : List Bool) (word : ℕ) (all : List Bool) (from size : ℕ) → more ++ bits_after word ≡ all → size ≡ length more → size ≤ from
+    → drop (from - size) (bits_after word) ≡ drop from all
+in_word more word all from size whole is far =
+    let index : length more + (from - size) ≡ from = omega (arith, is, far) in
+    sym (drop-append-add more (bits_after word) (from - size)) ∙ ap (λ (n : ℕ). drop n (more ++ bits_after word)) index ∙ ap (drop from) whole
+
+-- and up to there.
+pub up_to_word : (more : List Bool) (word : ℕ) (all : List Bool) (to size : ℕ) → more ++ bits_after word ≡ all → size ≡ length more → size ≤ to
+    → more ++ take (to - size) (bits_after word) ≡ take to all
+up_to_word more word all to size whole is far =
+    let index : length more + (to - size) ≡ to = omega (arith, is, far) in
+    sym (take-append-add more (bits_after word) (to - size)) ∙ ap (λ (n : ℕ). take n (more ++ bits_after word)) index ∙ ap (take to) whole

@@ -1,7 +1,7 @@
 -- The bytes of texts and of items.
-use Rattle.std.proofs.Common.{◌≡◌, ◌≢◌, ℕ, suc, ◌+◌, ◌-◌, ◌<◌, ◌≤◌, ◌^◌, List, [], ◌∷◌, ◌++◌, take, length, get_or, refl, sym, subst, ◌∙◌}
+use Rattle.std.proofs.Common.{◌≡◌, ◌≢◌, ℕ, suc, ◌+◌, ◌-◌, ◌<◌, ◌≤◌, ◌^◌, List, [], ◌∷◌, ◌++◌, take, length, get_or, refl, ap, sym, subst, ◌∙◌}
 use Rattle.std.proofs.Common.{arith, FitsSigned, to_z, of_z}
-use Rattle.std.specs.Prelude.{nat_eq, Bool, true, false, All, ℤ, pos, Some, Result, Ok, Err, OnOk}
+use Rattle.std.specs.Prelude.{nat_eq, Bool, true, false, All, ℤ, ◌-ℤ◌, pos, Some, Result, Ok, Err, OnOk}
 use Rattle.std.proofs.lemmas.List.{take_more, take_all}
 use Rattle.std.specs.Int.{w128}
 use Rattle.std.proofs.lemmas.Int.{ints, to_z-of_z}
@@ -57,6 +57,10 @@ sized_spelled Bytes nullable t u other h s room r = vector_spelled nullable room
 pub on_ok : {R E : Type 0} {A B : Type 0} (r : Result R E) → OnOk r A → (A → B) → OnOk r B
 on_ok (Ok x) h f = f h
 on_ok (Err e) h f = tt
+
+-- the difference of two equal pairs
+pub apart_same : (x y u v : ℤ) → x ≡ u → y ≡ v → x -ℤ y ≡ u -ℤ v
+apart_same x y u v p q = ap (λ (z : ℤ). z -ℤ y) p ∙ ap (λ (z : ℤ). u -ℤ z) q
 
 -- a signed integer that was handed to a call
 pub handed : (nullable : Bool) (x : ℤ) (w : List ℕ) → FitsSigned w128 x → IsShortest true nullable (Some (to_z w128 (of_z w128 x))) w

@@ -3,7 +3,7 @@ use Rattle.std.proofs.Common.{◌≡◌, inl, inr, ℕ, suc, ◌+◌, ◌<◌, �
 use Rattle.std.specs.Prelude.{zero, Bool, true, nat_lt, Option, Some, None, option_map, slice_index, Result, Ok, Err, OnOk, IsErrAnd}
 use Rattle.std.specs.declared.vec.Vec.{Vec}
 use Rattle.std.specs.declared.alloc.Global.{Global}
-use Rattle.std.proofs.lemmas.List.{append_assoc, append-nil, drop_all}
+use Rattle.std.proofs.lemmas.List.{append_assoc, append-nil, length-append, drop_all}
 use Rattle.std.proofs.Math.Seq.{drop-append_seam, take-append_seam}
 use Rattle.fast_value.specs.declared.settings.Limits.{Limits}
 use Rattle.fast_value.specs.declared.messages.Item.{Item}
@@ -223,28 +223,38 @@ pub record IsClosed (l : Limits) (body : Body) (vs : Slots) (d mid : Dictionary)
   pub bytes_are : c.bytes.items ≡ a.bytes.items ++ bytes
   pub says : EncodesSegment body (EncodesBody l body) d vs bytes mid
 
-pub closed : (l : Limits) (body : Body) (vs : Slots) (d mid : Dictionary) (a o b c : Draft) (has : Bool) (m : ℕ)
-    → o.bytes ≡ a.bytes → o.bits ≡ [] → Wrote (EncodesBody l body d vs) o b mid → has ≡ has_map body → m ≡ length a.bytes.items
-    → Closes has (take m b.bytes.items) (drop m b.bytes.items) b.bits c.bytes.items → c.bits ≡ a.bits
+-- the bits behind a mark
+pub own_bits : (a b : List Bool) (all : List Bool) (k : ℕ) → all ≡ a ++ b → k ≡ length a → drop k all ≡ b
+own_bits a b all k p i = ap (λ (z : ℕ). drop z all) i ∙ ap (drop (length a)) p ∙ drop-append_seam a b
+
+-- and those before it
+pub bits_around : (a b : List Bool) (all : List Bool) (k : ℕ) → all ≡ a ++ b → k ≡ length a → take k all ≡ a
+bits_around a b all k p i = ap (λ (z : ℕ). take z all) i ∙ ap (take (length a)) p ∙ take-append_seam a b
+
+pub mark_inside : (a b : List Bool) (all : List Bool) (k : ℕ) → all ≡ a ++ b → k ≡ length a → k ≤ length all
+mark_inside a b all k p i = let long = ap length p ∙ length-append a b in omega (arith, long, i)
+
+pub closed : (l : Limits) (body : Body) (vs : Slots) (d mid : Dictionary) (a b c : Draft) (has : Bool) (m k : ℕ)
+    → Wrote (EncodesBody l body d vs) a b mid → has ≡ has_map body → m ≡ length a.bytes.items → k ≡ length a.bits
+    → Closes has (take m b.bytes.items) (drop m b.bytes.items) (drop k b.bits) c.bytes.items → c.bits ≡ take k b.bits
     → IsClosed l body vs d mid a c
-closed l body vs d mid a o b c has m u v (bits, bytes, p, q, e) h i (map, short, r) s =
+closed l body vs d mid a b c has m k (bits, bytes, p, q, e) h i n (map, short, r) s =
     let before = a.bytes.items in
-    let whole : b.bytes.items ≡ before ++ bytes = q ∙ ap (λ (z : Vec ℕ Global). z.items ++ bytes) u in
-    let front : take m b.bytes.items ≡ before = ap (λ (z : ℕ). take z b.bytes.items) i ∙ ap (take (length before)) whole ∙ take-append_seam before bytes in
-    let back : drop m b.bytes.items ≡ bytes = ap (λ (z : ℕ). drop z b.bytes.items) i ∙ ap (drop (length before)) whole ∙ drop-append_seam before bytes in
-    let own : b.bits ≡ bits = p ∙ ap (λ (z : List Bool). z ++ bits) v in
+    let front : take m b.bytes.items ≡ before = ap (λ (z : ℕ). take z b.bytes.items) i ∙ ap (take (length before)) q ∙ take-append_seam before bytes in
+    let back : drop m b.bytes.items ≡ bytes = ap (λ (z : ℕ). drop z b.bytes.items) i ∙ ap (drop (length before)) q ∙ drop-append_seam before bytes in
+    let own : drop k b.bits ≡ bits = own_bits a.bits bits b.bits k p n in
     record {
       bytes = map ++ bytes;
-      bits_are = s;
+      bits_are = s ∙ bits_around a.bits bits b.bits k p n;
       bytes_are = r ∙ ap (λ (z : List ℕ). z ++ (map ++ drop m b.bytes.items)) front ∙ ap (λ (z : List ℕ). before ++ (map ++ z)) back;
       says = (bits, map, bytes, e, subst (λ (z : Bool). ShortestMap z bits map) h (subst (λ (z : List Bool). ShortestMap has z map) own short), refl);
     }
 
-pub unclosed : (l : Limits) (body : Body) (vs : Slots) (d mid : Dictionary) (o b : Draft) (has : Bool) (f : EncodeFault)
-    → o.bits ≡ [] → Wrote (EncodesBody l body d vs) o b mid → has ≡ has_map body
-    → (f ≡ E3) × (has ≡ true) × HaveNoMap b.bits → RefusesSegment body (EncodesBody l body) (RefusesBody l body) d vs f
-unclosed l body vs d mid o b has f v (bits, bytes, p, q, e) h (is, set, none) =
-    inr (bits, bytes, mid, e, sym h ∙ set, subst HaveNoMap (p ∙ ap (λ (z : List Bool). z ++ bits) v) none, is)
+pub unclosed : (l : Limits) (body : Body) (vs : Slots) (d mid : Dictionary) (a b : Draft) (has : Bool) (k : ℕ) (f : EncodeFault)
+    → k ≡ length a.bits → Wrote (EncodesBody l body d vs) a b mid → has ≡ has_map body
+    → (f ≡ E3) × (has ≡ true) × HaveNoMap (drop k b.bits) → RefusesSegment body (EncodesBody l body) (RefusesBody l body) d vs f
+unclosed l body vs d mid a b has k f n (bits, bytes, p, q, e) h (is, set, none) =
+    inr (bits, bytes, mid, e, sym h ∙ set, subst HaveNoMap (own_bits a.bits bits b.bits k p n) none, is)
 
 -- elements from a place on
 module _ (l : Limits) (body : Body) (rs : List (Vec (Option Item) Global)) (i : ℕ) (r : Vec (Option Item) Global) (inside : i < length rs)

@@ -1,13 +1,10 @@
 //! Tails of strings and byte vectors; deltas of strings, byte vectors and decimals.
 
-ghost use Rattle.std.specs.Prelude.{◌≡◌, ◌-ℤ◌, Some, OnOk, IfErr};
+ghost use Rattle.std.specs.Prelude.{◌≡◌, Some, OnOk, IfErr};
 ghost use Rattle.fast_value.specs.declared.settings.Limits.{Limits};
-ghost use Rattle.fast_value.specs.meaning.Kinds.{exponent_of, mantissa_of};
 ghost use Rattle.fast_value.specs.meaning.Values.{scalar_data};
 ghost use Rattle.fast_tree.specs.declared.operators.Operator.TheVariants.{Delta, Tail};
 ghost use Rattle.fast_tree.specs.meaning.Nodes.{field_data};
-ghost use Rattle.fast_dict.specs.meaning.Operators.{decimal_delta};
-ghost use Rattle.fast_dict.specs.meaning.Sending.{sent_data};
 ghost use Rattle.fast_spelling.specs.device.Places.{field_there};
 ghost use Rattle.fast_spelling.specs.meaning.Encoding.{EncodesField};
 ghost use Rattle.fast_spelling.specs.device.Drafts.{IsTold};
@@ -16,10 +13,11 @@ ghost use Rattle.fast_spelling.specs.device.Nodes.{Keeps};
 ghost use Rattle.fast_spelling.specs.meaning.Refusals.{RefusesField};
 ghost use Rattle.fast_spelling.specs.device.Usual.{IsDecimal, IsText};
 
-use super::held::{exponents_apart, held_in, is_same, mantissas_apart};
+use super::held::{held_in, is_same};
 use crate::draft::Draft;
 use crate::faults::EncodeFault;
-use crate::fields::{note_range, send, write_chosen};
+use crate::fields::{keep, note_range, send, write_chosen};
+use crate::items::write_decimals_apart;
 use crate::known::Known;
 use crate::ledger::Ledger;
 use fast_dict::Sent;
@@ -113,18 +111,9 @@ pub fn write_decimal_delta(
         None => write_chosen(draft, ledger, at.field(), Some(value)),
         Some(held) => {
             note_range(held);
-            let delta = decimal_delta(held, value);
-            send(draft, ledger, at, Operator::Delta, Some(value), true, delta)
+            write_decimals_apart(&mut draft.bytes, at.nullable, value, held)?;
+            keep(ledger, at, Operator::Delta, Some(value))?;
+            Ok(())
         }
     }
-}
-
-/// Returns the delta from one decimal to another.
-#[inline(always)]
-fn decimal_delta(base: Scalar<'_>, value: Scalar<'_>) -> Sent<'static>
-    ensures { sent_data result ≡ decimal_delta
-        (exponent_of (scalar_data value.entry) -ℤ exponent_of (scalar_data base.entry))
-        (mantissa_of (scalar_data value.entry) -ℤ mantissa_of (scalar_data base.entry)) }
-{
-    Sent::DecimalDelta(exponents_apart(value, base), mantissas_apart(value, base))
 }

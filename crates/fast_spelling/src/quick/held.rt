@@ -1,7 +1,7 @@
 //! Comparisons of a field's entry with the value that is to be written.
 
-ghost use Rattle.std.specs.Prelude.{◌≡◌, ◌≤◌, ◌-ℤ◌, ◌↔◌, Some, length, IsTrue, IfSome};
-ghost use Rattle.fast_value.specs.meaning.Kinds.{IsWithin, signed_range, integer_of, exponent_of, mantissa_of, text_of, value_of_integer};
+ghost use Rattle.std.specs.Prelude.{◌≡◌, ◌≤◌, ◌↔◌, Some, length, IsTrue, IfSome};
+ghost use Rattle.fast_value.specs.meaning.Kinds.{integer_of, text_of, value_of_integer};
 ghost use Rattle.fast_value.specs.meaning.Values.{scalar_data};
 ghost use Rattle.fast_tree.specs.meaning.Nodes.{field_data};
 ghost use Rattle.fast_dict.specs.meaning.Dictionary.{assigned, previous_at};
@@ -11,8 +11,6 @@ ghost use Rattle.fast_spelling.specs.device.Fields.{IsServed};
 
 use crate::known::Known;
 use crate::ledger::Ledger;
-use fast_dict::operators::decimals::{exponent_of, mantissa_of};
-use fast_dict::operators::integers::integer_of;
 use fast_dict::operators::unsent::next_integer;
 use fast_value::{Kind, Scalar, Value};
 
@@ -116,7 +114,7 @@ pub fn is_same(a: Scalar<'_>, b: Scalar<'_>) -> bool
     }
 }
 
-/// Returns whether two strings are equal. The code for a single character is inlined.
+/// Returns whether two strings are equal. The code for a single character, and for strings whose last characters differ, is inlined.
 #[inline(always)]
 fn is_same_text(a: &[u8], b: &[u8]) -> bool
     ensures { IsTrue result ↔ (a.now ≡ b.now) }
@@ -127,6 +125,9 @@ fn is_same_text(a: &[u8], b: &[u8]) -> bool
     if a.len() == 1 {
         return a[0] == b[0];
     }
+    if !a.is_empty() && a[a.len() - 1] != b[b.len() - 1] {
+        return false;
+    }
     is_same_long_text(a, b)
 }
 
@@ -135,31 +136,4 @@ fn is_same_long_text(a: &[u8], b: &[u8]) -> bool
     ensures { IsTrue result ↔ (a.now ≡ b.now) }
 {
     a == b
-}
-
-/// Returns the exponent of `a` minus that of `b`.
-#[inline(always)]
-pub fn exponents_apart(a: Scalar<'_>, b: Scalar<'_>) -> i128
-    ensures value { result ≡ exponent_of (scalar_data a.entry) -ℤ exponent_of (scalar_data b.entry) }
-    ensures small { IsWithin (signed_range 68) result }
-{
-    exponent_of(a) - exponent_of(b)
-}
-
-/// Returns the mantissa of `a` minus that of `b`.
-#[inline(always)]
-pub fn mantissas_apart(a: Scalar<'_>, b: Scalar<'_>) -> i128
-    ensures value { result ≡ mantissa_of (scalar_data a.entry) -ℤ mantissa_of (scalar_data b.entry) }
-    ensures small { IsWithin (signed_range 68) result }
-{
-    mantissa_of(a) - mantissa_of(b)
-}
-
-/// Returns the integer `a` minus the integer `b`.
-#[inline(always)]
-pub fn difference(a: Scalar<'_>, b: Scalar<'_>) -> i128
-    ensures value { result ≡ integer_of (scalar_data a.entry) -ℤ integer_of (scalar_data b.entry) }
-    ensures small { IsWithin (signed_range 68) result }
-{
-    integer_of(a) - integer_of(b)
 }

@@ -14,10 +14,11 @@ ghost use Rattle.fast_spelling.specs.meaning.Refusals.{RefusesField};
 ghost use Rattle.fast_spelling.specs.device.Usual.{IsNumber};
 
 use super::choices::choose_known;
-use super::held::{difference, held_in, held_number_in, is_initial, is_next, is_same};
+use super::held::{held_in, held_number_in, is_initial, is_next, is_same};
 use crate::draft::Draft;
 use crate::faults::EncodeFault;
-use crate::fields::{leave_out, send};
+use crate::fields::{keep, leave_out, note_range, send};
+use crate::items::write_apart;
 use crate::known::Known;
 use crate::ledger::Ledger;
 use fast_dict::Sent;
@@ -214,8 +215,10 @@ pub fn write_difference(
     match held_number_in(ledger, at, value) {
         None => choose_known(draft, ledger, at, value),
         Some(held) => {
-            let delta = Sent::IntegerDelta(difference(value, held));
-            send(draft, ledger, at, Operator::Delta, Some(value), true, delta)
+            note_range(held);
+            write_apart(&mut draft.bytes, at.nullable, value, held)?;
+            keep(ledger, at, Operator::Delta, Some(value))?;
+            Ok(())
         }
     }
 }

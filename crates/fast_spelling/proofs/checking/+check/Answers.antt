@@ -25,7 +25,7 @@ use Rattle.fast_spelling.specs.meaning.Suiting.{SuitsBody}
 use Rattle.fast_spelling.proofs.encodings.Instructions.{at_shape, usable_at, short_at, served, encodes_as, group_encodes, sequence_encodes}
 use Rattle.fast_spelling.proofs.limits.Depths.{item_depth, option_depth, slots_depth, rows_depth, option_depth_at, row_depth}
 use Rattle.fast_spelling.proofs.encodings.Progress.{written_start, more_at, all_written, IsClosed, ready_kept, keeps_on, keeps_all}
-use Rattle.fast_spelling.proofs.encodings.Progress.{row_more, rows_start, rows_done, has_bits, slots_last, on_handed_on}
+use Rattle.fast_spelling.proofs.encodings.Progress.{row_more, rows_start, rows_done, has_bits, slots_last, on_handed_on, mark_inside}
 use Rattle.fast_spelling.proofs.limits.Suited.{one_suits, no_slot_suits, no_row_suits}
 use Rattle.fast_spelling.proofs.limits.Checked.{accepted_as, one_fits, one_total, one_row_right, one_row_fits, one_row_total, no_row_fits, no_row_total, on_any}
 use Rattle.fast_spelling.proofs.encodings.Sealed.{sealed}
@@ -1486,7 +1486,7 @@ try_segment-returns-clause-ok t c =
     let new = c.try_body.new.work in
     on_both c.seal.result c.seal.ensures.ok c.seal.ensures.bits (λ closes same.
     let z = sealed l body (slots_data c.args.slots.now) c.args.work.now.ledger.now new.ledger.now a c.open.new.self new.draft
-    c.seal.new.self c.args.has_map _ kept.bytes c.open.ensures.bits wrote c.requires.map m closes (same ∙ kept.mark.1) in
+    c.seal.new.self c.args.has_map _ _ kept.bytes c.open.ensures.bits wrote c.requires.map m kept.mark.1 closes same in
     (z.bytes, z.bits_are, z.bytes_are, z.says))
 
 pub try_segment-returns-in_err-mark-clause-suits : goal.try_segment-returns-in_err-mark-clause-suits
@@ -1638,8 +1638,14 @@ map_has_room false m old mid new more at e f =
     let all = ap length f ∙ length-append mid more in
     omega (arith, at, kept, all)
 
-pub try_segment-seal-requires : goal.try_segment-seal-requires
-try_segment-seal-requires t c =
+pub try_segment-seal-requires-clause-bits : goal.try_segment-seal-requires-clause-bits
+try_segment-seal-requires-clause-bits t c =
+    let (bits, bytes, p, q, says) = c.if-not-try_body.ensures.ok refl in
+    mark_inside c.args.work.now.draft.bits bits c.try_body.new.work.draft.bits c.in_ok-mark.mark.bits
+    (p ∙ ap (λ (z : List Bool). z ++ bits) c.open.ensures.bits) c.in_ok-mark.ensures.mark.1
+
+pub try_segment-seal-requires-clause-bytes : goal.try_segment-seal-requires-clause-bytes
+try_segment-seal-requires-clause-bytes t c =
     let kept = c.in_ok-mark.ensures in
     let a = c.args.work.now.draft.bytes in
     let b = c.try_body.new.work.draft.bytes in

@@ -9,7 +9,7 @@ put_in_place l i a inside = let next : suc i ≡ i + 1 = omega arith in set_spli
 
 pub returns-in-Some : goal.returns-in-Some
 returns-in-Some c =
-    let known = c.requires in
+    let known = c.requires.place in
     let size = c.args.bytes.now.ok.0 in
-    let inside : c.args.place < length c.args.bytes.now.items = omega (arith, known, size) in
-    (c.in-Some.byte ∷ [], (c.in-Some.ensures.map, c.in-Some.ensures.bits), put_in_place c.args.bytes.now.items c.args.place c.in-Some.byte inside)
+    let inside : c.args.mark.bytes < length c.args.bytes.now.items = omega (arith, known, size) in
+    (c.in-Some.byte ∷ [], (c.in-Some.ensures.map, c.in-Some.ensures.bits), put_in_place c.args.bytes.now.items c.args.mark.bytes c.in-Some.byte inside)

@@ -20,14 +20,14 @@ put_pair p a b xs new low put =
     ∙ append_assoc front (b ∷ []) back ∙ append_assoc (take p xs) (a ∷ []) (b ∷ back)
 
 pub insert-requires : goal.insert-requires
-insert-requires c = let low = c.requires in omega (arith, low)
+insert-requires c = let low = c.requires.place in omega (arith, low)
 
 pub returns-in_ok-insert-in-Some : goal.returns-in_ok-insert-in-Some
 returns-in_ok-insert-in-Some c =
-    let known = c.requires in
+    let known = c.requires.place in
     let size = c.args.bytes.now.ok.0 in
-    let inside : c.args.place < length c.args.bytes.now.items = omega (arith, known, size) in (
+    let inside : c.args.mark.bytes < length c.args.bytes.now.items = omega (arith, known, size) in (
       c.in-Some.pair.0 ∷ c.in-Some.pair.1 ∷ [],
       (c.in-Some.ensures.map, c.in-Some.ensures.bits),
-      put_pair c.args.place c.in-Some.pair.0 c.in-Some.pair.1 c.args.bytes.now.items c.insert.new.bytes.items inside c.in_ok-insert-in-Some.ensures,
+      put_pair c.args.mark.bytes c.in-Some.pair.0 c.in-Some.pair.1 c.args.bytes.now.items c.insert.new.bytes.items inside c.in_ok-insert-in-Some.ensures,
     )

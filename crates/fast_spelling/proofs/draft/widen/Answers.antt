@@ -20,11 +20,11 @@ replaced p xs ys piece new low gone put =
     put ∙ ap (λ z. (z ++ piece) ++ drop p ys) t ∙ ap (λ z. (front ++ piece) ++ z) d ∙ append_assoc front piece back
 
 pub remove-requires : goal.remove-requires
-remove-requires c = c.requires
+remove-requires c = c.requires.place
 
 pub insert-requires : goal.insert-requires
 insert-requires c =
-    let place = c.requires in
+    let place = c.requires.place in
     let one_less = c.remove.ensures.len in
     omega (arith, place, one_less)
 
@@ -40,10 +40,10 @@ returns-in_err-insert-in-Some c = on_handed_on _ _ c.from_residual-in_err-insert
 pub returns-in_ok-insert-in-Some : goal.returns-in_ok-insert-in-Some
 returns-in_ok-insert-in-Some c =
     let b = c.args.bytes.now in
-    let p = c.args.place in
+    let p = c.args.mark.bytes in
     let piece = c.in-Some.map.items in
-    let set = c.args.presence.now in
-    let place = c.requires in
+    let set = (drop c.args.mark.bits c.args.presence.now) in
+    let place = c.requires.place in
     let old : vec_len b ≡ length b.items = b.ok.0 in
     let low : p < length b.items = omega (arith, place, old) in
     let ys = c.remove.new.self.items in

@@ -16,5 +16,6 @@ returns-then-number-ge-LONG_NUMBER c = on_ok c.write_long_signed.result c.write_
     ))
 
 pub returns : goal.returns
-returns c = on_ok c.push_natural.result c.push_natural.ensures
-    (λ h. (h.0, h.1, signed_means c.args.nullable (pos c.args.number) (pos c.raised.result) h.0 h.2 c.raised.ensures.meaning))
+returns c =
+    let h = c.push_natural.ensures in
+    (h.0, h.1, signed_means c.args.nullable (pos c.args.number) (pos c.raised.result) h.0 h.2 c.raised.ensures.meaning)

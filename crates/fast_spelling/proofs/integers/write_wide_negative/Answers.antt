@@ -16,10 +16,10 @@ returns-then-complement-ge-LONG_COMPLEMENT c = on_ok c.write_long_signed.result 
     ))
 
 pub returns : goal.returns
-returns c = on_ok c.push_negative.result c.push_negative.ensures
-    (λ h. (
+returns c =
+    let h = c.push_negative.ensures in (
       h.0,
       h.1,
       signed_means c.args.nullable (negsuc c.args.complement) (negsuc c.args.complement) h.0 h.2
           (negative_means c.args.nullable c.args.complement),
-    ))
+    )

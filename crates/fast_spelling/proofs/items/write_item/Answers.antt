@@ -26,10 +26,10 @@ returns-in_ok-write_delta_as-in-IntegerDelta-clause-ok c =
           (handed c.args.at.nullable c.in-IntegerDelta.delta h.0 (search rules) h.2)),
     )
 
-pub returns-in_ok-write_signed_as-in-DecimalDelta-2-clause-ok : goal.returns-in_ok-write_signed_as-in-DecimalDelta-2-clause-ok
-returns-in_ok-write_signed_as-in-DecimalDelta-2-clause-ok c =
-    let h = c.in_ok-write_signed_as-in-DecimalDelta.ensures in
-    let k = c.in_ok-write_signed_as-in-DecimalDelta-2.ensures in (
+pub returns-in_ok-write_delta_as-in-DecimalDelta-2-clause-ok : goal.returns-in_ok-write_delta_as-in-DecimalDelta-2-clause-ok
+returns-in_ok-write_delta_as-in-DecimalDelta-2-clause-ok c =
+    let h = c.in_ok-write_delta_as-in-DecimalDelta.ensures in
+    let k = c.in_ok-write_delta_as-in-DecimalDelta-2.ensures in (
       h.0 ++ k.0,
       k.1 ∙ ap (λ (w : List ℕ). w ++ k.0) h.1 ∙ append_assoc c.args.bytes.now.items h.0 k.0,
       subst (λ (x : Sent). SpellsItem (field_data (field_there c.args.at.place)) (sent_data x) (h.0 ++ k.0)) (sym c.in-DecimalDelta.is) (
@@ -42,9 +42,9 @@ returns-in_ok-write_signed_as-in-DecimalDelta-2-clause-ok c =
       ),
     )
 
-pub returns-in_ok-write_signed_as-in-TextDelta-clause-ok : goal.returns-in_ok-write_signed_as-in-TextDelta-clause-ok
-returns-in_ok-write_signed_as-in-TextDelta-clause-ok c =
-    let h = c.in_ok-write_signed_as-in-TextDelta.ensures in
+pub returns-in_ok-write_delta_as-in-TextDelta-clause-ok : goal.returns-in_ok-write_delta_as-in-TextDelta-clause-ok
+returns-in_ok-write_delta_as-in-TextDelta-clause-ok c =
+    let h = c.in_ok-write_delta_as-in-TextDelta.ensures in
     on_ok c.write_text.result c.write_text.ensures.ok (λ k. (
       h.0 ++ k.0,
       k.1 ∙ ap (λ (w : List ℕ). w ++ k.0) h.1 ∙ append_assoc c.args.bytes.now.items h.0 k.0,
@@ -62,12 +62,12 @@ pub write_delta_as-requires : goal.write_delta_as-requires
 write_delta_as-requires c = subst (IsWithin (signed_range 68)) (sym (to_z-of_z w128 c.in-IntegerDelta.delta (search rules)))
     (subst (λ (x : Sent). IsSendable (field_data (field_there c.args.at.place)) (sent_data x)) c.in-IntegerDelta.is c.requires)
 
-pub write_signed_as-requires : goal.write_signed_as-requires
-write_signed_as-requires c = subst (IsWithin (signed_range 68)) (sym (to_z-of_z w128 c.in-DecimalDelta.exponent (search rules)))
+pub write_delta_as-requires-in-DecimalDelta : goal.write_delta_as-requires-in-DecimalDelta
+write_delta_as-requires-in-DecimalDelta c = subst (IsWithin (signed_range 68)) (sym (to_z-of_z w128 c.in-DecimalDelta.exponent (search rules)))
     (subst (λ (x : Sent). IsSendable (field_data (field_there c.args.at.place)) (sent_data x)) c.in-DecimalDelta.is c.requires).0
 
-pub write_signed_as-requires-in-DecimalDelta : goal.write_signed_as-requires-in-DecimalDelta
-write_signed_as-requires-in-DecimalDelta c = subst (IsWithin (signed_range 68))
+pub write_delta_as-requires-in-DecimalDelta-2 : goal.write_delta_as-requires-in-DecimalDelta-2
+write_delta_as-requires-in-DecimalDelta-2 c = subst (IsWithin (signed_range 68))
     (sym (to_z-of_z w128 c.in-DecimalDelta.mantissa (search rules)))
     (subst (λ (x : Sent). IsSendable (field_data (field_there c.args.at.place)) (sent_data x)) c.in-DecimalDelta.is c.requires).1
 
@@ -81,31 +81,3 @@ write_text-requires c = subst (λ (k : Kind). IsSendablePart k c.in-TextDelta.pa
 
 pub from_residual-requires : goal.from_residual-requires
 from_residual-requires c κs = (λ a m. absurd (not-mem-nil m), (λ a m. absurd (not-mem-nil m), λ a m. absurd (not-mem-nil m)))
-
-pub branch-write_delta_as-requires : goal.branch-write_delta_as-requires
-branch-write_delta_as-requires c κs = (λ a m. absurd (not-mem-nil m), λ a m. absurd (not-mem-nil m))
-
-pub from_residual-requires-in_err-write_delta_as-in-IntegerDelta : goal.from_residual-requires-in_err-write_delta_as-in-IntegerDelta
-from_residual-requires-in_err-write_delta_as-in-IntegerDelta c κs =
-    (λ a m. absurd (not-mem-nil m), (λ a m. absurd (not-mem-nil m), λ a m. absurd (not-mem-nil m)))
-
-pub branch-write_signed_as-requires : goal.branch-write_signed_as-requires
-branch-write_signed_as-requires c κs = (λ a m. absurd (not-mem-nil m), λ a m. absurd (not-mem-nil m))
-
-pub from_residual-requires-in_err-write_signed_as-in-DecimalDelta : goal.from_residual-requires-in_err-write_signed_as-in-DecimalDelta
-from_residual-requires-in_err-write_signed_as-in-DecimalDelta c κs =
-    (λ a m. absurd (not-mem-nil m), (λ a m. absurd (not-mem-nil m), λ a m. absurd (not-mem-nil m)))
-
-pub branch-write_signed_as-requires-in-DecimalDelta : goal.branch-write_signed_as-requires-in-DecimalDelta
-branch-write_signed_as-requires-in-DecimalDelta c κs = (λ a m. absurd (not-mem-nil m), λ a m. absurd (not-mem-nil m))
-
-pub from_residual-requires-in_err-write_signed_as-in-DecimalDelta-2 : goal.from_residual-requires-in_err-write_signed_as-in-DecimalDelta-2
-from_residual-requires-in_err-write_signed_as-in-DecimalDelta-2 c κs =
-    (λ a m. absurd (not-mem-nil m), (λ a m. absurd (not-mem-nil m), λ a m. absurd (not-mem-nil m)))
-
-pub branch-write_signed_as-requires-in-TextDelta : goal.branch-write_signed_as-requires-in-TextDelta
-branch-write_signed_as-requires-in-TextDelta c κs = (λ a m. absurd (not-mem-nil m), λ a m. absurd (not-mem-nil m))
-
-pub from_residual-requires-in_err-write_signed_as-in-TextDelta : goal.from_residual-requires-in_err-write_signed_as-in-TextDelta
-from_residual-requires-in_err-write_signed_as-in-TextDelta c κs =
-    (λ a m. absurd (not-mem-nil m), (λ a m. absurd (not-mem-nil m), λ a m. absurd (not-mem-nil m)))

@@ -1,16 +1,16 @@
 -- A whole message, by its parts.
 use Rattle.std.proofs.Common.{ℕ, List, Vec, Global, ap, sym, subst, ◌∙◌}
-use Rattle.std.specs.Prelude.{length}
+use Rattle.std.specs.Prelude.{length, true, take, drop, OnOk}
 use Rattle.std.proofs.lemmas.Result.{err_from_is_err_and}
 use mathlib.Core.List.{not-mem-nil}
 use Rattle.fast_value.specs.meaning.Messages.{Slots}
 use Rattle.fast_value.specs.meaning.Views.{message_data, slots_data}
 use Rattle.fast_tree.specs.meaning.Nodes.{body_among}
 use Rattle.fast_template.specs.meaning.Flat.{nodes_of, tree_of}
-use Rattle.fast_spelling.specs.device.Drafts.{IsTold}
+use Rattle.fast_spelling.specs.device.Drafts.{IsTold, Closes}
 use Rattle.fast_spelling.specs.meaning.Encoding.{EncodesBody}
 use Rattle.fast_spelling.specs.device.Fields.{Wrote}
-use Rattle.fast_spelling.specs.meaning.Refusals.{RefusesBody, RefusesMessage}
+use Rattle.fast_spelling.specs.meaning.Refusals.{RefusesBody, RefusesMessage, HaveNoMap}
 use Rattle.fast_spelling.specs.meaning.Suiting.{SuitsBody}
 use Rattle.fast_spelling.proofs.encodings.Instructions.{told, told_at}
 use Rattle.fast_spelling.proofs.bytes.Spelling.{on_ok}
@@ -33,7 +33,7 @@ returns-in_err-write_body-clause-err c =
     let h = told_at (RefusesBody c.args.limits (body_among (nodes_of t) c.deref.result.now) c.reset_if.new.ledger.now
     (slots_data c.deref-2.result.now)) Q f c.in_err-write_body.ensures.err
     (λ r. body_refused t c.args.limits c.args.ledger.now.now c.write_identifier.new.ledger.now c.reset_if.new.ledger.now
-    (message_data c.args.message.now) c.args.id c.template-template.result.now c.mark-mark.new.self c.write_identifier.new.draft f
+    (message_data c.args.message.now) c.args.id c.template-template.result.now c.clear.new.self c.write_identifier.new.draft f
     c.template-template.ensures.found c.requires.known c.in_ok-write_identifier.ensures.ok c.reset_if.ensures.now
     (rw (sym c.deref-2.ensures.value) (rw (sym c.deref.ensures.value) r))) in
     rw p.1 (subst (IsTold Q) (sym p.2) h)
@@ -52,22 +52,26 @@ body_wrote c =
     c.in_ok-write_body.ensures.ok)
 
 pub returns-clause-ok : goal.returns-clause-ok
-returns-clause-ok c = on_ok c.close.result c.close.ensures.ok
+returns-clause-ok c = on_ok c.close.result
+    (subst (λ (k : ℕ). OnOk c.close.result (Closes true (take c.mark-mark.result.bytes c.write_body.new.draft.bytes.items)
+    (drop c.mark-mark.result.bytes c.write_body.new.draft.bytes.items) (drop k c.write_body.new.draft.bits) c.close.new.self.bytes.items))
+    (c.mark-mark.ensures.1 ∙ ap length c.clear.ensures.bits) c.close.ensures.ok)
     (message_written c.args.templates.now c.args.limits c.args.ledger.now.now c.write_identifier.new.ledger.now c.reset_if.new.ledger.now
     c.write_body.new.ledger.now (message_data c.args.message.now) c.args.id c.template-template.result.now
-    c.mark-mark.new.self c.write_identifier.new.draft c.write_body.new.draft c.mark-mark.result.bytes c.close.new.self.bytes.items
-    c.template-template.ensures.found c.requires.known c.mark-mark.ensures.bits
-    (ap (λ (b : Vec ℕ Global). b.items) c.mark-mark.ensures.bytes ∙ c.clear.ensures.bytes)
-    (c.mark-mark.ensures.mark.0 ∙ c.clear.new.self.bytes.ok.0 ∙ ap length c.clear.ensures.bytes)
+    c.clear.new.self c.write_identifier.new.draft c.write_body.new.draft c.mark-mark.result.bytes c.close.new.self.bytes.items
+    c.template-template.ensures.found c.requires.known c.clear.ensures.bits
+    c.clear.ensures.bytes
+    (c.mark-mark.ensures.0 ∙ c.clear.new.self.bytes.ok.0 ∙ ap length c.clear.ensures.bytes)
     c.in_ok-write_identifier.ensures.ok c.reset_if.ensures.now (body_wrote c))
 
 pub returns-clause-err : goal.returns-clause-err
 returns-clause-err c = told c.close.result c.close.ensures.err (λ e h.
     message_unmapped c.args.templates.now c.args.limits c.args.ledger.now.now c.write_identifier.new.ledger.now c.reset_if.new.ledger.now
     c.write_body.new.ledger.now (message_data c.args.message.now) c.args.id c.template-template.result.now
-    c.mark-mark.new.self c.write_identifier.new.draft c.write_body.new.draft e
-    c.template-template.ensures.found c.requires.known c.mark-mark.ensures.bits
-    c.in_ok-write_identifier.ensures.ok c.reset_if.ensures.now (body_wrote c) h.2 h.0)
+    c.clear.new.self c.write_identifier.new.draft c.write_body.new.draft e
+    c.template-template.ensures.found c.requires.known c.clear.ensures.bits
+    c.in_ok-write_identifier.ensures.ok c.reset_if.ensures.now (body_wrote c)
+    (subst (λ (k : ℕ). HaveNoMap (drop k c.write_body.new.draft.bits)) (c.mark-mark.ensures.1 ∙ ap length c.clear.ensures.bits) h.2) h.0)
 
 pub write_identifier-requires : goal.write_identifier-requires
 write_identifier-requires c = record { ready = c.requires.ready }

@@ -1,6 +1,6 @@
 -- Slots, groups and sequences are written as they are encoded.
 use Rattle.std.proofs.Common.{◌≡◌, ◌<◌, ◌≤◌, ◌+◌, ◌*◌, ℕ, List, inl, inr, get_or, length, ap, sym, subst, ◌∙◌, arith}
-use Rattle.std.specs.Prelude.{true, nat_lt, Option, Some, None, slice_index}
+use Rattle.std.specs.Prelude.{true, drop, nat_lt, Option, Some, None, slice_index}
 use Rattle.std.proofs.lemmas.Result.{err_from_is_err_and}
 use mathlib.Core.List.{not-mem-nil}
 use Rattle.fast_value.specs.declared.messages.Item.{Item}
@@ -414,14 +414,14 @@ write_item-returns-in_err-close-in-Sequence-Sequence-clause-err t c =
     let g = c.in_err-close-in-Sequence-Sequence.field-0.0 in
     let Q = Refuses c.args.limits i c.args.ledger.now.now (Some (item_data c.args.item.now)) in
     let h = told_at (λ (e : EncodeFault). (e ≡ E3) × (nat_lt 0 c.segment_bits-in-loop-row.result ≡ true)
-    × HaveNoMap c.write_body-in-loop-row.new.draft.bits) Q g
+    × HaveNoMap (drop c.mark-mark-in-loop-row.result.bits c.write_body-in-loop-row.new.draft.bits)) Q g
     c.in_err-close-in-Sequence-Sequence.ensures.err
     (λ r. refuses_as c.args.limits i j (Some (item_data c.args.item.now)) y c.args.ledger.now.now g here item
     (elements_refuse c.args.limits at f body rows c.args.ledger.now.now after.ledger.now c.args.draft.now after.draft g first
     (rw whole at (row_refused c.args.limits body c.deref-row-items.result.now c.loop-row.row-index c.row-item.result c.loop-row-test.true
     c.row-item.is after.ledger.now after.draft c.loop-row.ledger.now c.loop-row.draft g inv.written
     (unclosed c.args.limits body (slots_data c.row-item.result.items) c.loop-row.ledger.now c.write_body-in-loop-row.new.ledger.now
-    c.mark-mark-in-loop-row.new.self c.write_body-in-loop-row.new.draft _ g c.mark-mark-in-loop-row.ensures.bits wrote has r))))) in
+    c.loop-row.draft c.write_body-in-loop-row.new.draft _ _ g c.mark-mark-in-loop-row.ensures.1 wrote has r))))) in
     rw p.1 (subst (IsTold Q) (sym p.2) h)
 
 pub write_item-returns-in_err-close-in-Sequence-Sequence-clause-keeps : goal.write_item-returns-in_err-close-in-Sequence-Sequence-clause-keeps
@@ -517,10 +517,10 @@ write_item-returns-in_ok-write_body-in-Group-Group-clause-ok t c =
     let has = has_bits nodes c.segment_bits.result v (Group c.in-Group-Group.optional c.in-Group-Group.body)
     (c.segment_bits.ensures v c.node.ensures.found) c.in-Group-Group.is-0 in
     let wrote = rw (c.deref.ensures.value, c.deref-in-Group-Group.ensures.value) at c.in_ok-write_body-in-Group-Group.ensures.ok in
-    let m = c.mark-mark.ensures.mark.0 ∙ c.push_bit_if.new.self.bytes.ok.0 in
+    let m = c.mark-mark.ensures.0 ∙ c.push_bit_if.new.self.bytes.ok.0 in
     on_both c.close.result c.close.ensures.ok c.close.ensures.bits (λ k e.
-    let z = closed c.args.limits body vs c.args.ledger.now.now c.write_body.new.ledger.now c.push_bit_if.new.self c.mark-mark.new.self c.write_body.new.draft
-    c.close.new.self _ _ c.mark-mark.ensures.bytes c.mark-mark.ensures.bits wrote has m k (e ∙ c.mark-mark.ensures.mark.1) in
+    let z = closed c.args.limits body vs c.args.ledger.now.now c.write_body.new.ledger.now c.push_bit_if.new.self c.write_body.new.draft
+    c.close.new.self _ _ _ wrote has m c.mark-mark.ensures.1 k e in
     encodes_as c.args.limits i j (Some (item_data c.args.item.now)) y c.args.ledger.now.now c.args.draft.now c.close.new.self
     c.write_body.new.ledger.now here item
     (group_encodes c.args.limits at c.in-Group-Group.optional body vs c.args.ledger.now.now c.args.draft.now c.push_bit_if.new.self
@@ -544,11 +544,11 @@ write_item-returns-in_ok-write_body-in-Group-Group-clause-err t c =
     let has = has_bits nodes c.segment_bits.result v (Group c.in-Group-Group.optional c.in-Group-Group.body)
     (c.segment_bits.ensures v c.node.ensures.found) c.in-Group-Group.is-0 in
     let wrote = rw (c.deref.ensures.value, c.deref-in-Group-Group.ensures.value) at c.in_ok-write_body-in-Group-Group.ensures.ok in
-    let m = c.mark-mark.ensures.mark.0 ∙ c.push_bit_if.new.self.bytes.ok.0 in
+    let m = c.mark-mark.ensures.0 ∙ c.push_bit_if.new.self.bytes.ok.0 in
     told c.close.result c.close.ensures.err (λ f k. refuses_as c.args.limits i j (Some (item_data c.args.item.now)) y c.args.ledger.now.now f here item
     (group_refuses c.args.limits at c.in-Group-Group.optional body vs c.args.ledger.now.now f
-    (unclosed c.args.limits body vs c.args.ledger.now.now c.write_body.new.ledger.now c.mark-mark.new.self c.write_body.new.draft _
-    f c.mark-mark.ensures.bits wrote has k)))
+    (unclosed c.args.limits body vs c.args.ledger.now.now c.write_body.new.ledger.now c.push_bit_if.new.self c.write_body.new.draft _
+    _ f c.mark-mark.ensures.1 wrote has k)))
 
 pub write_item-returns-after-loop-row-clause-ok : goal.write_item-returns-after-loop-row-clause-ok
 write_item-returns-after-loop-row-clause-ok t c =
@@ -602,11 +602,11 @@ write_item-loop-row-preserved t c =
     let has = has_bits nodes c.segment_bits-in-loop-row.result v (Sequence c.in-Sequence-Sequence.length c.in-Sequence-Sequence.body)
     (c.segment_bits-in-loop-row.ensures v c.node.ensures.found) c.in-Sequence-Sequence.is-0 in
     let wrote = rw (c.deref-in-loop-row.ensures.value, c.deref-in-loop-row-2.ensures.value) at c.in_ok-write_body-in-Sequence-Sequence.ensures.ok in
-    let m = c.mark-mark-in-loop-row.ensures.mark.0 ∙ c.loop-row.draft.bytes.ok.0 in
+    let m = c.mark-mark-in-loop-row.ensures.0 ∙ c.loop-row.draft.bytes.ok.0 in
     let z = closed c.args.limits body (slots_data c.row-item.result.items) c.loop-row.ledger.now c.write_body-in-loop-row.new.ledger.now
-    c.loop-row.draft c.mark-mark-in-loop-row.new.self c.write_body-in-loop-row.new.draft c.close-in-loop-row.new.self _ _
-    c.mark-mark-in-loop-row.ensures.bytes c.mark-mark-in-loop-row.ensures.bits wrote has m
-    c.in_ok-close-in-Sequence-Sequence.ensures.ok (c.in_ok-close-in-Sequence-Sequence.ensures.bits ∙ c.mark-mark-in-loop-row.ensures.mark.1) in
+    c.loop-row.draft c.write_body-in-loop-row.new.draft c.close-in-loop-row.new.self _ _ _
+    wrote has m c.mark-mark-in-loop-row.ensures.1
+    c.in_ok-close-in-Sequence-Sequence.ensures.ok c.in_ok-close-in-Sequence-Sequence.ensures.bits in
     record {
       written = row_more c.args.limits body c.deref-row-items.result.now c.loop-row.row-index c.row-item.result c.loop-row-test.true
           c.row-item.is after.ledger.now after.draft c.loop-row.ledger.now c.write_body-in-loop-row.new.ledger.now c.loop-row.draft

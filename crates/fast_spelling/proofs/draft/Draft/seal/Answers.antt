@@ -15,7 +15,7 @@ returns-clause-ok c =
     elim c.if-has_map.branch [
       | then-has_map+in_ok-put_kept_map w ↦
           let k = w.in_ok-put_kept_map.ensures in
-          let b = c.args.self.now.bits in
+          let b = drop c.args.mark.bits c.args.self.now.bits in
           let kept : place + 1 ≡ place + (if c.args.has_map then 1 else 0) = ap (λ (h : Bool). place + (if h then 1 else 0)) (sym w.if-has_map.true) in (
             k.0,
             subst (λ (h : Bool). ShortestMap h b k.0) (sym w.if-has_map.true) k.1,
@@ -25,7 +25,7 @@ returns-clause-ok c =
           let none : place ≡ place + 0 = omega arith in
           let kept : place ≡ place + (if c.args.has_map then 1 else 0) = none ∙ ap (λ (h : Bool). place + (if h then 1 else 0)) (sym w.if-has_map.false) in (
             [],
-            closes_without c.args.has_map c.args.self.now.bits w.if-has_map.false,
+            closes_without c.args.has_map (drop c.args.mark.bits c.args.self.now.bits) w.if-has_map.false,
             ap (λ (d : Draft). d.bytes.items) w.self-is ∙ sym (take-append-drop place old) ∙ ap (λ (n : ℕ). take place old ++ drop n old) kept,
           )
     ]
