@@ -17,7 +17,6 @@ use fast_machine::layout::has_long_initial;
 use fast_spelling::EncodeFault;
 use fast_spelling::checking::try_message;
 use fast_spelling::draft::Draft;
-use fast_spelling::forms::steps_of;
 use fast_spelling::ledger::Ledger;
 use fast_spelling::measuring::fits_limits;
 use fast_spelling::messages::write_message;
@@ -87,17 +86,13 @@ impl<'t> Encoder<'t> {
         if has_long_initial(templates, limits.max_text) {
             return Err(MakeError::InitialTooLong);
         }
-        let Ok(steps) = steps_of(alloc, templates) else {
+        let Ok(plan) = Plan::new(alloc, templates, limits) else {
             return Err(MakeError::Memory);
         };
         match Ledger::new(alloc, templates.entries() as usize, limits.max_text) {
             Err(_) => Err(MakeError::Memory),
             Ok(ledger) => Ok(Encoder {
-                plan: Plan {
-                    templates,
-                    limits,
-                    steps,
-                },
+                plan,
                 work: Work {
                     draft: Draft::new(alloc),
                     ledger,

@@ -15,13 +15,14 @@ ghost use Rattle.fast_tree.specs.meaning.Nodes.{body_among};
 ghost use Rattle.fast_spelling.specs.device.Checked.{IsAccepted};
 ghost use Rattle.fast_spelling.specs.meaning.Encoding.{Encodes, EncodesBody, EncodesMessage};
 ghost use Rattle.fast_spelling.specs.device.Fields.{Wrote, WroteSegment};
+ghost use Rattle.fast_spelling.specs.device.Forms.{body_steps, IsIn};
 ghost use Rattle.fast_spelling.specs.device.Nodes.{instruction_in, IsReady, Keeps};
 ghost use Rattle.fast_spelling.specs.meaning.Suiting.{IsKnownAs, SuitsTemplate, SuitsBody, FitsLimits, AreWithinLimits};
 ghost use Rattle.fast_tree.specs.meaning.Tree.{has_map as needs_map};
 
 use crate::faults::EncodeFault;
 use crate::fields::write_field;
-use crate::forms::Form;
+use crate::forms::{BodyStep, Form};
 use crate::messages::{reset_if, write_identifier};
 use crate::plan::{Plan, Work};
 use crate::suiting::has_slot_for_each;
@@ -65,7 +66,13 @@ pub fn try_message(
     )?;
     reset_if(template.reset, &mut work.ledger);
     work.room = plan.limits.max_total;
-    if !try_body(plan, &template.body, &message.items, work) {
+    if !try_body(
+        plan,
+        &template.body,
+        plan.root(message.template),
+        &message.items,
+        work,
+    ) {
         return Err(EncodeFault::E2);
     }
     work.draft.finish()
@@ -76,8 +83,15 @@ pub fn try_message(
 ///
 /// Returns false if anything was refused, with any fault; the draft is then unusable.
 #[cycle(check)]
-pub fn try_body(plan: &Plan<'_>, body: &[u32], slots: &[Option<Item>], work: &mut Work) -> bool
+pub fn try_body(
+    plan: &Plan<'_>,
+    body: &[u32],
+    steps: &[BodyStep],
+    slots: &[Option<Item>],
+    work: &mut Work,
+) -> bool
     requires nodes { AreBelow (length (nodes_of plan.now.templates.now)) body.now }
+    requires steps { steps.now ≡ body_steps (nodes_of plan.now.templates.now) body.now }
     requires ready { IsReady plan.now.templates.now plan.now.limits work.old.ledger }
     ensures suits { IsTrue result
         → (SuitsBody (body_among (nodes_of plan.now.templates.now) body.now) (slots_data slots.now)) }
@@ -93,74 +107,74 @@ pub fn try_body(plan: &Plan<'_>, body: &[u32], slots: &[Option<Item>], work: &mu
         return false;
     }
     for (i, slot) in slots.iter().enumerate() {
-        let node = body[i];
+        let here = &steps[i];
         let Some(item) = slot else {
-            if try_none(plan, node, work).is_err() {
+            if try_none(plan, here, work).is_err() {
                 return false;
             }
             continue;
         };
         let Item::One(value) = item else {
-            if !try_item(plan, node, item, work) {
+            if !try_item(plan, here, item, work) {
                 return false;
             }
             continue;
         };
-        let done = match form_at(plan, node) {
-            Form::PlainUInt32 => try_plain_unsigned(plan, node, Kind::UInt32, value, work),
-            Form::PlainInt32 => try_plain(plan, node, Kind::Int32, value, work),
-            Form::PlainUInt64 => try_plain_unsigned(plan, node, Kind::UInt64, value, work),
-            Form::PlainInt64 => try_plain(plan, node, Kind::Int64, value, work),
-            Form::ConstantUInt32 => try_constant(plan, node, Kind::UInt32, value, work),
-            Form::ConstantInt32 => try_constant(plan, node, Kind::Int32, value, work),
-            Form::ConstantUInt64 => try_constant(plan, node, Kind::UInt64, value, work),
-            Form::ConstantInt64 => try_constant(plan, node, Kind::Int64, value, work),
-            Form::DefaultUInt32 => try_default(plan, node, Kind::UInt32, value, work),
-            Form::DefaultInt32 => try_default(plan, node, Kind::Int32, value, work),
-            Form::DefaultUInt64 => try_default(plan, node, Kind::UInt64, value, work),
-            Form::DefaultInt64 => try_default(plan, node, Kind::Int64, value, work),
-            Form::CopyUInt32 => try_copied(plan, node, Kind::UInt32, value, work),
-            Form::CopyInt32 => try_copied(plan, node, Kind::Int32, value, work),
-            Form::CopyUInt64 => try_copied(plan, node, Kind::UInt64, value, work),
-            Form::CopyInt64 => try_copied(plan, node, Kind::Int64, value, work),
-            Form::IncrementUInt32 => try_next(plan, node, Kind::UInt32, value, work),
-            Form::IncrementInt32 => try_next(plan, node, Kind::Int32, value, work),
-            Form::IncrementUInt64 => try_next(plan, node, Kind::UInt64, value, work),
-            Form::IncrementInt64 => try_next(plan, node, Kind::Int64, value, work),
-            Form::DeltaUInt32 => try_difference(plan, node, Kind::UInt32, value, work),
-            Form::DeltaInt32 => try_difference(plan, node, Kind::Int32, value, work),
-            Form::DeltaUInt64 => try_difference(plan, node, Kind::UInt64, value, work),
-            Form::DeltaInt64 => try_difference(plan, node, Kind::Int64, value, work),
-            Form::PlainAscii => try_plain(plan, node, Kind::Ascii, value, work),
-            Form::ConstantAscii => try_constant(plan, node, Kind::Ascii, value, work),
-            Form::DefaultAscii => try_default(plan, node, Kind::Ascii, value, work),
-            Form::CopyAscii => try_copied_other(plan, node, Kind::Ascii, value, work),
-            Form::TailAscii => try_chosen(plan, node, Kind::Ascii, Operator::Tail, value, work),
-            Form::DeltaAscii => try_chosen(plan, node, Kind::Ascii, Operator::Delta, value, work),
-            Form::PlainUnicode => try_plain(plan, node, Kind::Unicode, value, work),
+        let done = match form_at(plan, here) {
+            Form::PlainUInt32 => try_plain_unsigned(plan, here, Kind::UInt32, value, work),
+            Form::PlainInt32 => try_plain(plan, here, Kind::Int32, value, work),
+            Form::PlainUInt64 => try_plain_unsigned(plan, here, Kind::UInt64, value, work),
+            Form::PlainInt64 => try_plain(plan, here, Kind::Int64, value, work),
+            Form::ConstantUInt32 => try_constant(plan, here, Kind::UInt32, value, work),
+            Form::ConstantInt32 => try_constant(plan, here, Kind::Int32, value, work),
+            Form::ConstantUInt64 => try_constant(plan, here, Kind::UInt64, value, work),
+            Form::ConstantInt64 => try_constant(plan, here, Kind::Int64, value, work),
+            Form::DefaultUInt32 => try_default(plan, here, Kind::UInt32, value, work),
+            Form::DefaultInt32 => try_default(plan, here, Kind::Int32, value, work),
+            Form::DefaultUInt64 => try_default(plan, here, Kind::UInt64, value, work),
+            Form::DefaultInt64 => try_default(plan, here, Kind::Int64, value, work),
+            Form::CopyUInt32 => try_copied(plan, here, Kind::UInt32, value, work),
+            Form::CopyInt32 => try_copied(plan, here, Kind::Int32, value, work),
+            Form::CopyUInt64 => try_copied(plan, here, Kind::UInt64, value, work),
+            Form::CopyInt64 => try_copied(plan, here, Kind::Int64, value, work),
+            Form::IncrementUInt32 => try_next(plan, here, Kind::UInt32, value, work),
+            Form::IncrementInt32 => try_next(plan, here, Kind::Int32, value, work),
+            Form::IncrementUInt64 => try_next(plan, here, Kind::UInt64, value, work),
+            Form::IncrementInt64 => try_next(plan, here, Kind::Int64, value, work),
+            Form::DeltaUInt32 => try_difference(plan, here, Kind::UInt32, value, work),
+            Form::DeltaInt32 => try_difference(plan, here, Kind::Int32, value, work),
+            Form::DeltaUInt64 => try_difference(plan, here, Kind::UInt64, value, work),
+            Form::DeltaInt64 => try_difference(plan, here, Kind::Int64, value, work),
+            Form::PlainAscii => try_plain(plan, here, Kind::Ascii, value, work),
+            Form::ConstantAscii => try_constant(plan, here, Kind::Ascii, value, work),
+            Form::DefaultAscii => try_default(plan, here, Kind::Ascii, value, work),
+            Form::CopyAscii => try_copied_other(plan, here, Kind::Ascii, value, work),
+            Form::TailAscii => try_chosen(plan, here, Kind::Ascii, Operator::Tail, value, work),
+            Form::DeltaAscii => try_chosen(plan, here, Kind::Ascii, Operator::Delta, value, work),
+            Form::PlainUnicode => try_plain(plan, here, Kind::Unicode, value, work),
             Form::DeltaUnicode => try_chosen(
                 plan,
-                node,
+                here,
                 Kind::Unicode,
                 Operator::Delta,
                 value,
                 work,
             ),
-            Form::PlainBytes => try_plain(plan, node, Kind::Bytes, value, work),
-            Form::TailBytes => try_chosen(plan, node, Kind::Bytes, Operator::Tail, value, work),
-            Form::PlainDecimal => try_plain(plan, node, Kind::Decimal, value, work),
-            Form::CopyDecimal => try_copied_other(plan, node, Kind::Decimal, value, work),
+            Form::PlainBytes => try_plain(plan, here, Kind::Bytes, value, work),
+            Form::TailBytes => try_chosen(plan, here, Kind::Bytes, Operator::Tail, value, work),
+            Form::PlainDecimal => try_plain(plan, here, Kind::Decimal, value, work),
+            Form::CopyDecimal => try_copied_other(plan, here, Kind::Decimal, value, work),
             Form::DeltaDecimal => try_chosen(
                 plan,
-                node,
+                here,
                 Kind::Decimal,
                 Operator::Delta,
                 value,
                 work,
             ),
-            Form::DefaultParts => try_parts(plan, node, Operator::Default, value, work),
-            Form::CopyParts => try_parts(plan, node, Operator::Copy, value, work),
-            Form::Other => try_other(plan, node, value, work),
+            Form::DefaultParts => try_parts(plan, here, Operator::Default, value, work),
+            Form::CopyParts => try_parts(plan, here, Operator::Copy, value, work),
+            Form::Other => try_other(plan, here, value, work),
         };
         if done.is_err() {
             return false;
@@ -172,24 +186,24 @@ pub fn try_body(plan: &Plan<'_>, body: &[u32], slots: &[Option<Item>], work: &mu
 /// Writes a group or a sequence of a node's instruction. Returns false if anything was refused; the draft is then unusable.
 #[cycle(check)]
 #[inline(never)]
-fn try_item(plan: &Plan<'_>, node: u32, item: &Item, work: &mut Work) -> bool
-    requires node { node < length (nodes_of plan.now.templates.now) }
+fn try_item(plan: &Plan<'_>, here: &BodyStep, item: &Item, work: &mut Work) -> bool
+    requires node { IsIn (nodes_of plan.now.templates.now) here.now }
     requires ready { IsReady plan.now.templates.now plan.now.limits work.old.ledger }
     ensures accepted { IsTrue result
-        → IsAccepted plan.now.limits (instruction_in (nodes_of plan.now.templates.now) node) (Some (item_data item.now))
+        → IsAccepted plan.now.limits (instruction_in (nodes_of plan.now.templates.now) here.now.node) (Some (item_data item.now))
         work.old.room work.new.room }
     ensures ok { IsTrue result
-        → Wrote (Encodes plan.now.limits (instruction_in (nodes_of plan.now.templates.now) node) work.old.ledger.now
+        → Wrote (Encodes plan.now.limits (instruction_in (nodes_of plan.now.templates.now) here.now.node) work.old.ledger.now
         (Some (item_data item.now))) work.old.draft work.new.draft work.new.ledger.now }
     ensures keeps { Keeps work.old.ledger work.new.ledger }
 {
-    match (&plan.templates.node(node).shape, item) {
+    match (&plan.templates.node(here.node).shape, item) {
         (Shape::Group { optional, body }, Item::Group(slots)) => {
             if work.draft.push_bit_if(*optional, true).is_err() {
                 return false;
             }
-            let has_map = plan.templates.segment_bits(node) > 0;
-            try_segment(plan, has_map, body, slots, work).is_ok()
+            let has_map = plan.templates.segment_bits(here.node) > 0;
+            try_segment(plan, has_map, body, plan.body(here.node), slots, work).is_ok()
         }
         (Shape::Sequence { length, body }, Item::Sequence(rows)) => {
             if rows.len() > plan.limits.max_elements as usize || rows.len() > work.room as usize {
@@ -199,10 +213,11 @@ fn try_item(plan: &Plan<'_>, node: u32, item: &Item, work: &mut Work) -> bool
             if write_field(&mut work.draft, &mut work.ledger, length, count).is_err() {
                 return false;
             }
-            let has_map = plan.templates.segment_bits(node) > 0;
+            let has_map = plan.templates.segment_bits(here.node) > 0;
             work.room -= rows.len() as u32;
+            let steps = plan.body(here.node);
             for row in rows {
-                if try_segment(plan, has_map, body, row, work).is_err() {
+                if try_segment(plan, has_map, body, steps, row, work).is_err() {
                     return false;
                 }
             }
@@ -219,11 +234,13 @@ fn try_segment(
     plan: &Plan<'_>,
     has_map: bool,
     body: &[u32],
+    steps: &[BodyStep],
     slots: &[Option<Item>],
     work: &mut Work,
 ) -> Result<(), EncodeFault>
     requires map { has_map ≡ needs_map (body_among (nodes_of plan.now.templates.now) body.now) }
     requires nodes { AreBelow (length (nodes_of plan.now.templates.now)) body.now }
+    requires steps { steps.now ≡ body_steps (nodes_of plan.now.templates.now) body.now }
     requires ready { IsReady plan.now.templates.now plan.now.limits work.old.ledger }
     ensures suits { OnOk result
         (SuitsBody (body_among (nodes_of plan.now.templates.now) body.now) (slots_data slots.now)) }
@@ -236,7 +253,7 @@ fn try_segment(
     ensures keeps { Keeps work.old.ledger work.new.ledger }
 {
     let mark = work.draft.open(has_map)?;
-    if !try_body(plan, body, slots, work) {
+    if !try_body(plan, body, steps, slots, work) {
         return Err(EncodeFault::E2);
     }
     work.draft.seal(mark, has_map)

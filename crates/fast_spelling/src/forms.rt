@@ -1,10 +1,12 @@
 //! Forms: the type and the operator of a node's field as one number, by which the encoder selects its code, and what the absence of a node
 //! writes.
 
-ghost use Rattle.std.specs.Prelude.{◌≡◌, IfOk};
+ghost use Rattle.std.specs.Prelude.{◌≡◌, ◌<◌, Some, length, slice_get, IfOk};
 ghost use Rattle.fast_value.specs.declared.kinds.Kind.TheVariants.{UInt32, Int32, UInt64, Int64, Decimal, Ascii, Unicode, Bytes};
-ghost use Rattle.fast_template.specs.meaning.Flat.{nodes_of};
-ghost use Rattle.fast_spelling.specs.device.Forms.{form_by, parts_by, absence_by, step_by, step_of, steps_of};
+ghost use Rattle.fast_tree.specs.declared.instructions.Node.{Node};
+ghost use Rattle.fast_tree.specs.meaning.Numbers.{AreBelow, numbers_of};
+ghost use Rattle.fast_template.specs.meaning.Flat.{nodes_of, templates_of};
+ghost use Rattle.fast_spelling.specs.device.Forms.{form_by, parts_by, absence_by, step_by, step_of, body_steps, AreBodies, AreRoots};
 
 use fast_template::{FieldInstruction, Operator, Shape, Templates};
 use fast_value::Kind;
@@ -330,17 +332,74 @@ impl Step {
     }
 }
 
-/// Returns the steps of all nodes of a set, by node number.
+/// A step of a body: the number of a node, and its step.
+#[derive(Clone, Copy, Debug)]
+pub struct BodyStep {
+    /// The number of the node.
+    pub node: u32,
+    /// Its step.
+    pub step: Step,
+}
+
+/// Returns the steps of the nodes of a body.
+fn steps_along(
+    alloc: Global,
+    templates: &Templates,
+    body: &[u32],
+) -> Result<Vec<BodyStep>, AllocError>
+    requires { AreBelow (length (nodes_of templates.now)) body.now }
+    ensures { IfOk result (λ v. v.items ≡ body_steps (nodes_of templates.now) body.now) }
+{
+    let mut steps = Vec::with_capacity(alloc, body.len())?;
+    for i in 0..body.len() {
+        let node = body[i];
+        steps.push(BodyStep {
+            node,
+            step: Step::of(&templates.node(node).shape),
+        })?;
+    }
+    Ok(steps)
+}
+
+/// Returns the steps of the body of a node; none if it has no body.
+fn node_steps(alloc: Global, templates: &Templates, node: u32) -> Result<Vec<BodyStep>, AllocError>
+    requires { node < length (nodes_of templates.now) }
+    ensures { IfOk result (λ v. (x : Node) → slice_get (nodes_of templates.now) node ≡ Some x
+        → v.items ≡ body_steps (nodes_of templates.now) (numbers_of x.shape)) }
+{
+    match &templates.node(node).shape {
+        Shape::Field(_) | Shape::Decimal { .. } => Ok(Vec::new(alloc)),
+        Shape::Group { body, .. } => steps_along(alloc, templates, body),
+        Shape::Sequence { body, .. } => steps_along(alloc, templates, body),
+    }
+}
+
+/// Returns the steps of the bodies of all nodes, by node number.
 ///
 /// # Errors
 ///
 /// An allocation failed.
-pub fn steps_of(alloc: Global, templates: &Templates) -> Result<Vec<Step>, AllocError>
-    ensures { IfOk result (λ v. v.items ≡ steps_of (nodes_of templates.now)) }
+pub fn bodies_of(alloc: Global, templates: &Templates) -> Result<Vec<Vec<BodyStep>>, AllocError>
+    ensures { IfOk result (λ v. AreBodies (nodes_of templates.now) v.items) }
 {
-    let mut steps = Vec::with_capacity(alloc, templates.nodes() as usize)?;
+    let mut bodies = Vec::with_capacity(alloc, templates.nodes() as usize)?;
     for node in 0..templates.nodes() {
-        steps.push(Step::of(&templates.node(node).shape))?;
+        bodies.push(node_steps(alloc, templates, node)?)?;
     }
-    Ok(steps)
+    Ok(bodies)
+}
+
+/// Returns the steps of the bodies of all templates, by template number.
+///
+/// # Errors
+///
+/// An allocation failed.
+pub fn roots_of(alloc: Global, templates: &Templates) -> Result<Vec<Vec<BodyStep>>, AllocError>
+    ensures { IfOk result (λ v. AreRoots (nodes_of templates.now) (templates_of templates.now) v.items) }
+{
+    let mut roots = Vec::with_capacity(alloc, templates.count() as usize)?;
+    for template in 0..templates.count() {
+        roots.push(steps_along(alloc, templates, &templates.template(template).body)?)?;
+    }
+    Ok(roots)
 }

@@ -1,8 +1,11 @@
 -- What the form of a node says of it.
-use Rattle.std.proofs.Common.{◌≡◌, ℕ, ◌+◌, ◌<◌, ◌++◌, ◌∷◌, [], ◌∙◌, refl, ap, sym, subst, arith, List, take, length}
-use Rattle.std.proofs.lemmas.List.{take_more, map-append, length-map}
-use Rattle.std.proofs.lemmas.Option.{slice_get_read, slice_get_within, get_or_from_slice_get}
-use Rattle.std.specs.Prelude.{true, false, Option, None, Some, is_some, unwrap_or, option_map, slice_get, get_or}
+use Rattle.std.proofs.Common.{◌≡◌, ◌⊎◌, inl, inr, ℕ, ◌+◌, ◌<◌, ◌≤◌, ◌++◌, ◌∷◌, [], ◌∙◌, refl, ap, sym, subst, arith, List, take, length}
+use Rattle.std.proofs.lemmas.List.{take_more, map-append, get_or-map, length-map}
+use Rattle.std.proofs.lemmas.Option.{slice_get_cases, slice_get_read, slice_get_within}
+use Rattle.std.specs.Prelude.{true, false, Option, None, Some, is_some, unwrap_or, map, option_map, slice_get, get_or, Result, Ok, Err, IfOk}
+use Rattle.std.specs.declared.vec.Vec.{Vec}
+use Rattle.std.specs.declared.alloc.Global.{Global}
+use Rattle.std.specs.declared.alloc.AllocError.{AllocError}
 use Rattle.std.proofs.lemmas.Option.{slice_get-map}
 use Rattle.fast_value.specs.declared.kinds.Kind.{Kind}
 use Rattle.fast_value.specs.declared.kinds.Kind.TheVariants.{UInt32, Int32, UInt64, Int64, Decimal as decimal, Ascii, Unicode, Bytes}
@@ -12,10 +15,10 @@ use Rattle.fast_tree.specs.declared.instructions.FieldInstruction.{FieldInstruct
 use Rattle.fast_tree.specs.declared.instructions.Node.{Node}
 use Rattle.fast_tree.specs.declared.instructions.Shape.{Shape}
 use Rattle.fast_tree.specs.declared.instructions.Shape.TheVariants.{Field, Decimal, Group, Sequence}
-use Rattle.fast_template.specs.meaning.Flat.{nodes_of}
-use Rattle.fast_spelling.specs.declared.plan.Plan.{Plan}
+use Rattle.fast_tree.specs.meaning.Numbers.{AreBelow, numbers_of}
 use Rattle.fast_spelling.specs.declared.forms.Step.{Step}
-use Rattle.fast_spelling.specs.device.Forms.{IsFieldOf, IsPartsOf, form_by, parts_by, step_of, steps_of, Says}
+use Rattle.fast_spelling.specs.declared.forms.BodyStep.{BodyStep}
+use Rattle.fast_spelling.specs.device.Forms.{IsFieldOf, IsPartsOf, form_by, parts_by, step_of, step_there, body_step, body_steps, IsIn, Says}
 use Rattle.fast_spelling.specs.device.Places.{field_of}
 
 -- a node that is a decimal by parts is one, and a node that is a field of some type and operator is a field
@@ -99,30 +102,38 @@ says (Sequence l b) = tt
 some_is : {A : Type 0} (x y : A) → Some x ≡ Some y → x ≡ y
 some_is x y e = cc
 
--- so what stands at a node's number among the steps is the node's
-pub step_at : (nodes : List Node) (n : ℕ) (c : Step) (x : Node) → slice_get (steps_of nodes) n ≡ Some c → slice_get nodes n ≡ Some x → c ≡ step_of x.shape
-step_at nodes n c x at found =
-    sym (some_is (step_of x.shape) c (sym (ap (option_map (λ (v : Node). step_of v.shape)) found)
-    ∙ sym (slice_get-map (λ (v : Node). step_of v.shape) nodes n) ∙ at))
+-- The step of a body is that of a node.
+pub step_here : (nodes : List Node) (s : BodyStep) → IsIn nodes s → (x : Node) × (slice_get nodes s.node ≡ Some x) × (step_of x.shape ≡ s.step)
+step_here nodes s (within, is) =
+    go (slice_get_cases nodes s.node).1
+  where
+    go : ((x : Node) × (s.node < length nodes) × (slice_get nodes s.node ≡ Some x) × (get_or nodes s.node x ≡ x))
+        ⊎ ((length nodes ≤ s.node) × (slice_get nodes s.node ≡ None)) → (x : Node) × (slice_get nodes s.node ≡ Some x) × (step_of x.shape ≡ s.step)
+    go (inl (x, inside, found, same)) = (x, found, sym (is ∙ ap step_there found))
+    go (inr (past, none)) = absurd (omega (arith, within, past))
 
-mapped : (o : Option Node) (c : Step) → option_map (λ (v : Node). step_of v.shape) o ≡ Some c → (x : Node) × (o ≡ Some x) × (step_of x.shape ≡ c)
-mapped None c e = absurd (cc e)
-mapped (Some x) c e = (x, refl, some_is (step_of x.shape) c e)
+-- so its form says what that is
+pub says_at : (nodes : List Node) (s : BodyStep) (x : Node) → IsIn nodes s → slice_get nodes s.node ≡ Some x → Says s.step.form x.shape
+says_at nodes s x (within, is) found = subst (λ (c : Step). Says c.form x.shape) (sym (is ∙ ap step_there found)) (says x.shape)
 
--- and there is such a node
-pub step_is : (nodes : List Node) (n : ℕ) (c : Step) → slice_get (steps_of nodes) n ≡ Some c → (x : Node) × (slice_get nodes n ≡ Some x) × (step_of x.shape ≡ c)
-step_is nodes n c at = mapped (slice_get nodes n) c (sym (slice_get-map (λ (v : Node). step_of v.shape) nodes n) ∙ at)
+-- the step at a place of a body
+pub step_in : (nodes : List Node) (body : List ℕ) (steps : List BodyStep) (i : ℕ) (none : BodyStep) → steps ≡ body_steps nodes body
+    → AreBelow (length nodes) body → i < length body → ((get_or steps i none).node ≡ get_or body i 0) × IsIn nodes (get_or steps i none)
+step_in nodes body steps i none same below within =
+    let s = get_or steps i none in
+    let is : s ≡ body_step nodes (get_or body i 0) = ap (λ (z : List BodyStep). get_or z i none) same ∙ get_or-map (body_step nodes) body i 0 none within in
+    let at : s.node ≡ get_or body i 0 = ap (λ (z : BodyStep). z.node) is in
+    let inside : s.node < length nodes = subst (λ (n : ℕ). n < length nodes) (sym at) (below i within) in
+    (at, (inside, ap (λ (z : BodyStep). z.step) is ∙ ap (λ (n : ℕ). step_there (slice_get nodes n)) (sym at)))
 
--- so is the one that a plan has for a node
-pub step_here : (plan : Plan) (n : ℕ) (c : Step) → n < length (nodes_of plan.templates.now) → c ≡ get_or plan.steps.items n c
-    → (x : Node) × (slice_get (nodes_of plan.templates.now) n ≡ Some x) × (step_of x.shape ≡ c)
-step_here plan n c within read =
-    let nodes = nodes_of plan.templates.now in
-    let same : plan.steps.items ≡ steps_of nodes = plan.steps_fit in
-    let long : length plan.steps.items ≡ length nodes = ap length same ∙ length-map nodes (λ (v : Node). step_of v.shape) in
-    let inside : n < length plan.steps.items = omega (arith, within, long) in
-    let there : slice_get plan.steps.items n ≡ Some c = slice_get_read plan.steps.items (length plan.steps.items) n c refl inside read in
-    step_is nodes n c (subst (λ (z : List Step). slice_get z n ≡ Some c) same there)
+-- a node more
+pub steps_more : (nodes : List Node) (body : List ℕ) (i : ℕ) (x : Node) → i < length body → slice_get nodes (get_or body i 0) ≡ Some x
+    → body_steps nodes (take i body) ++ record { node = get_or body i 0; step = step_of x.shape } ∷ [] ≡ body_steps nodes (take (i + 1) body)
+steps_more nodes body i x within found =
+    let n : ℕ = get_or body i 0 in
+    let here : record { node = n; step = step_of x.shape } ≡ body_step nodes n = ap (λ (o : Option Node). record { node = n; step = step_there o }) (sym found) in
+    ap (λ (z : BodyStep). body_steps nodes (take i body) ++ z ∷ []) here ∙ sym (map-append (body_step nodes) (take i body) (n ∷ []))
+    ∙ ap (body_steps nodes) (sym (take_more body i 0 within))
 
 -- an entry that is there, and one that is not
 pub entry_there : (o : Option ℕ) → is_some o ≡ true → o ≡ Some (unwrap_or o 0)
@@ -133,12 +144,34 @@ pub entry_missing : (o : Option ℕ) → is_some o ≡ false → o ≡ None
 entry_missing None e = refl
 entry_missing (Some n) e = absurd (cc e)
 
--- and its form says what the node is
-pub says_at : (nodes : List Node) (n : ℕ) (c : Step) (x : Node) → slice_get (steps_of nodes) n ≡ Some c → slice_get nodes n ≡ Some x → Says c.form x.shape
-says_at nodes n c x at found = subst (λ (z : Step). Says z.form x.shape) (sym (step_at nodes n c x at found)) (says x.shape)
+-- what is made of one element more
+pub mapped_more : {A B : Type 0} (f : A → B) (xs : List A) (n : ℕ) (ys : List B) (y : B) → n < length xs → ys ≡ map f (take n xs)
+    → ((x : A) → slice_get xs n ≡ Some x → y ≡ f x) → ys ++ y ∷ [] ≡ map f (take (n + 1) xs)
+mapped_more {A} {B} f xs n ys y within so_far next = go (slice_get_cases xs n).1
+  where
+    go : ((x : A) × (n < length xs) × (slice_get xs n ≡ Some x) × (get_or xs n x ≡ x)) ⊎ ((length xs ≤ n) × (slice_get xs n ≡ None))
+        → ys ++ y ∷ [] ≡ map f (take (n + 1) xs)
+    go (inl (x, inside, found, same)) =
+        ap (λ (z : List B). z ++ y ∷ []) so_far ∙ ap (λ (z : B). map f (take n xs) ++ z ∷ []) (next x found)
+        ∙ sym (ap (map f) (take_more xs n x inside) ∙ map-append f (take n xs) (get_or xs n x ∷ [])
+        ∙ ap (λ (z : A). map f (take n xs) ++ f z ∷ []) same)
+    go (inr (past, none)) = absurd (omega (arith, within, past))
 
-pub steps_more : (nodes : List Node) (n : ℕ) (x : Node) → slice_get nodes n ≡ Some x
-    → steps_of (take (n + 1) nodes) ≡ steps_of (take n nodes) ++ step_of x.shape ∷ []
-steps_more nodes n x found =
-    ap steps_of (take_more nodes n x (slice_get_within nodes n x found)) ∙ map-append (λ (v : Node). step_of v.shape) (take n nodes) _
-    ∙ ap (λ (v : Node). steps_of (take n nodes) ++ step_of v.shape ∷ []) (get_or_from_slice_get nodes n x x found)
+-- what was made of the element at a place
+pub mapped_at : {A B C : Type 0} (g : A → C) (f : B → C) (xs : List A) (ys : List B) (n : ℕ) (x : A) (y : B) → map g xs ≡ map f ys
+    → x ≡ get_or xs n x → slice_get ys n ≡ Some y → g x ≡ f y
+mapped_at {A} {B} {C} g f xs ys n x y same read found =
+    let long : length xs ≡ length ys = sym (length-map xs g) ∙ ap length same ∙ length-map ys f in
+    let within : n < length ys = slice_get_within ys n y found in
+    let there : slice_get xs n ≡ Some x = slice_get_read xs (length xs) n x refl (omega (arith, within, long)) read in
+    let both : Some (g x) ≡ Some (f y) = sym (ap (option_map g) there) ∙ sym (slice_get-map g xs n) ∙ ap (λ (z : List C). slice_get z n) same
+    ∙ slice_get-map f ys n ∙ ap (option_map f) found in
+    some_is (g x) (f y) both
+
+-- the steps of the body that a node has
+pub steps_found : (nodes : List Node) (n : ℕ) (x : Node) (body : List ℕ) (r : Result (Vec BodyStep Global) AllocError) → slice_get nodes n ≡ Some x
+    → body ≡ numbers_of x.shape → IfOk r (λ v. v.items ≡ body_steps nodes body)
+    → IfOk r (λ v. (y : Node) → slice_get nodes n ≡ Some y → v.items ≡ body_steps nodes (numbers_of y.shape))
+steps_found nodes n x body (Ok v) found is h = λ y there.
+    h ∙ ap (body_steps nodes) (is ∙ ap (λ (z : Node). numbers_of z.shape) (some_is x y (sym found ∙ there)))
+steps_found nodes n x body (Err e) found is h = tt

@@ -1,6 +1,6 @@
 -- What is known of a set's node, and what its step says of its absence.
-use Rattle.std.proofs.Common.{◌≡◌, ◌<◌, ◌⊎◌, inl, inr, ℕ, [], ◌∷◌, refl, ap, sym, subst, ◌∙◌, length}
-use Rattle.std.specs.Prelude.{Bool, true, false, Option, Some, None, option_map, slice_get, get_or, unwrap_or}
+use Rattle.std.proofs.Common.{◌≡◌, ◌<◌, ◌⊎◌, inl, inr, ℕ, [], ◌∷◌, refl, ap, sym, subst, ◌∙◌, length, List}
+use Rattle.std.specs.Prelude.{Bool, true, false, Option, Some, None, option_map, slice_get, unwrap_or}
 use Rattle.fast_value.specs.declared.kinds.Kind.{Kind}
 use Rattle.fast_value.specs.declared.settings.Limits.{Limits}
 use Rattle.fast_value.specs.declared.values.Value.{Value}
@@ -25,7 +25,7 @@ use Rattle.fast_dict.specs.meaning.EntryTexts.{HasLongInitial, IsLongText}
 use Rattle.fast_dict.specs.meaning.Dictionary.{Dictionary, empty, assigned, previous_at, write_at}
 use Rattle.fast_spelling.specs.declared.forms.Absence.{Absence}
 use Rattle.fast_spelling.specs.declared.forms.Absence.TheVariants.{Refused, Null, Clear, ByEntry}
-use Rattle.fast_spelling.specs.device.Forms.{IsFieldOf, IsFieldAt, absence_by, head_of, step_of}
+use Rattle.fast_spelling.specs.device.Forms.{IsFieldOf, IsFieldAt, absence_by, head_of, step_of, IsIn}
 use Rattle.fast_spelling.specs.device.Nodes.{instruction_in, head_in}
 use Rattle.fast_spelling.specs.device.Usual.{IsFromEntry}
 use Rattle.fast_spelling.specs.meaning.Encoding.{Encodes}
@@ -34,6 +34,7 @@ use Rattle.fast_spelling.proofs.encodings.Instructions.{at_shape, usable_at, sho
 use Rattle.fast_spelling.proofs.limits.Suited.{suits_at}
 use Rattle.fast_spelling.proofs.rules.Absences.{SendsNull, null_written, clear_written, empty_written, kept_written}
 use Rattle.fast_spelling.specs.declared.forms.Step.{Step}
+use Rattle.fast_spelling.specs.declared.forms.BodyStep.{BodyStep}
 use Rattle.fast_spelling.specs.declared.plan.Plan.{Plan}
 use Rattle.fast_spelling.specs.device.Places.{field_of, is_field, field_in, has_field}
 use Rattle.fast_spelling.proofs.rules.FormsTold.{entry_there, step_here}
@@ -82,11 +83,11 @@ pub record IsFieldStep (plan : Plan) (n : ℕ) (k : Kind) (o : Operator) (c : St
   pub has : has_field (slice_get (nodes_of plan.templates.now) n) ≡ true
   pub step : step_of (Field field) ≡ c
 
-pub field_step : (plan : Plan) (n : ℕ) (k : Kind) (o : Operator) (c : Step) → n < length (nodes_of plan.templates.now)
-    → c ≡ get_or plan.steps.items n c → IsFieldAt (nodes_of plan.templates.now) n k o → IsFieldStep plan n k o c
-field_step plan n k o c within read form =
-    let x = step_here plan n c within read in
-    let f = field_known plan.templates.now n k o x.0 x.1 form in
+pub field_step : (plan : Plan) (s : BodyStep) (k : Kind) (o : Operator) → IsIn (nodes_of plan.templates.now) s
+    → IsFieldAt (nodes_of plan.templates.now) s.node k o → IsFieldStep plan s.node k o s.step
+field_step plan s k o here form =
+    let x = step_here (nodes_of plan.templates.now) s here in
+    let f = field_known plan.templates.now s.node k o x.0 x.1 form in
     let is : x.0.shape ≡ Field f.0 = f.1.shape x.0 x.1 in
     record {
       field = f.0;
@@ -133,11 +134,18 @@ node_known t n x found = that_node t n x x.shape refl found (t.nodes_name_later_
     (usable_shape t.entries (shape_data x.shape) (t.nodes_usable n x found))
 
 -- the node of a plan's step
-pub node_step : (plan : Plan) (n : ℕ) (c : Step) → n < length (nodes_of plan.templates.now) → c ≡ get_or plan.steps.items n c
-    → (s : Shape) × IsThatNode plan.templates.now n s × (step_of s ≡ c)
-node_step plan n c within read =
-    let x = step_here plan n c within read in
-    (x.0.shape, node_known plan.templates.now n x.0 x.1, x.2)
+pub node_step : (plan : Plan) (c : BodyStep) → IsIn (nodes_of plan.templates.now) c
+    → (s : Shape) × IsThatNode plan.templates.now c.node s × (step_of s ≡ c.step)
+node_step plan c here =
+    let x = step_here (nodes_of plan.templates.now) c here in
+    (x.0.shape, node_known plan.templates.now c.node x.0 x.1, x.2)
+
+-- the node of a step for whose absence the entry decides
+pub entry_step : (nodes : List Node) (s : BodyStep) → IsIn nodes s → s.step.absence ≡ ByEntry
+    → (x : Node) × (slice_get nodes s.node ≡ Some x) × ((step_of x.shape).absence ≡ ByEntry) × ((step_of x.shape).entry ≡ s.step.entry)
+entry_step nodes s here by_entry =
+    let x = step_here nodes s here in
+    (x.0, x.1, ap (λ (c : Step). c.absence) x.2 ∙ by_entry, ap (λ (c : Step). c.entry) x.2)
 
 -- what may be absent, and how
 nullable_by : (b : Bool) (o : Operator) (i : Option Value) → ¬ (absence_by b o i ≡ Refused) → b ≡ true

@@ -1,16 +1,21 @@
 -- What a form says of a node.
-use Rattle.std.specs.Prelude.{◌≡◌, ℕ, Bool, true, false, if◌then◌else◌, List, map, slice_get, Option, None, Some, unwrap_or}
+use Rattle.std.specs.Prelude.{◌≡◌, ◌<◌, ℕ, Bool, true, false, if◌then◌else◌, List, length, map, slice_get, Option, None, Some, unwrap_or}
+use Rattle.std.specs.declared.vec.Vec.{Vec}
+use Rattle.std.specs.declared.alloc.Global.{Global}
 use Rattle.fast_value.specs.declared.values.Value.{Value}
 use Rattle.fast_value.specs.declared.kinds.Kind.{Kind}
 use Rattle.fast_value.specs.declared.kinds.Kind.TheVariants.{UInt32, Int32, UInt64, Int64, Decimal as decimal, Ascii, Unicode, Bytes}
 use Rattle.fast_tree.specs.declared.operators.Operator.{Operator}
 use Rattle.fast_tree.specs.declared.operators.Operator.TheVariants.{None as no_operator, Constant, Default, Copy, Increment, Delta, Tail}
 use Rattle.fast_tree.specs.declared.instructions.Node.{Node}
+use Rattle.fast_tree.specs.declared.instructions.Template.{Template}
+use Rattle.fast_tree.specs.meaning.Numbers.{numbers_of}
 use Rattle.fast_tree.specs.declared.instructions.Shape.{Shape}
 use Rattle.fast_tree.specs.declared.instructions.FieldInstruction.{FieldInstruction}
 use Rattle.fast_tree.specs.declared.instructions.Shape.TheVariants.{Field, Decimal as Parts, Group, Sequence}
 use Rattle.fast_spelling.specs.declared.forms.Form.{Form}
 use Rattle.fast_spelling.specs.declared.forms.Step.{Step}
+use Rattle.fast_spelling.specs.declared.forms.BodyStep.{BodyStep}
 use Rattle.fast_spelling.specs.declared.forms.Absence.{Absence}
 use Rattle.fast_spelling.specs.declared.forms.Absence.TheVariants.{Refused, Null, Clear, ByEntry, Chosen}
 use Rattle.fast_spelling.specs.declared.forms.Form.TheVariants.{PlainUInt32, PlainInt32, PlainUInt64, PlainInt64, ConstantUInt32}
@@ -109,8 +114,28 @@ step_of (Group optional body) = record {
   entry = 0;
 }
 
-abbrev pub steps_of : List Node → List Step
-steps_of = map (λ x. step_of x.shape)
+-- so of the node with a number, if there is one
+abbrev pub step_there : Option Node → Step
+step_there (Some x) = step_of x.shape
+step_there None = record { form = Other; absence = Refused; nullable = false; entry = 0 }
+
+abbrev pub body_step : List Node → ℕ → BodyStep
+body_step nodes n = record { node = n; step = step_there (slice_get nodes n) }
+
+-- what is done at the nodes of a body
+abbrev pub body_steps : List Node → List ℕ → List BodyStep
+body_steps nodes = map (body_step nodes)
+
+-- The step of a body is that of a node.
+abbrev pub IsIn : List Node → BodyStep → Type 0
+IsIn nodes s = (s.node < length nodes) × (s.step ≡ step_there (slice_get nodes s.node))
+
+-- The steps of the bodies of all nodes, and of all templates.
+abbrev pub AreBodies : List Node → List (Vec BodyStep Global) → Type 0
+AreBodies nodes bodies = map (λ v. v.items) bodies ≡ map (λ x. body_steps nodes (numbers_of x.shape)) nodes
+
+abbrev pub AreRoots : List Node → List Template → List (Vec BodyStep Global) → Type 0
+AreRoots nodes templates roots = map (λ v. v.items) roots ≡ map (λ t. body_steps nodes t.body.items) templates
 
 -- the shape is a field of this type under this operator
 abbrev pub IsFieldOf : Kind → Operator → Shape → Type 0

@@ -5,7 +5,7 @@ ghost use Rattle.fast_value.specs.meaning.Messages.{one};
 ghost use Rattle.fast_template.specs.meaning.Flat.{nodes_of};
 ghost use Rattle.fast_spelling.specs.meaning.Encoding.{Encodes};
 ghost use Rattle.fast_spelling.specs.device.Fields.{Wrote};
-ghost use Rattle.fast_spelling.specs.device.Forms.{IsFieldAt, IsPartsAt};
+ghost use Rattle.fast_spelling.specs.device.Forms.{IsFieldAt, IsPartsAt, IsIn};
 ghost use Rattle.fast_spelling.specs.device.Usual.{IsOfNumbers};
 ghost use Rattle.fast_spelling.specs.device.Nodes.{instruction_in, IsReady, Keeps};
 ghost use Rattle.fast_spelling.specs.meaning.Suiting.{Suits};
@@ -17,6 +17,7 @@ use super::nodes::{field_at, known_at};
 use super::values::{may_be, right_decimal, right_number, right_unsigned, right_value};
 use crate::faults::EncodeFault;
 use crate::fields::write_field;
+use crate::forms::BodyStep;
 use crate::integers::write_unsigned_as;
 use crate::parts::write_decimal;
 use crate::plan::{Plan, Work};
@@ -31,19 +32,19 @@ use fast_value::{Kind, Scalar, Value};
 #[inline(always)]
 pub fn try_plain_unsigned(
     plan: &Plan<'_>,
-    node: u32,
+    here: &BodyStep,
     kind: Kind,
     value: &Value,
     work: &mut Work,
 ) -> Result<(), EncodeFault>
-    requires node { node < length (nodes_of plan.now.templates.now) }
-    requires form { IsFieldAt (nodes_of plan.now.templates.now) node kind no_operator }
+    requires node { IsIn (nodes_of plan.now.templates.now) here.now }
+    requires form { IsFieldAt (nodes_of plan.now.templates.now) here.now.node kind no_operator }
     requires ready { IsReady plan.now.templates.now plan.now.limits work.old.ledger }
     ensures suits { OnOk result
-        (Suits (instruction_in (nodes_of plan.now.templates.now) node) (Some (one (value_data value.now)))) }
+        (Suits (instruction_in (nodes_of plan.now.templates.now) here.now.node) (Some (one (value_data value.now)))) }
     ensures fits { OnOk result (length (text_of (value_data value.now)) ≤ plan.now.limits.max_text) }
     ensures ok { OnOk result
-        (Wrote (Encodes plan.now.limits (instruction_in (nodes_of plan.now.templates.now) node) work.old.ledger.now
+        (Wrote (Encodes plan.now.limits (instruction_in (nodes_of plan.now.templates.now) here.now.node) work.old.ledger.now
         (Some (one (value_data value.now)))) work.old.draft work.new.draft work.new.ledger.now) }
     ensures keeps { Keeps work.old.ledger work.new.ledger }
     ensures room { work.new.room ≡ work.old.room }
@@ -51,11 +52,7 @@ pub fn try_plain_unsigned(
     let Some(Scalar::U(number)) = right_unsigned(kind, value) else {
         return Err(EncodeFault::E2);
     };
-    write_unsigned_as(
-        &mut work.draft.bytes,
-        plan.steps[node as usize].nullable,
-        number,
-    )?;
+    write_unsigned_as(&mut work.draft.bytes, here.step.nullable, number)?;
     Ok(())
 }
 
@@ -63,24 +60,24 @@ pub fn try_plain_unsigned(
 #[inline(always)]
 pub fn try_plain(
     plan: &Plan<'_>,
-    node: u32,
+    here: &BodyStep,
     kind: Kind,
     value: &Value,
     work: &mut Work,
 ) -> Result<(), EncodeFault>
-    requires node { node < length (nodes_of plan.now.templates.now) }
-    requires form { IsFieldAt (nodes_of plan.now.templates.now) node kind no_operator }
+    requires node { IsIn (nodes_of plan.now.templates.now) here.now }
+    requires form { IsFieldAt (nodes_of plan.now.templates.now) here.now.node kind no_operator }
     requires ready { IsReady plan.now.templates.now plan.now.limits work.old.ledger }
     ensures suits { OnOk result
-        (Suits (instruction_in (nodes_of plan.now.templates.now) node) (Some (one (value_data value.now)))) }
+        (Suits (instruction_in (nodes_of plan.now.templates.now) here.now.node) (Some (one (value_data value.now)))) }
     ensures fits { OnOk result (length (text_of (value_data value.now)) ≤ plan.now.limits.max_text) }
     ensures ok { OnOk result
-        (Wrote (Encodes plan.now.limits (instruction_in (nodes_of plan.now.templates.now) node) work.old.ledger.now
+        (Wrote (Encodes plan.now.limits (instruction_in (nodes_of plan.now.templates.now) here.now.node) work.old.ledger.now
         (Some (one (value_data value.now)))) work.old.draft work.new.draft work.new.ledger.now) }
     ensures keeps { Keeps work.old.ledger work.new.ledger }
     ensures room { work.new.room ≡ work.old.room }
 {
-    let at = known_at(plan, node, kind, Operator::None);
+    let at = known_at(plan, here, kind, Operator::None);
     let Some(scalar) = right_value(plan.limits, kind, value) else {
         return Err(EncodeFault::E2);
     };
@@ -91,24 +88,24 @@ pub fn try_plain(
 #[inline(always)]
 pub fn try_constant(
     plan: &Plan<'_>,
-    node: u32,
+    here: &BodyStep,
     kind: Kind,
     value: &Value,
     work: &mut Work,
 ) -> Result<(), EncodeFault>
-    requires node { node < length (nodes_of plan.now.templates.now) }
-    requires form { IsFieldAt (nodes_of plan.now.templates.now) node kind Constant }
+    requires node { IsIn (nodes_of plan.now.templates.now) here.now }
+    requires form { IsFieldAt (nodes_of plan.now.templates.now) here.now.node kind Constant }
     requires ready { IsReady plan.now.templates.now plan.now.limits work.old.ledger }
     ensures suits { OnOk result
-        (Suits (instruction_in (nodes_of plan.now.templates.now) node) (Some (one (value_data value.now)))) }
+        (Suits (instruction_in (nodes_of plan.now.templates.now) here.now.node) (Some (one (value_data value.now)))) }
     ensures fits { OnOk result (length (text_of (value_data value.now)) ≤ plan.now.limits.max_text) }
     ensures ok { OnOk result
-        (Wrote (Encodes plan.now.limits (instruction_in (nodes_of plan.now.templates.now) node) work.old.ledger.now
+        (Wrote (Encodes plan.now.limits (instruction_in (nodes_of plan.now.templates.now) here.now.node) work.old.ledger.now
         (Some (one (value_data value.now)))) work.old.draft work.new.draft work.new.ledger.now) }
     ensures keeps { Keeps work.old.ledger work.new.ledger }
     ensures room { work.new.room ≡ work.old.room }
 {
-    let at = known_at(plan, node, kind, Operator::Constant);
+    let at = known_at(plan, here, kind, Operator::Constant);
     let Some(scalar) = right_value(plan.limits, kind, value) else {
         return Err(EncodeFault::E2);
     };
@@ -119,24 +116,24 @@ pub fn try_constant(
 #[inline(always)]
 pub fn try_default(
     plan: &Plan<'_>,
-    node: u32,
+    here: &BodyStep,
     kind: Kind,
     value: &Value,
     work: &mut Work,
 ) -> Result<(), EncodeFault>
-    requires node { node < length (nodes_of plan.now.templates.now) }
-    requires form { IsFieldAt (nodes_of plan.now.templates.now) node kind Default }
+    requires node { IsIn (nodes_of plan.now.templates.now) here.now }
+    requires form { IsFieldAt (nodes_of plan.now.templates.now) here.now.node kind Default }
     requires ready { IsReady plan.now.templates.now plan.now.limits work.old.ledger }
     ensures suits { OnOk result
-        (Suits (instruction_in (nodes_of plan.now.templates.now) node) (Some (one (value_data value.now)))) }
+        (Suits (instruction_in (nodes_of plan.now.templates.now) here.now.node) (Some (one (value_data value.now)))) }
     ensures fits { OnOk result (length (text_of (value_data value.now)) ≤ plan.now.limits.max_text) }
     ensures ok { OnOk result
-        (Wrote (Encodes plan.now.limits (instruction_in (nodes_of plan.now.templates.now) node) work.old.ledger.now
+        (Wrote (Encodes plan.now.limits (instruction_in (nodes_of plan.now.templates.now) here.now.node) work.old.ledger.now
         (Some (one (value_data value.now)))) work.old.draft work.new.draft work.new.ledger.now) }
     ensures keeps { Keeps work.old.ledger work.new.ledger }
     ensures room { work.new.room ≡ work.old.room }
 {
-    let at = known_at(plan, node, kind, Operator::Default);
+    let at = known_at(plan, here, kind, Operator::Default);
     let Some(scalar) = right_value(plan.limits, kind, value) else {
         return Err(EncodeFault::E2);
     };
@@ -147,25 +144,25 @@ pub fn try_default(
 #[inline(always)]
 pub fn try_copied(
     plan: &Plan<'_>,
-    node: u32,
+    here: &BodyStep,
     kind: Kind,
     value: &Value,
     work: &mut Work,
 ) -> Result<(), EncodeFault>
-    requires node { node < length (nodes_of plan.now.templates.now) }
-    requires form { IsFieldAt (nodes_of plan.now.templates.now) node kind Copy }
+    requires node { IsIn (nodes_of plan.now.templates.now) here.now }
+    requires form { IsFieldAt (nodes_of plan.now.templates.now) here.now.node kind Copy }
     requires ready { IsReady plan.now.templates.now plan.now.limits work.old.ledger }
     requires numbers { IsOfNumbers kind }
     ensures suits { OnOk result
-        (Suits (instruction_in (nodes_of plan.now.templates.now) node) (Some (one (value_data value.now)))) }
+        (Suits (instruction_in (nodes_of plan.now.templates.now) here.now.node) (Some (one (value_data value.now)))) }
     ensures fits { OnOk result (length (text_of (value_data value.now)) ≤ plan.now.limits.max_text) }
     ensures ok { OnOk result
-        (Wrote (Encodes plan.now.limits (instruction_in (nodes_of plan.now.templates.now) node) work.old.ledger.now
+        (Wrote (Encodes plan.now.limits (instruction_in (nodes_of plan.now.templates.now) here.now.node) work.old.ledger.now
         (Some (one (value_data value.now)))) work.old.draft work.new.draft work.new.ledger.now) }
     ensures keeps { Keeps work.old.ledger work.new.ledger }
     ensures room { work.new.room ≡ work.old.room }
 {
-    let at = known_at(plan, node, kind, Operator::Copy);
+    let at = known_at(plan, here, kind, Operator::Copy);
     let Some(scalar) = right_value(plan.limits, kind, value) else {
         return Err(EncodeFault::E2);
     };
@@ -176,24 +173,24 @@ pub fn try_copied(
 #[inline(always)]
 pub fn try_copied_other(
     plan: &Plan<'_>,
-    node: u32,
+    here: &BodyStep,
     kind: Kind,
     value: &Value,
     work: &mut Work,
 ) -> Result<(), EncodeFault>
-    requires node { node < length (nodes_of plan.now.templates.now) }
-    requires form { IsFieldAt (nodes_of plan.now.templates.now) node kind Copy }
+    requires node { IsIn (nodes_of plan.now.templates.now) here.now }
+    requires form { IsFieldAt (nodes_of plan.now.templates.now) here.now.node kind Copy }
     requires ready { IsReady plan.now.templates.now plan.now.limits work.old.ledger }
     ensures suits { OnOk result
-        (Suits (instruction_in (nodes_of plan.now.templates.now) node) (Some (one (value_data value.now)))) }
+        (Suits (instruction_in (nodes_of plan.now.templates.now) here.now.node) (Some (one (value_data value.now)))) }
     ensures fits { OnOk result (length (text_of (value_data value.now)) ≤ plan.now.limits.max_text) }
     ensures ok { OnOk result
-        (Wrote (Encodes plan.now.limits (instruction_in (nodes_of plan.now.templates.now) node) work.old.ledger.now
+        (Wrote (Encodes plan.now.limits (instruction_in (nodes_of plan.now.templates.now) here.now.node) work.old.ledger.now
         (Some (one (value_data value.now)))) work.old.draft work.new.draft work.new.ledger.now) }
     ensures keeps { Keeps work.old.ledger work.new.ledger }
     ensures room { work.new.room ≡ work.old.room }
 {
-    let at = known_at(plan, node, kind, Operator::Copy);
+    let at = known_at(plan, here, kind, Operator::Copy);
     let Some(scalar) = right_value(plan.limits, kind, value) else {
         return Err(EncodeFault::E2);
     };
@@ -204,25 +201,25 @@ pub fn try_copied_other(
 #[inline(always)]
 pub fn try_next(
     plan: &Plan<'_>,
-    node: u32,
+    here: &BodyStep,
     kind: Kind,
     value: &Value,
     work: &mut Work,
 ) -> Result<(), EncodeFault>
-    requires node { node < length (nodes_of plan.now.templates.now) }
-    requires form { IsFieldAt (nodes_of plan.now.templates.now) node kind Increment }
+    requires node { IsIn (nodes_of plan.now.templates.now) here.now }
+    requires form { IsFieldAt (nodes_of plan.now.templates.now) here.now.node kind Increment }
     requires ready { IsReady plan.now.templates.now plan.now.limits work.old.ledger }
     requires numbers { IsOfNumbers kind }
     ensures suits { OnOk result
-        (Suits (instruction_in (nodes_of plan.now.templates.now) node) (Some (one (value_data value.now)))) }
+        (Suits (instruction_in (nodes_of plan.now.templates.now) here.now.node) (Some (one (value_data value.now)))) }
     ensures fits { OnOk result (length (text_of (value_data value.now)) ≤ plan.now.limits.max_text) }
     ensures ok { OnOk result
-        (Wrote (Encodes plan.now.limits (instruction_in (nodes_of plan.now.templates.now) node) work.old.ledger.now
+        (Wrote (Encodes plan.now.limits (instruction_in (nodes_of plan.now.templates.now) here.now.node) work.old.ledger.now
         (Some (one (value_data value.now)))) work.old.draft work.new.draft work.new.ledger.now) }
     ensures keeps { Keeps work.old.ledger work.new.ledger }
     ensures room { work.new.room ≡ work.old.room }
 {
-    let at = known_at(plan, node, kind, Operator::Increment);
+    let at = known_at(plan, here, kind, Operator::Increment);
     let Some(scalar) = right_number(kind, value) else {
         return Err(EncodeFault::E2);
     };
@@ -233,25 +230,25 @@ pub fn try_next(
 #[inline(always)]
 pub fn try_difference(
     plan: &Plan<'_>,
-    node: u32,
+    here: &BodyStep,
     kind: Kind,
     value: &Value,
     work: &mut Work,
 ) -> Result<(), EncodeFault>
-    requires node { node < length (nodes_of plan.now.templates.now) }
-    requires form { IsFieldAt (nodes_of plan.now.templates.now) node kind Delta }
+    requires node { IsIn (nodes_of plan.now.templates.now) here.now }
+    requires form { IsFieldAt (nodes_of plan.now.templates.now) here.now.node kind Delta }
     requires ready { IsReady plan.now.templates.now plan.now.limits work.old.ledger }
     requires numbers { IsOfNumbers kind }
     ensures suits { OnOk result
-        (Suits (instruction_in (nodes_of plan.now.templates.now) node) (Some (one (value_data value.now)))) }
+        (Suits (instruction_in (nodes_of plan.now.templates.now) here.now.node) (Some (one (value_data value.now)))) }
     ensures fits { OnOk result (length (text_of (value_data value.now)) ≤ plan.now.limits.max_text) }
     ensures ok { OnOk result
-        (Wrote (Encodes plan.now.limits (instruction_in (nodes_of plan.now.templates.now) node) work.old.ledger.now
+        (Wrote (Encodes plan.now.limits (instruction_in (nodes_of plan.now.templates.now) here.now.node) work.old.ledger.now
         (Some (one (value_data value.now)))) work.old.draft work.new.draft work.new.ledger.now) }
     ensures keeps { Keeps work.old.ledger work.new.ledger }
     ensures room { work.new.room ≡ work.old.room }
 {
-    let at = known_at(plan, node, kind, Operator::Delta);
+    let at = known_at(plan, here, kind, Operator::Delta);
     let Some(scalar) = right_number(kind, value) else {
         return Err(EncodeFault::E2);
     };
@@ -262,25 +259,25 @@ pub fn try_difference(
 #[inline(always)]
 pub fn try_chosen(
     plan: &Plan<'_>,
-    node: u32,
+    here: &BodyStep,
     kind: Kind,
     operator: Operator,
     value: &Value,
     work: &mut Work,
 ) -> Result<(), EncodeFault>
-    requires node { node < length (nodes_of plan.now.templates.now) }
-    requires form { IsFieldAt (nodes_of plan.now.templates.now) node kind operator }
+    requires node { IsIn (nodes_of plan.now.templates.now) here.now }
+    requires form { IsFieldAt (nodes_of plan.now.templates.now) here.now.node kind operator }
     requires ready { IsReady plan.now.templates.now plan.now.limits work.old.ledger }
     ensures suits { OnOk result
-        (Suits (instruction_in (nodes_of plan.now.templates.now) node) (Some (one (value_data value.now)))) }
+        (Suits (instruction_in (nodes_of plan.now.templates.now) here.now.node) (Some (one (value_data value.now)))) }
     ensures fits { OnOk result (length (text_of (value_data value.now)) ≤ plan.now.limits.max_text) }
     ensures ok { OnOk result
-        (Wrote (Encodes plan.now.limits (instruction_in (nodes_of plan.now.templates.now) node) work.old.ledger.now
+        (Wrote (Encodes plan.now.limits (instruction_in (nodes_of plan.now.templates.now) here.now.node) work.old.ledger.now
         (Some (one (value_data value.now)))) work.old.draft work.new.draft work.new.ledger.now) }
     ensures keeps { Keeps work.old.ledger work.new.ledger }
     ensures room { work.new.room ≡ work.old.room }
 {
-    let field = field_at(plan, node, kind, operator);
+    let field = field_at(plan, here, kind, operator);
     let Some(scalar) = right_value(plan.limits, kind, value) else {
         return Err(EncodeFault::E2);
     };
@@ -291,19 +288,19 @@ pub fn try_chosen(
 #[inline(always)]
 pub fn try_parts(
     plan: &Plan<'_>,
-    node: u32,
+    here: &BodyStep,
     operator: Operator,
     value: &Value,
     work: &mut Work,
 ) -> Result<(), EncodeFault>
-    requires node { node < length (nodes_of plan.now.templates.now) }
-    requires form { IsPartsAt (nodes_of plan.now.templates.now) node operator }
+    requires node { IsIn (nodes_of plan.now.templates.now) here.now }
+    requires form { IsPartsAt (nodes_of plan.now.templates.now) here.now.node operator }
     requires ready { IsReady plan.now.templates.now plan.now.limits work.old.ledger }
     ensures suits { OnOk result
-        (Suits (instruction_in (nodes_of plan.now.templates.now) node) (Some (one (value_data value.now)))) }
+        (Suits (instruction_in (nodes_of plan.now.templates.now) here.now.node) (Some (one (value_data value.now)))) }
     ensures fits { OnOk result (length (text_of (value_data value.now)) ≤ plan.now.limits.max_text) }
     ensures ok { OnOk result
-        (Wrote (Encodes plan.now.limits (instruction_in (nodes_of plan.now.templates.now) node) work.old.ledger.now
+        (Wrote (Encodes plan.now.limits (instruction_in (nodes_of plan.now.templates.now) here.now.node) work.old.ledger.now
         (Some (one (value_data value.now)))) work.old.draft work.new.draft work.new.ledger.now) }
     ensures keeps { Keeps work.old.ledger work.new.ledger }
     ensures room { work.new.room ≡ work.old.room }
@@ -311,7 +308,7 @@ pub fn try_parts(
     let Some(_) = right_decimal(value) else {
         return Err(EncodeFault::E2);
     };
-    match &plan.templates.node(node).shape {
+    match &plan.templates.node(here.node).shape {
         Shape::Decimal { exponent, mantissa } => write_decimal(
             exponent,
             mantissa,
@@ -328,22 +325,22 @@ pub fn try_parts(
 #[inline(never)]
 pub fn try_other(
     plan: &Plan<'_>,
-    node: u32,
+    here: &BodyStep,
     value: &Value,
     work: &mut Work,
 ) -> Result<(), EncodeFault>
-    requires node { node < length (nodes_of plan.now.templates.now) }
+    requires node { IsIn (nodes_of plan.now.templates.now) here.now }
     requires ready { IsReady plan.now.templates.now plan.now.limits work.old.ledger }
     ensures suits { OnOk result
-        (Suits (instruction_in (nodes_of plan.now.templates.now) node) (Some (one (value_data value.now)))) }
+        (Suits (instruction_in (nodes_of plan.now.templates.now) here.now.node) (Some (one (value_data value.now)))) }
     ensures fits { OnOk result (length (text_of (value_data value.now)) ≤ plan.now.limits.max_text) }
     ensures ok { OnOk result
-        (Wrote (Encodes plan.now.limits (instruction_in (nodes_of plan.now.templates.now) node) work.old.ledger.now
+        (Wrote (Encodes plan.now.limits (instruction_in (nodes_of plan.now.templates.now) here.now.node) work.old.ledger.now
         (Some (one (value_data value.now)))) work.old.draft work.new.draft work.new.ledger.now) }
     ensures keeps { Keeps work.old.ledger work.new.ledger }
     ensures room { work.new.room ≡ work.old.room }
 {
-    match &plan.templates.node(node).shape {
+    match &plan.templates.node(here.node).shape {
         Shape::Field(field) => {
             if !may_be(plan.limits, field.kind, value) {
                 return Err(EncodeFault::E2);

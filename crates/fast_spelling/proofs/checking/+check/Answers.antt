@@ -1,7 +1,7 @@
 -- Slots, groups and sequences are written as they are encoded, and suit and fit.
 use Rattle.std.proofs.Common.{◌≡◌, ◌<◌, ◌≤◌, ◌+◌, ◌*◌, ◌++◌, ◌∷◌, [], ℕ, List, Bool, length, refl, ap, sym, subst, ◌∙◌, arith}
 use Rattle.std.specs.Prelude.{◌^◌, true, false, if◌then◌else◌, vec_len, Option, Some, None, option_map, Result, Ok, Err, OnOk, is_ok}
-use Rattle.std.proofs.lemmas.List.{length-append}
+use Rattle.std.proofs.lemmas.List.{length-append, length-map}
 use Rattle.fast_value.specs.declared.messages.Item.{Item}
 use Rattle.fast_value.specs.declared.settings.Limits.{Limits}
 use Rattle.fast_value.specs.meaning.Kinds.{ScalarData, U, text_of}
@@ -29,6 +29,11 @@ use Rattle.fast_spelling.proofs.encodings.Progress.{row_more, rows_start, rows_d
 use Rattle.fast_spelling.proofs.limits.Suited.{one_suits, no_slot_suits, no_row_suits}
 use Rattle.fast_spelling.proofs.limits.Checked.{accepted_as, one_fits, one_total, one_row_right, one_row_fits, one_row_total, no_row_fits, no_row_total, on_any}
 use Rattle.fast_spelling.proofs.encodings.Sealed.{sealed}
+use Rattle.fast_spelling.specs.declared.forms.BodyStep.{BodyStep}
+use Rattle.fast_spelling.specs.device.Forms.{body_step, body_steps}
+use Rattle.fast_spelling.specs.declared.forms.Form.TheVariants.{PlainUInt32}
+use Rattle.fast_spelling.specs.declared.forms.Absence.TheVariants.{Refused}
+use Rattle.fast_spelling.proofs.rules.FormsTold.{step_in}
 use Rattle.fast_spelling.specs.declared.faults.EncodeFault.{EncodeFault}
 use Rattle.fast_spelling.specs.declared.plan.Work.{Work}
 use Rattle.fast_spelling.specs.device.Checked.{IsAccepted}
@@ -53,6 +58,10 @@ use Rattle.fast_spelling.proofs.checking.+check.Goals.{try_body-in-TailBytes, tr
 use Rattle.fast_spelling.proofs.checking.+check.Goals.{try_body-in-DeltaDecimal, try_body-in-DefaultParts, try_body-in-CopyParts}
 use Rattle.fast_spelling.proofs.checking.+check.Goals.{try_body-in-Other}
 
+-- what an index past the end would read
+abbrev no_step : BodyStep
+no_step = record { node = 0; step = record { form = PlainUInt32; absence = Refused; nullable = false; entry = 0 } }
+
 pub try_body-loop-i-init : goal.try_body-loop-i-init
 try_body-loop-i-init t c =
     record {
@@ -75,7 +84,9 @@ try_body-try_item-requires t c =
     subst (λ (z : Option Item). option_depth (option_map item_data z) ≤ slots_depth (slots_data c.args.slots.now)) c.in-Some.is
     (option_depth_at c.args.slots.now i x c.loop-i-test.true c.index-slots-i.is) in
     let smaller : 4 * item_depth (item_data c.in-Some.item) < t = omega (arith, d, deep) in
-    (smaller, (c.requires.nodes i inside, c.loop-i.invariant.ready))
+    let stands = step_in (nodes_of c.args.plan.now.templates.now) c.args.body.now c.args.steps.now i no_step c.requires.steps
+    c.requires.nodes inside in
+    (smaller, (stands.1, c.loop-i.invariant.ready))
 
 on_both : {R E : Type 0} {P Q S : Type 0} (r : Result R E) → OnOk r P → OnOk r Q → (P → Q → S) → OnOk r S
 on_both (Ok x) p q f = f p q
@@ -112,8 +123,11 @@ try_body-loop-i-preserved-in_default t c =
     let good : is_ok c.try_none.result ≡ true = c.if-is_err.ensures.negation in
     let keeps : Keeps old.ledger new.ledger = c.try_none.ensures.keeps in
     let item : option_map item_data x ≡ None = ap (option_map item_data) c.in_default.is in
-    let accepted : IsAccepted l here None old.room new.room = (of_ok c.try_none.result c.try_none.ensures.suits good, c.try_none.ensures.room) in
-    let wrote = of_ok c.try_none.result c.try_none.ensures.ok good in
+    let stands = step_in nodes c.args.body.now c.args.steps.now i no_step c.requires.steps c.requires.nodes inside in
+    let accepted = subst (λ (n : ℕ). IsAccepted l (instruction_in nodes n) None old.room new.room) stands.0
+    (of_ok c.try_none.result c.try_none.ensures.suits good, c.try_none.ensures.room) in
+    let wrote = subst (λ (n : ℕ). Wrote (Encodes l (instruction_in nodes n) old.ledger.now None) old.draft new.draft new.ledger.now) stands.0
+    (of_ok c.try_none.result c.try_none.ensures.ok good) in
     let a : IsAccepted l here (option_map item_data x) old.room new.room =
     subst (λ (y : Option ItemData). IsAccepted l here y old.room new.room) (sym item) accepted in
     let ok : Wrote (Encodes l here old.ledger.now (option_map item_data x)) old.draft new.draft new.ledger.now =
@@ -143,8 +157,10 @@ try_body-loop-i-preserved-in_default-item t c =
     let k = c.if-not-try_item.ensures in
     let keeps : Keeps old.ledger new.ledger = c.try_item.ensures.keeps in
     let item : option_map item_data x ≡ Some (item_data c.in-Some.item) = ap (option_map item_data) c.in-Some.is in
-    let accepted : IsAccepted l here (Some (item_data c.in-Some.item)) old.room new.room = k.accepted refl in
-    let wrote = k.ok refl in
+    let stands = step_in nodes c.args.body.now c.args.steps.now i no_step c.requires.steps c.requires.nodes inside in
+    let y = Some (item_data c.in-Some.item) in
+    let accepted = subst (λ (n : ℕ). IsAccepted l (instruction_in nodes n) y old.room new.room) stands.0 (k.accepted refl) in
+    let wrote = subst (λ (n : ℕ). Wrote (Encodes l (instruction_in nodes n) old.ledger.now y) old.draft new.draft new.ledger.now) stands.0 (k.ok refl) in
     let a : IsAccepted l here (option_map item_data x) old.room new.room =
     subst (λ (y : Option ItemData). IsAccepted l here y old.room new.room) (sym item) accepted in
     let ok : Wrote (Encodes l here old.ledger.now (option_map item_data x)) old.draft new.draft new.ledger.now =
@@ -163,7 +179,8 @@ try_body-loop-i-preserved-in_default-item t c =
 -- Each arm is asked what the invariant, and the form that it is, say.
 pub try_body-try_plain_unsigned-done-requires-clause-node : goal.try_body-try_plain_unsigned-done-requires-clause-node
 try_body-try_plain_unsigned-done-requires-clause-node t c =
-    c.requires.nodes c.loop-i.i (omega (arith, c.if-not-has_slot_for_each.ensures.0 refl, c.loop-i-test.true))
+    (step_in (nodes_of c.args.plan.now.templates.now) c.args.body.now c.args.steps.now c.loop-i.i no_step c.requires.steps
+    c.requires.nodes (omega (arith, c.if-not-has_slot_for_each.ensures.0 refl, c.loop-i-test.true))).1
 
 pub try_body-try_plain_unsigned-done-requires-clause-form : goal.try_body-try_plain_unsigned-done-requires-clause-form
 try_body-try_plain_unsigned-done-requires-clause-form t c = c.in-PlainUInt32.ensures
@@ -172,7 +189,8 @@ pub try_body-try_plain_unsigned-done-requires-clause-ready : goal.try_body-try_p
 try_body-try_plain_unsigned-done-requires-clause-ready t c = c.loop-i.invariant.ready
 
 pub try_body-try_plain-done-requires-clause-node : goal.try_body-try_plain-done-requires-clause-node
-try_body-try_plain-done-requires-clause-node t c = c.requires.nodes c.loop-i.i (omega (arith, c.if-not-has_slot_for_each.ensures.0 refl, c.loop-i-test.true))
+try_body-try_plain-done-requires-clause-node t c = (step_in (nodes_of c.args.plan.now.templates.now) c.args.body.now c.args.steps.now c.loop-i.i no_step c.requires.steps
+    c.requires.nodes (omega (arith, c.if-not-has_slot_for_each.ensures.0 refl, c.loop-i-test.true))).1
 
 pub try_body-try_plain-done-requires-clause-form : goal.try_body-try_plain-done-requires-clause-form
 try_body-try_plain-done-requires-clause-form t c = c.in-PlainInt32.ensures
@@ -182,7 +200,8 @@ try_body-try_plain-done-requires-clause-ready t c = c.loop-i.invariant.ready
 
 pub try_body-try_plain_unsigned-done-requires-in-PlainUInt64-clause-node : goal.try_body-try_plain_unsigned-done-requires-in-PlainUInt64-clause-node
 try_body-try_plain_unsigned-done-requires-in-PlainUInt64-clause-node t c =
-    c.requires.nodes c.loop-i.i (omega (arith, c.if-not-has_slot_for_each.ensures.0 refl, c.loop-i-test.true))
+    (step_in (nodes_of c.args.plan.now.templates.now) c.args.body.now c.args.steps.now c.loop-i.i no_step c.requires.steps
+    c.requires.nodes (omega (arith, c.if-not-has_slot_for_each.ensures.0 refl, c.loop-i-test.true))).1
 
 pub try_body-try_plain_unsigned-done-requires-in-PlainUInt64-clause-form : goal.try_body-try_plain_unsigned-done-requires-in-PlainUInt64-clause-form
 try_body-try_plain_unsigned-done-requires-in-PlainUInt64-clause-form t c = c.in-PlainUInt64.ensures
@@ -192,7 +211,8 @@ try_body-try_plain_unsigned-done-requires-in-PlainUInt64-clause-ready t c = c.lo
 
 pub try_body-try_plain-done-requires-in-PlainInt64-clause-node : goal.try_body-try_plain-done-requires-in-PlainInt64-clause-node
 try_body-try_plain-done-requires-in-PlainInt64-clause-node t c =
-    c.requires.nodes c.loop-i.i (omega (arith, c.if-not-has_slot_for_each.ensures.0 refl, c.loop-i-test.true))
+    (step_in (nodes_of c.args.plan.now.templates.now) c.args.body.now c.args.steps.now c.loop-i.i no_step c.requires.steps
+    c.requires.nodes (omega (arith, c.if-not-has_slot_for_each.ensures.0 refl, c.loop-i-test.true))).1
 
 pub try_body-try_plain-done-requires-in-PlainInt64-clause-form : goal.try_body-try_plain-done-requires-in-PlainInt64-clause-form
 try_body-try_plain-done-requires-in-PlainInt64-clause-form t c = c.in-PlainInt64.ensures
@@ -201,7 +221,8 @@ pub try_body-try_plain-done-requires-in-PlainInt64-clause-ready : goal.try_body-
 try_body-try_plain-done-requires-in-PlainInt64-clause-ready t c = c.loop-i.invariant.ready
 
 pub try_body-try_constant-done-requires-clause-node : goal.try_body-try_constant-done-requires-clause-node
-try_body-try_constant-done-requires-clause-node t c = c.requires.nodes c.loop-i.i (omega (arith, c.if-not-has_slot_for_each.ensures.0 refl, c.loop-i-test.true))
+try_body-try_constant-done-requires-clause-node t c = (step_in (nodes_of c.args.plan.now.templates.now) c.args.body.now c.args.steps.now c.loop-i.i no_step c.requires.steps
+    c.requires.nodes (omega (arith, c.if-not-has_slot_for_each.ensures.0 refl, c.loop-i-test.true))).1
 
 pub try_body-try_constant-done-requires-clause-form : goal.try_body-try_constant-done-requires-clause-form
 try_body-try_constant-done-requires-clause-form t c = c.in-ConstantUInt32.ensures
@@ -211,7 +232,8 @@ try_body-try_constant-done-requires-clause-ready t c = c.loop-i.invariant.ready
 
 pub try_body-try_constant-done-requires-in-ConstantInt32-clause-node : goal.try_body-try_constant-done-requires-in-ConstantInt32-clause-node
 try_body-try_constant-done-requires-in-ConstantInt32-clause-node t c =
-    c.requires.nodes c.loop-i.i (omega (arith, c.if-not-has_slot_for_each.ensures.0 refl, c.loop-i-test.true))
+    (step_in (nodes_of c.args.plan.now.templates.now) c.args.body.now c.args.steps.now c.loop-i.i no_step c.requires.steps
+    c.requires.nodes (omega (arith, c.if-not-has_slot_for_each.ensures.0 refl, c.loop-i-test.true))).1
 
 pub try_body-try_constant-done-requires-in-ConstantInt32-clause-form : goal.try_body-try_constant-done-requires-in-ConstantInt32-clause-form
 try_body-try_constant-done-requires-in-ConstantInt32-clause-form t c = c.in-ConstantInt32.ensures
@@ -221,7 +243,8 @@ try_body-try_constant-done-requires-in-ConstantInt32-clause-ready t c = c.loop-i
 
 pub try_body-try_constant-done-requires-in-ConstantUInt64-clause-node : goal.try_body-try_constant-done-requires-in-ConstantUInt64-clause-node
 try_body-try_constant-done-requires-in-ConstantUInt64-clause-node t c =
-    c.requires.nodes c.loop-i.i (omega (arith, c.if-not-has_slot_for_each.ensures.0 refl, c.loop-i-test.true))
+    (step_in (nodes_of c.args.plan.now.templates.now) c.args.body.now c.args.steps.now c.loop-i.i no_step c.requires.steps
+    c.requires.nodes (omega (arith, c.if-not-has_slot_for_each.ensures.0 refl, c.loop-i-test.true))).1
 
 pub try_body-try_constant-done-requires-in-ConstantUInt64-clause-form : goal.try_body-try_constant-done-requires-in-ConstantUInt64-clause-form
 try_body-try_constant-done-requires-in-ConstantUInt64-clause-form t c = c.in-ConstantUInt64.ensures
@@ -231,7 +254,8 @@ try_body-try_constant-done-requires-in-ConstantUInt64-clause-ready t c = c.loop-
 
 pub try_body-try_constant-done-requires-in-ConstantInt64-clause-node : goal.try_body-try_constant-done-requires-in-ConstantInt64-clause-node
 try_body-try_constant-done-requires-in-ConstantInt64-clause-node t c =
-    c.requires.nodes c.loop-i.i (omega (arith, c.if-not-has_slot_for_each.ensures.0 refl, c.loop-i-test.true))
+    (step_in (nodes_of c.args.plan.now.templates.now) c.args.body.now c.args.steps.now c.loop-i.i no_step c.requires.steps
+    c.requires.nodes (omega (arith, c.if-not-has_slot_for_each.ensures.0 refl, c.loop-i-test.true))).1
 
 pub try_body-try_constant-done-requires-in-ConstantInt64-clause-form : goal.try_body-try_constant-done-requires-in-ConstantInt64-clause-form
 try_body-try_constant-done-requires-in-ConstantInt64-clause-form t c = c.in-ConstantInt64.ensures
@@ -240,7 +264,8 @@ pub try_body-try_constant-done-requires-in-ConstantInt64-clause-ready : goal.try
 try_body-try_constant-done-requires-in-ConstantInt64-clause-ready t c = c.loop-i.invariant.ready
 
 pub try_body-try_default-done-requires-clause-node : goal.try_body-try_default-done-requires-clause-node
-try_body-try_default-done-requires-clause-node t c = c.requires.nodes c.loop-i.i (omega (arith, c.if-not-has_slot_for_each.ensures.0 refl, c.loop-i-test.true))
+try_body-try_default-done-requires-clause-node t c = (step_in (nodes_of c.args.plan.now.templates.now) c.args.body.now c.args.steps.now c.loop-i.i no_step c.requires.steps
+    c.requires.nodes (omega (arith, c.if-not-has_slot_for_each.ensures.0 refl, c.loop-i-test.true))).1
 
 pub try_body-try_default-done-requires-clause-form : goal.try_body-try_default-done-requires-clause-form
 try_body-try_default-done-requires-clause-form t c = c.in-DefaultUInt32.ensures
@@ -250,7 +275,8 @@ try_body-try_default-done-requires-clause-ready t c = c.loop-i.invariant.ready
 
 pub try_body-try_default-done-requires-in-DefaultInt32-clause-node : goal.try_body-try_default-done-requires-in-DefaultInt32-clause-node
 try_body-try_default-done-requires-in-DefaultInt32-clause-node t c =
-    c.requires.nodes c.loop-i.i (omega (arith, c.if-not-has_slot_for_each.ensures.0 refl, c.loop-i-test.true))
+    (step_in (nodes_of c.args.plan.now.templates.now) c.args.body.now c.args.steps.now c.loop-i.i no_step c.requires.steps
+    c.requires.nodes (omega (arith, c.if-not-has_slot_for_each.ensures.0 refl, c.loop-i-test.true))).1
 
 pub try_body-try_default-done-requires-in-DefaultInt32-clause-form : goal.try_body-try_default-done-requires-in-DefaultInt32-clause-form
 try_body-try_default-done-requires-in-DefaultInt32-clause-form t c = c.in-DefaultInt32.ensures
@@ -260,7 +286,8 @@ try_body-try_default-done-requires-in-DefaultInt32-clause-ready t c = c.loop-i.i
 
 pub try_body-try_default-done-requires-in-DefaultUInt64-clause-node : goal.try_body-try_default-done-requires-in-DefaultUInt64-clause-node
 try_body-try_default-done-requires-in-DefaultUInt64-clause-node t c =
-    c.requires.nodes c.loop-i.i (omega (arith, c.if-not-has_slot_for_each.ensures.0 refl, c.loop-i-test.true))
+    (step_in (nodes_of c.args.plan.now.templates.now) c.args.body.now c.args.steps.now c.loop-i.i no_step c.requires.steps
+    c.requires.nodes (omega (arith, c.if-not-has_slot_for_each.ensures.0 refl, c.loop-i-test.true))).1
 
 pub try_body-try_default-done-requires-in-DefaultUInt64-clause-form : goal.try_body-try_default-done-requires-in-DefaultUInt64-clause-form
 try_body-try_default-done-requires-in-DefaultUInt64-clause-form t c = c.in-DefaultUInt64.ensures
@@ -270,7 +297,8 @@ try_body-try_default-done-requires-in-DefaultUInt64-clause-ready t c = c.loop-i.
 
 pub try_body-try_default-done-requires-in-DefaultInt64-clause-node : goal.try_body-try_default-done-requires-in-DefaultInt64-clause-node
 try_body-try_default-done-requires-in-DefaultInt64-clause-node t c =
-    c.requires.nodes c.loop-i.i (omega (arith, c.if-not-has_slot_for_each.ensures.0 refl, c.loop-i-test.true))
+    (step_in (nodes_of c.args.plan.now.templates.now) c.args.body.now c.args.steps.now c.loop-i.i no_step c.requires.steps
+    c.requires.nodes (omega (arith, c.if-not-has_slot_for_each.ensures.0 refl, c.loop-i-test.true))).1
 
 pub try_body-try_default-done-requires-in-DefaultInt64-clause-form : goal.try_body-try_default-done-requires-in-DefaultInt64-clause-form
 try_body-try_default-done-requires-in-DefaultInt64-clause-form t c = c.in-DefaultInt64.ensures
@@ -279,7 +307,8 @@ pub try_body-try_default-done-requires-in-DefaultInt64-clause-ready : goal.try_b
 try_body-try_default-done-requires-in-DefaultInt64-clause-ready t c = c.loop-i.invariant.ready
 
 pub try_body-try_copied-done-requires-clause-node : goal.try_body-try_copied-done-requires-clause-node
-try_body-try_copied-done-requires-clause-node t c = c.requires.nodes c.loop-i.i (omega (arith, c.if-not-has_slot_for_each.ensures.0 refl, c.loop-i-test.true))
+try_body-try_copied-done-requires-clause-node t c = (step_in (nodes_of c.args.plan.now.templates.now) c.args.body.now c.args.steps.now c.loop-i.i no_step c.requires.steps
+    c.requires.nodes (omega (arith, c.if-not-has_slot_for_each.ensures.0 refl, c.loop-i-test.true))).1
 
 pub try_body-try_copied-done-requires-clause-form : goal.try_body-try_copied-done-requires-clause-form
 try_body-try_copied-done-requires-clause-form t c = c.in-CopyUInt32.ensures
@@ -292,7 +321,8 @@ try_body-try_copied-done-requires-clause-numbers t c = tt
 
 pub try_body-try_copied-done-requires-in-CopyInt32-clause-node : goal.try_body-try_copied-done-requires-in-CopyInt32-clause-node
 try_body-try_copied-done-requires-in-CopyInt32-clause-node t c =
-    c.requires.nodes c.loop-i.i (omega (arith, c.if-not-has_slot_for_each.ensures.0 refl, c.loop-i-test.true))
+    (step_in (nodes_of c.args.plan.now.templates.now) c.args.body.now c.args.steps.now c.loop-i.i no_step c.requires.steps
+    c.requires.nodes (omega (arith, c.if-not-has_slot_for_each.ensures.0 refl, c.loop-i-test.true))).1
 
 pub try_body-try_copied-done-requires-in-CopyInt32-clause-form : goal.try_body-try_copied-done-requires-in-CopyInt32-clause-form
 try_body-try_copied-done-requires-in-CopyInt32-clause-form t c = c.in-CopyInt32.ensures
@@ -305,7 +335,8 @@ try_body-try_copied-done-requires-in-CopyInt32-clause-numbers t c = tt
 
 pub try_body-try_copied-done-requires-in-CopyUInt64-clause-node : goal.try_body-try_copied-done-requires-in-CopyUInt64-clause-node
 try_body-try_copied-done-requires-in-CopyUInt64-clause-node t c =
-    c.requires.nodes c.loop-i.i (omega (arith, c.if-not-has_slot_for_each.ensures.0 refl, c.loop-i-test.true))
+    (step_in (nodes_of c.args.plan.now.templates.now) c.args.body.now c.args.steps.now c.loop-i.i no_step c.requires.steps
+    c.requires.nodes (omega (arith, c.if-not-has_slot_for_each.ensures.0 refl, c.loop-i-test.true))).1
 
 pub try_body-try_copied-done-requires-in-CopyUInt64-clause-form : goal.try_body-try_copied-done-requires-in-CopyUInt64-clause-form
 try_body-try_copied-done-requires-in-CopyUInt64-clause-form t c = c.in-CopyUInt64.ensures
@@ -318,7 +349,8 @@ try_body-try_copied-done-requires-in-CopyUInt64-clause-numbers t c = tt
 
 pub try_body-try_copied-done-requires-in-CopyInt64-clause-node : goal.try_body-try_copied-done-requires-in-CopyInt64-clause-node
 try_body-try_copied-done-requires-in-CopyInt64-clause-node t c =
-    c.requires.nodes c.loop-i.i (omega (arith, c.if-not-has_slot_for_each.ensures.0 refl, c.loop-i-test.true))
+    (step_in (nodes_of c.args.plan.now.templates.now) c.args.body.now c.args.steps.now c.loop-i.i no_step c.requires.steps
+    c.requires.nodes (omega (arith, c.if-not-has_slot_for_each.ensures.0 refl, c.loop-i-test.true))).1
 
 pub try_body-try_copied-done-requires-in-CopyInt64-clause-form : goal.try_body-try_copied-done-requires-in-CopyInt64-clause-form
 try_body-try_copied-done-requires-in-CopyInt64-clause-form t c = c.in-CopyInt64.ensures
@@ -330,7 +362,8 @@ pub try_body-try_copied-done-requires-in-CopyInt64-clause-numbers : goal.try_bod
 try_body-try_copied-done-requires-in-CopyInt64-clause-numbers t c = tt
 
 pub try_body-try_next-done-requires-clause-node : goal.try_body-try_next-done-requires-clause-node
-try_body-try_next-done-requires-clause-node t c = c.requires.nodes c.loop-i.i (omega (arith, c.if-not-has_slot_for_each.ensures.0 refl, c.loop-i-test.true))
+try_body-try_next-done-requires-clause-node t c = (step_in (nodes_of c.args.plan.now.templates.now) c.args.body.now c.args.steps.now c.loop-i.i no_step c.requires.steps
+    c.requires.nodes (omega (arith, c.if-not-has_slot_for_each.ensures.0 refl, c.loop-i-test.true))).1
 
 pub try_body-try_next-done-requires-clause-form : goal.try_body-try_next-done-requires-clause-form
 try_body-try_next-done-requires-clause-form t c = c.in-IncrementUInt32.ensures
@@ -343,7 +376,8 @@ try_body-try_next-done-requires-clause-numbers t c = tt
 
 pub try_body-try_next-done-requires-in-IncrementInt32-clause-node : goal.try_body-try_next-done-requires-in-IncrementInt32-clause-node
 try_body-try_next-done-requires-in-IncrementInt32-clause-node t c =
-    c.requires.nodes c.loop-i.i (omega (arith, c.if-not-has_slot_for_each.ensures.0 refl, c.loop-i-test.true))
+    (step_in (nodes_of c.args.plan.now.templates.now) c.args.body.now c.args.steps.now c.loop-i.i no_step c.requires.steps
+    c.requires.nodes (omega (arith, c.if-not-has_slot_for_each.ensures.0 refl, c.loop-i-test.true))).1
 
 pub try_body-try_next-done-requires-in-IncrementInt32-clause-form : goal.try_body-try_next-done-requires-in-IncrementInt32-clause-form
 try_body-try_next-done-requires-in-IncrementInt32-clause-form t c = c.in-IncrementInt32.ensures
@@ -356,7 +390,8 @@ try_body-try_next-done-requires-in-IncrementInt32-clause-numbers t c = tt
 
 pub try_body-try_next-done-requires-in-IncrementUInt64-clause-node : goal.try_body-try_next-done-requires-in-IncrementUInt64-clause-node
 try_body-try_next-done-requires-in-IncrementUInt64-clause-node t c =
-    c.requires.nodes c.loop-i.i (omega (arith, c.if-not-has_slot_for_each.ensures.0 refl, c.loop-i-test.true))
+    (step_in (nodes_of c.args.plan.now.templates.now) c.args.body.now c.args.steps.now c.loop-i.i no_step c.requires.steps
+    c.requires.nodes (omega (arith, c.if-not-has_slot_for_each.ensures.0 refl, c.loop-i-test.true))).1
 
 pub try_body-try_next-done-requires-in-IncrementUInt64-clause-form : goal.try_body-try_next-done-requires-in-IncrementUInt64-clause-form
 try_body-try_next-done-requires-in-IncrementUInt64-clause-form t c = c.in-IncrementUInt64.ensures
@@ -369,7 +404,8 @@ try_body-try_next-done-requires-in-IncrementUInt64-clause-numbers t c = tt
 
 pub try_body-try_next-done-requires-in-IncrementInt64-clause-node : goal.try_body-try_next-done-requires-in-IncrementInt64-clause-node
 try_body-try_next-done-requires-in-IncrementInt64-clause-node t c =
-    c.requires.nodes c.loop-i.i (omega (arith, c.if-not-has_slot_for_each.ensures.0 refl, c.loop-i-test.true))
+    (step_in (nodes_of c.args.plan.now.templates.now) c.args.body.now c.args.steps.now c.loop-i.i no_step c.requires.steps
+    c.requires.nodes (omega (arith, c.if-not-has_slot_for_each.ensures.0 refl, c.loop-i-test.true))).1
 
 pub try_body-try_next-done-requires-in-IncrementInt64-clause-form : goal.try_body-try_next-done-requires-in-IncrementInt64-clause-form
 try_body-try_next-done-requires-in-IncrementInt64-clause-form t c = c.in-IncrementInt64.ensures
@@ -382,7 +418,8 @@ try_body-try_next-done-requires-in-IncrementInt64-clause-numbers t c = tt
 
 pub try_body-try_difference-done-requires-clause-node : goal.try_body-try_difference-done-requires-clause-node
 try_body-try_difference-done-requires-clause-node t c =
-    c.requires.nodes c.loop-i.i (omega (arith, c.if-not-has_slot_for_each.ensures.0 refl, c.loop-i-test.true))
+    (step_in (nodes_of c.args.plan.now.templates.now) c.args.body.now c.args.steps.now c.loop-i.i no_step c.requires.steps
+    c.requires.nodes (omega (arith, c.if-not-has_slot_for_each.ensures.0 refl, c.loop-i-test.true))).1
 
 pub try_body-try_difference-done-requires-clause-form : goal.try_body-try_difference-done-requires-clause-form
 try_body-try_difference-done-requires-clause-form t c = c.in-DeltaUInt32.ensures
@@ -395,7 +432,8 @@ try_body-try_difference-done-requires-clause-numbers t c = tt
 
 pub try_body-try_difference-done-requires-in-DeltaInt32-clause-node : goal.try_body-try_difference-done-requires-in-DeltaInt32-clause-node
 try_body-try_difference-done-requires-in-DeltaInt32-clause-node t c =
-    c.requires.nodes c.loop-i.i (omega (arith, c.if-not-has_slot_for_each.ensures.0 refl, c.loop-i-test.true))
+    (step_in (nodes_of c.args.plan.now.templates.now) c.args.body.now c.args.steps.now c.loop-i.i no_step c.requires.steps
+    c.requires.nodes (omega (arith, c.if-not-has_slot_for_each.ensures.0 refl, c.loop-i-test.true))).1
 
 pub try_body-try_difference-done-requires-in-DeltaInt32-clause-form : goal.try_body-try_difference-done-requires-in-DeltaInt32-clause-form
 try_body-try_difference-done-requires-in-DeltaInt32-clause-form t c = c.in-DeltaInt32.ensures
@@ -408,7 +446,8 @@ try_body-try_difference-done-requires-in-DeltaInt32-clause-numbers t c = tt
 
 pub try_body-try_difference-done-requires-in-DeltaUInt64-clause-node : goal.try_body-try_difference-done-requires-in-DeltaUInt64-clause-node
 try_body-try_difference-done-requires-in-DeltaUInt64-clause-node t c =
-    c.requires.nodes c.loop-i.i (omega (arith, c.if-not-has_slot_for_each.ensures.0 refl, c.loop-i-test.true))
+    (step_in (nodes_of c.args.plan.now.templates.now) c.args.body.now c.args.steps.now c.loop-i.i no_step c.requires.steps
+    c.requires.nodes (omega (arith, c.if-not-has_slot_for_each.ensures.0 refl, c.loop-i-test.true))).1
 
 pub try_body-try_difference-done-requires-in-DeltaUInt64-clause-form : goal.try_body-try_difference-done-requires-in-DeltaUInt64-clause-form
 try_body-try_difference-done-requires-in-DeltaUInt64-clause-form t c = c.in-DeltaUInt64.ensures
@@ -421,7 +460,8 @@ try_body-try_difference-done-requires-in-DeltaUInt64-clause-numbers t c = tt
 
 pub try_body-try_difference-done-requires-in-DeltaInt64-clause-node : goal.try_body-try_difference-done-requires-in-DeltaInt64-clause-node
 try_body-try_difference-done-requires-in-DeltaInt64-clause-node t c =
-    c.requires.nodes c.loop-i.i (omega (arith, c.if-not-has_slot_for_each.ensures.0 refl, c.loop-i-test.true))
+    (step_in (nodes_of c.args.plan.now.templates.now) c.args.body.now c.args.steps.now c.loop-i.i no_step c.requires.steps
+    c.requires.nodes (omega (arith, c.if-not-has_slot_for_each.ensures.0 refl, c.loop-i-test.true))).1
 
 pub try_body-try_difference-done-requires-in-DeltaInt64-clause-form : goal.try_body-try_difference-done-requires-in-DeltaInt64-clause-form
 try_body-try_difference-done-requires-in-DeltaInt64-clause-form t c = c.in-DeltaInt64.ensures
@@ -434,7 +474,8 @@ try_body-try_difference-done-requires-in-DeltaInt64-clause-numbers t c = tt
 
 pub try_body-try_plain-done-requires-in-PlainAscii-clause-node : goal.try_body-try_plain-done-requires-in-PlainAscii-clause-node
 try_body-try_plain-done-requires-in-PlainAscii-clause-node t c =
-    c.requires.nodes c.loop-i.i (omega (arith, c.if-not-has_slot_for_each.ensures.0 refl, c.loop-i-test.true))
+    (step_in (nodes_of c.args.plan.now.templates.now) c.args.body.now c.args.steps.now c.loop-i.i no_step c.requires.steps
+    c.requires.nodes (omega (arith, c.if-not-has_slot_for_each.ensures.0 refl, c.loop-i-test.true))).1
 
 pub try_body-try_plain-done-requires-in-PlainAscii-clause-form : goal.try_body-try_plain-done-requires-in-PlainAscii-clause-form
 try_body-try_plain-done-requires-in-PlainAscii-clause-form t c = c.in-PlainAscii.ensures
@@ -444,7 +485,8 @@ try_body-try_plain-done-requires-in-PlainAscii-clause-ready t c = c.loop-i.invar
 
 pub try_body-try_constant-done-requires-in-ConstantAscii-clause-node : goal.try_body-try_constant-done-requires-in-ConstantAscii-clause-node
 try_body-try_constant-done-requires-in-ConstantAscii-clause-node t c =
-    c.requires.nodes c.loop-i.i (omega (arith, c.if-not-has_slot_for_each.ensures.0 refl, c.loop-i-test.true))
+    (step_in (nodes_of c.args.plan.now.templates.now) c.args.body.now c.args.steps.now c.loop-i.i no_step c.requires.steps
+    c.requires.nodes (omega (arith, c.if-not-has_slot_for_each.ensures.0 refl, c.loop-i-test.true))).1
 
 pub try_body-try_constant-done-requires-in-ConstantAscii-clause-form : goal.try_body-try_constant-done-requires-in-ConstantAscii-clause-form
 try_body-try_constant-done-requires-in-ConstantAscii-clause-form t c = c.in-ConstantAscii.ensures
@@ -454,7 +496,8 @@ try_body-try_constant-done-requires-in-ConstantAscii-clause-ready t c = c.loop-i
 
 pub try_body-try_default-done-requires-in-DefaultAscii-clause-node : goal.try_body-try_default-done-requires-in-DefaultAscii-clause-node
 try_body-try_default-done-requires-in-DefaultAscii-clause-node t c =
-    c.requires.nodes c.loop-i.i (omega (arith, c.if-not-has_slot_for_each.ensures.0 refl, c.loop-i-test.true))
+    (step_in (nodes_of c.args.plan.now.templates.now) c.args.body.now c.args.steps.now c.loop-i.i no_step c.requires.steps
+    c.requires.nodes (omega (arith, c.if-not-has_slot_for_each.ensures.0 refl, c.loop-i-test.true))).1
 
 pub try_body-try_default-done-requires-in-DefaultAscii-clause-form : goal.try_body-try_default-done-requires-in-DefaultAscii-clause-form
 try_body-try_default-done-requires-in-DefaultAscii-clause-form t c = c.in-DefaultAscii.ensures
@@ -464,7 +507,8 @@ try_body-try_default-done-requires-in-DefaultAscii-clause-ready t c = c.loop-i.i
 
 pub try_body-try_copied_other-done-requires-clause-node : goal.try_body-try_copied_other-done-requires-clause-node
 try_body-try_copied_other-done-requires-clause-node t c =
-    c.requires.nodes c.loop-i.i (omega (arith, c.if-not-has_slot_for_each.ensures.0 refl, c.loop-i-test.true))
+    (step_in (nodes_of c.args.plan.now.templates.now) c.args.body.now c.args.steps.now c.loop-i.i no_step c.requires.steps
+    c.requires.nodes (omega (arith, c.if-not-has_slot_for_each.ensures.0 refl, c.loop-i-test.true))).1
 
 pub try_body-try_copied_other-done-requires-clause-form : goal.try_body-try_copied_other-done-requires-clause-form
 try_body-try_copied_other-done-requires-clause-form t c = c.in-CopyAscii.ensures
@@ -473,7 +517,8 @@ pub try_body-try_copied_other-done-requires-clause-ready : goal.try_body-try_cop
 try_body-try_copied_other-done-requires-clause-ready t c = c.loop-i.invariant.ready
 
 pub try_body-try_chosen-done-requires-clause-node : goal.try_body-try_chosen-done-requires-clause-node
-try_body-try_chosen-done-requires-clause-node t c = c.requires.nodes c.loop-i.i (omega (arith, c.if-not-has_slot_for_each.ensures.0 refl, c.loop-i-test.true))
+try_body-try_chosen-done-requires-clause-node t c = (step_in (nodes_of c.args.plan.now.templates.now) c.args.body.now c.args.steps.now c.loop-i.i no_step c.requires.steps
+    c.requires.nodes (omega (arith, c.if-not-has_slot_for_each.ensures.0 refl, c.loop-i-test.true))).1
 
 pub try_body-try_chosen-done-requires-clause-form : goal.try_body-try_chosen-done-requires-clause-form
 try_body-try_chosen-done-requires-clause-form t c = c.in-TailAscii.ensures
@@ -483,7 +528,8 @@ try_body-try_chosen-done-requires-clause-ready t c = c.loop-i.invariant.ready
 
 pub try_body-try_chosen-done-requires-in-DeltaAscii-clause-node : goal.try_body-try_chosen-done-requires-in-DeltaAscii-clause-node
 try_body-try_chosen-done-requires-in-DeltaAscii-clause-node t c =
-    c.requires.nodes c.loop-i.i (omega (arith, c.if-not-has_slot_for_each.ensures.0 refl, c.loop-i-test.true))
+    (step_in (nodes_of c.args.plan.now.templates.now) c.args.body.now c.args.steps.now c.loop-i.i no_step c.requires.steps
+    c.requires.nodes (omega (arith, c.if-not-has_slot_for_each.ensures.0 refl, c.loop-i-test.true))).1
 
 pub try_body-try_chosen-done-requires-in-DeltaAscii-clause-form : goal.try_body-try_chosen-done-requires-in-DeltaAscii-clause-form
 try_body-try_chosen-done-requires-in-DeltaAscii-clause-form t c = c.in-DeltaAscii.ensures
@@ -493,7 +539,8 @@ try_body-try_chosen-done-requires-in-DeltaAscii-clause-ready t c = c.loop-i.inva
 
 pub try_body-try_plain-done-requires-in-PlainUnicode-clause-node : goal.try_body-try_plain-done-requires-in-PlainUnicode-clause-node
 try_body-try_plain-done-requires-in-PlainUnicode-clause-node t c =
-    c.requires.nodes c.loop-i.i (omega (arith, c.if-not-has_slot_for_each.ensures.0 refl, c.loop-i-test.true))
+    (step_in (nodes_of c.args.plan.now.templates.now) c.args.body.now c.args.steps.now c.loop-i.i no_step c.requires.steps
+    c.requires.nodes (omega (arith, c.if-not-has_slot_for_each.ensures.0 refl, c.loop-i-test.true))).1
 
 pub try_body-try_plain-done-requires-in-PlainUnicode-clause-form : goal.try_body-try_plain-done-requires-in-PlainUnicode-clause-form
 try_body-try_plain-done-requires-in-PlainUnicode-clause-form t c = c.in-PlainUnicode.ensures
@@ -503,7 +550,8 @@ try_body-try_plain-done-requires-in-PlainUnicode-clause-ready t c = c.loop-i.inv
 
 pub try_body-try_chosen-done-requires-in-DeltaUnicode-clause-node : goal.try_body-try_chosen-done-requires-in-DeltaUnicode-clause-node
 try_body-try_chosen-done-requires-in-DeltaUnicode-clause-node t c =
-    c.requires.nodes c.loop-i.i (omega (arith, c.if-not-has_slot_for_each.ensures.0 refl, c.loop-i-test.true))
+    (step_in (nodes_of c.args.plan.now.templates.now) c.args.body.now c.args.steps.now c.loop-i.i no_step c.requires.steps
+    c.requires.nodes (omega (arith, c.if-not-has_slot_for_each.ensures.0 refl, c.loop-i-test.true))).1
 
 pub try_body-try_chosen-done-requires-in-DeltaUnicode-clause-form : goal.try_body-try_chosen-done-requires-in-DeltaUnicode-clause-form
 try_body-try_chosen-done-requires-in-DeltaUnicode-clause-form t c = c.in-DeltaUnicode.ensures
@@ -513,7 +561,8 @@ try_body-try_chosen-done-requires-in-DeltaUnicode-clause-ready t c = c.loop-i.in
 
 pub try_body-try_plain-done-requires-in-PlainBytes-clause-node : goal.try_body-try_plain-done-requires-in-PlainBytes-clause-node
 try_body-try_plain-done-requires-in-PlainBytes-clause-node t c =
-    c.requires.nodes c.loop-i.i (omega (arith, c.if-not-has_slot_for_each.ensures.0 refl, c.loop-i-test.true))
+    (step_in (nodes_of c.args.plan.now.templates.now) c.args.body.now c.args.steps.now c.loop-i.i no_step c.requires.steps
+    c.requires.nodes (omega (arith, c.if-not-has_slot_for_each.ensures.0 refl, c.loop-i-test.true))).1
 
 pub try_body-try_plain-done-requires-in-PlainBytes-clause-form : goal.try_body-try_plain-done-requires-in-PlainBytes-clause-form
 try_body-try_plain-done-requires-in-PlainBytes-clause-form t c = c.in-PlainBytes.ensures
@@ -523,7 +572,8 @@ try_body-try_plain-done-requires-in-PlainBytes-clause-ready t c = c.loop-i.invar
 
 pub try_body-try_chosen-done-requires-in-TailBytes-clause-node : goal.try_body-try_chosen-done-requires-in-TailBytes-clause-node
 try_body-try_chosen-done-requires-in-TailBytes-clause-node t c =
-    c.requires.nodes c.loop-i.i (omega (arith, c.if-not-has_slot_for_each.ensures.0 refl, c.loop-i-test.true))
+    (step_in (nodes_of c.args.plan.now.templates.now) c.args.body.now c.args.steps.now c.loop-i.i no_step c.requires.steps
+    c.requires.nodes (omega (arith, c.if-not-has_slot_for_each.ensures.0 refl, c.loop-i-test.true))).1
 
 pub try_body-try_chosen-done-requires-in-TailBytes-clause-form : goal.try_body-try_chosen-done-requires-in-TailBytes-clause-form
 try_body-try_chosen-done-requires-in-TailBytes-clause-form t c = c.in-TailBytes.ensures
@@ -533,7 +583,8 @@ try_body-try_chosen-done-requires-in-TailBytes-clause-ready t c = c.loop-i.invar
 
 pub try_body-try_plain-done-requires-in-PlainDecimal-clause-node : goal.try_body-try_plain-done-requires-in-PlainDecimal-clause-node
 try_body-try_plain-done-requires-in-PlainDecimal-clause-node t c =
-    c.requires.nodes c.loop-i.i (omega (arith, c.if-not-has_slot_for_each.ensures.0 refl, c.loop-i-test.true))
+    (step_in (nodes_of c.args.plan.now.templates.now) c.args.body.now c.args.steps.now c.loop-i.i no_step c.requires.steps
+    c.requires.nodes (omega (arith, c.if-not-has_slot_for_each.ensures.0 refl, c.loop-i-test.true))).1
 
 pub try_body-try_plain-done-requires-in-PlainDecimal-clause-form : goal.try_body-try_plain-done-requires-in-PlainDecimal-clause-form
 try_body-try_plain-done-requires-in-PlainDecimal-clause-form t c = c.in-PlainDecimal.ensures
@@ -543,7 +594,8 @@ try_body-try_plain-done-requires-in-PlainDecimal-clause-ready t c = c.loop-i.inv
 
 pub try_body-try_copied_other-done-requires-in-CopyDecimal-clause-node : goal.try_body-try_copied_other-done-requires-in-CopyDecimal-clause-node
 try_body-try_copied_other-done-requires-in-CopyDecimal-clause-node t c =
-    c.requires.nodes c.loop-i.i (omega (arith, c.if-not-has_slot_for_each.ensures.0 refl, c.loop-i-test.true))
+    (step_in (nodes_of c.args.plan.now.templates.now) c.args.body.now c.args.steps.now c.loop-i.i no_step c.requires.steps
+    c.requires.nodes (omega (arith, c.if-not-has_slot_for_each.ensures.0 refl, c.loop-i-test.true))).1
 
 pub try_body-try_copied_other-done-requires-in-CopyDecimal-clause-form : goal.try_body-try_copied_other-done-requires-in-CopyDecimal-clause-form
 try_body-try_copied_other-done-requires-in-CopyDecimal-clause-form t c = c.in-CopyDecimal.ensures
@@ -553,7 +605,8 @@ try_body-try_copied_other-done-requires-in-CopyDecimal-clause-ready t c = c.loop
 
 pub try_body-try_chosen-done-requires-in-DeltaDecimal-clause-node : goal.try_body-try_chosen-done-requires-in-DeltaDecimal-clause-node
 try_body-try_chosen-done-requires-in-DeltaDecimal-clause-node t c =
-    c.requires.nodes c.loop-i.i (omega (arith, c.if-not-has_slot_for_each.ensures.0 refl, c.loop-i-test.true))
+    (step_in (nodes_of c.args.plan.now.templates.now) c.args.body.now c.args.steps.now c.loop-i.i no_step c.requires.steps
+    c.requires.nodes (omega (arith, c.if-not-has_slot_for_each.ensures.0 refl, c.loop-i-test.true))).1
 
 pub try_body-try_chosen-done-requires-in-DeltaDecimal-clause-form : goal.try_body-try_chosen-done-requires-in-DeltaDecimal-clause-form
 try_body-try_chosen-done-requires-in-DeltaDecimal-clause-form t c = c.in-DeltaDecimal.ensures
@@ -563,7 +616,8 @@ try_body-try_chosen-done-requires-in-DeltaDecimal-clause-ready t c = c.loop-i.in
 
 pub try_body-try_parts-done-requires-clause-node : goal.try_body-try_parts-done-requires-clause-node
 try_body-try_parts-done-requires-clause-node t c =
-    c.requires.nodes c.loop-i.i (omega (arith, c.if-not-has_slot_for_each.ensures.0 refl, c.loop-i-test.true))
+    (step_in (nodes_of c.args.plan.now.templates.now) c.args.body.now c.args.steps.now c.loop-i.i no_step c.requires.steps
+    c.requires.nodes (omega (arith, c.if-not-has_slot_for_each.ensures.0 refl, c.loop-i-test.true))).1
 
 pub try_body-try_parts-done-requires-clause-form : goal.try_body-try_parts-done-requires-clause-form
 try_body-try_parts-done-requires-clause-form t c = c.in-DefaultParts.ensures
@@ -573,7 +627,8 @@ try_body-try_parts-done-requires-clause-ready t c = c.loop-i.invariant.ready
 
 pub try_body-try_parts-done-requires-in-CopyParts-clause-node : goal.try_body-try_parts-done-requires-in-CopyParts-clause-node
 try_body-try_parts-done-requires-in-CopyParts-clause-node t c =
-    c.requires.nodes c.loop-i.i (omega (arith, c.if-not-has_slot_for_each.ensures.0 refl, c.loop-i-test.true))
+    (step_in (nodes_of c.args.plan.now.templates.now) c.args.body.now c.args.steps.now c.loop-i.i no_step c.requires.steps
+    c.requires.nodes (omega (arith, c.if-not-has_slot_for_each.ensures.0 refl, c.loop-i-test.true))).1
 
 pub try_body-try_parts-done-requires-in-CopyParts-clause-form : goal.try_body-try_parts-done-requires-in-CopyParts-clause-form
 try_body-try_parts-done-requires-in-CopyParts-clause-form t c = c.in-CopyParts.ensures
@@ -582,7 +637,8 @@ pub try_body-try_parts-done-requires-in-CopyParts-clause-ready : goal.try_body-t
 try_body-try_parts-done-requires-in-CopyParts-clause-ready t c = c.loop-i.invariant.ready
 
 pub try_body-try_other-done-requires-clause-node : goal.try_body-try_other-done-requires-clause-node
-try_body-try_other-done-requires-clause-node t c = c.requires.nodes c.loop-i.i (omega (arith, c.if-not-has_slot_for_each.ensures.0 refl, c.loop-i-test.true))
+try_body-try_other-done-requires-clause-node t c = (step_in (nodes_of c.args.plan.now.templates.now) c.args.body.now c.args.steps.now c.loop-i.i no_step c.requires.steps
+    c.requires.nodes (omega (arith, c.if-not-has_slot_for_each.ensures.0 refl, c.loop-i-test.true))).1
 
 pub try_body-try_other-done-requires-clause-ready : goal.try_body-try_other-done-requires-clause-ready
 try_body-try_other-done-requires-clause-ready t c = c.loop-i.invariant.ready
@@ -596,8 +652,9 @@ try_body-returns-then-is_err-2-clause-keeps t c =
     let new = c.match-form_at.work in
     let done = c.match-form_at.done in
     let v = value_data c.in-One.value in
-    let tried : Tried l here old v new done = elim c.match-form_at.branch [
-      | try_body-in-PlainUInt32 w ↦ moved l here old v w.try_plain_unsigned-done.new.work new w.try_plain_unsigned-done.result done
+    let there = instruction_in (nodes_of c.args.plan.now.templates.now) (get_or c.args.steps.now c.loop-i.i no_step).node in
+    let tried_there : Tried l there old v new done = elim c.match-form_at.branch [
+      | try_body-in-PlainUInt32 w ↦ moved l there old v w.try_plain_unsigned-done.new.work new w.try_plain_unsigned-done.result done
           w.work-is w.done-is (record {
             suits = w.try_plain_unsigned-done.ensures.suits;
             fits = w.try_plain_unsigned-done.ensures.fits;
@@ -605,14 +662,14 @@ try_body-returns-then-is_err-2-clause-keeps t c =
             keeps = w.try_plain_unsigned-done.ensures.keeps;
             room = w.try_plain_unsigned-done.ensures.room;
           })
-      | try_body-in-PlainInt32 w ↦ moved l here old v w.try_plain-done.new.work new w.try_plain-done.result done w.work-is w.done-is (record {
+      | try_body-in-PlainInt32 w ↦ moved l there old v w.try_plain-done.new.work new w.try_plain-done.result done w.work-is w.done-is (record {
         suits = w.try_plain-done.ensures.suits;
         fits = w.try_plain-done.ensures.fits;
         ok = w.try_plain-done.ensures.ok;
         keeps = w.try_plain-done.ensures.keeps;
         room = w.try_plain-done.ensures.room;
       })
-      | try_body-in-PlainUInt64 w ↦ moved l here old v w.try_plain_unsigned-done-in-PlainUInt64.new.work new
+      | try_body-in-PlainUInt64 w ↦ moved l there old v w.try_plain_unsigned-done-in-PlainUInt64.new.work new
           w.try_plain_unsigned-done-in-PlainUInt64.result done w.work-is w.done-is (record {
             suits = w.try_plain_unsigned-done-in-PlainUInt64.ensures.suits;
             fits = w.try_plain_unsigned-done-in-PlainUInt64.ensures.fits;
@@ -620,7 +677,7 @@ try_body-returns-then-is_err-2-clause-keeps t c =
             keeps = w.try_plain_unsigned-done-in-PlainUInt64.ensures.keeps;
             room = w.try_plain_unsigned-done-in-PlainUInt64.ensures.room;
           })
-      | try_body-in-PlainInt64 w ↦ moved l here old v w.try_plain-done-in-PlainInt64.new.work new w.try_plain-done-in-PlainInt64.result
+      | try_body-in-PlainInt64 w ↦ moved l there old v w.try_plain-done-in-PlainInt64.new.work new w.try_plain-done-in-PlainInt64.result
           done w.work-is w.done-is (record {
             suits = w.try_plain-done-in-PlainInt64.ensures.suits;
             fits = w.try_plain-done-in-PlainInt64.ensures.fits;
@@ -628,14 +685,14 @@ try_body-returns-then-is_err-2-clause-keeps t c =
             keeps = w.try_plain-done-in-PlainInt64.ensures.keeps;
             room = w.try_plain-done-in-PlainInt64.ensures.room;
           })
-      | try_body-in-ConstantUInt32 w ↦ moved l here old v w.try_constant-done.new.work new w.try_constant-done.result done w.work-is w.done-is (record {
+      | try_body-in-ConstantUInt32 w ↦ moved l there old v w.try_constant-done.new.work new w.try_constant-done.result done w.work-is w.done-is (record {
         suits = w.try_constant-done.ensures.suits;
         fits = w.try_constant-done.ensures.fits;
         ok = w.try_constant-done.ensures.ok;
         keeps = w.try_constant-done.ensures.keeps;
         room = w.try_constant-done.ensures.room;
       })
-      | try_body-in-ConstantInt32 w ↦ moved l here old v w.try_constant-done-in-ConstantInt32.new.work new
+      | try_body-in-ConstantInt32 w ↦ moved l there old v w.try_constant-done-in-ConstantInt32.new.work new
           w.try_constant-done-in-ConstantInt32.result done w.work-is w.done-is (record {
             suits = w.try_constant-done-in-ConstantInt32.ensures.suits;
             fits = w.try_constant-done-in-ConstantInt32.ensures.fits;
@@ -643,7 +700,7 @@ try_body-returns-then-is_err-2-clause-keeps t c =
             keeps = w.try_constant-done-in-ConstantInt32.ensures.keeps;
             room = w.try_constant-done-in-ConstantInt32.ensures.room;
           })
-      | try_body-in-ConstantUInt64 w ↦ moved l here old v w.try_constant-done-in-ConstantUInt64.new.work new
+      | try_body-in-ConstantUInt64 w ↦ moved l there old v w.try_constant-done-in-ConstantUInt64.new.work new
           w.try_constant-done-in-ConstantUInt64.result done w.work-is w.done-is (record {
             suits = w.try_constant-done-in-ConstantUInt64.ensures.suits;
             fits = w.try_constant-done-in-ConstantUInt64.ensures.fits;
@@ -651,7 +708,7 @@ try_body-returns-then-is_err-2-clause-keeps t c =
             keeps = w.try_constant-done-in-ConstantUInt64.ensures.keeps;
             room = w.try_constant-done-in-ConstantUInt64.ensures.room;
           })
-      | try_body-in-ConstantInt64 w ↦ moved l here old v w.try_constant-done-in-ConstantInt64.new.work new
+      | try_body-in-ConstantInt64 w ↦ moved l there old v w.try_constant-done-in-ConstantInt64.new.work new
           w.try_constant-done-in-ConstantInt64.result done w.work-is w.done-is (record {
             suits = w.try_constant-done-in-ConstantInt64.ensures.suits;
             fits = w.try_constant-done-in-ConstantInt64.ensures.fits;
@@ -659,14 +716,14 @@ try_body-returns-then-is_err-2-clause-keeps t c =
             keeps = w.try_constant-done-in-ConstantInt64.ensures.keeps;
             room = w.try_constant-done-in-ConstantInt64.ensures.room;
           })
-      | try_body-in-DefaultUInt32 w ↦ moved l here old v w.try_default-done.new.work new w.try_default-done.result done w.work-is w.done-is (record {
+      | try_body-in-DefaultUInt32 w ↦ moved l there old v w.try_default-done.new.work new w.try_default-done.result done w.work-is w.done-is (record {
         suits = w.try_default-done.ensures.suits;
         fits = w.try_default-done.ensures.fits;
         ok = w.try_default-done.ensures.ok;
         keeps = w.try_default-done.ensures.keeps;
         room = w.try_default-done.ensures.room;
       })
-      | try_body-in-DefaultInt32 w ↦ moved l here old v w.try_default-done-in-DefaultInt32.new.work new
+      | try_body-in-DefaultInt32 w ↦ moved l there old v w.try_default-done-in-DefaultInt32.new.work new
           w.try_default-done-in-DefaultInt32.result done w.work-is w.done-is (record {
             suits = w.try_default-done-in-DefaultInt32.ensures.suits;
             fits = w.try_default-done-in-DefaultInt32.ensures.fits;
@@ -674,7 +731,7 @@ try_body-returns-then-is_err-2-clause-keeps t c =
             keeps = w.try_default-done-in-DefaultInt32.ensures.keeps;
             room = w.try_default-done-in-DefaultInt32.ensures.room;
           })
-      | try_body-in-DefaultUInt64 w ↦ moved l here old v w.try_default-done-in-DefaultUInt64.new.work new
+      | try_body-in-DefaultUInt64 w ↦ moved l there old v w.try_default-done-in-DefaultUInt64.new.work new
           w.try_default-done-in-DefaultUInt64.result done w.work-is w.done-is (record {
             suits = w.try_default-done-in-DefaultUInt64.ensures.suits;
             fits = w.try_default-done-in-DefaultUInt64.ensures.fits;
@@ -682,7 +739,7 @@ try_body-returns-then-is_err-2-clause-keeps t c =
             keeps = w.try_default-done-in-DefaultUInt64.ensures.keeps;
             room = w.try_default-done-in-DefaultUInt64.ensures.room;
           })
-      | try_body-in-DefaultInt64 w ↦ moved l here old v w.try_default-done-in-DefaultInt64.new.work new
+      | try_body-in-DefaultInt64 w ↦ moved l there old v w.try_default-done-in-DefaultInt64.new.work new
           w.try_default-done-in-DefaultInt64.result done w.work-is w.done-is (record {
             suits = w.try_default-done-in-DefaultInt64.ensures.suits;
             fits = w.try_default-done-in-DefaultInt64.ensures.fits;
@@ -690,14 +747,14 @@ try_body-returns-then-is_err-2-clause-keeps t c =
             keeps = w.try_default-done-in-DefaultInt64.ensures.keeps;
             room = w.try_default-done-in-DefaultInt64.ensures.room;
           })
-      | try_body-in-CopyUInt32 w ↦ moved l here old v w.try_copied-done.new.work new w.try_copied-done.result done w.work-is w.done-is (record {
+      | try_body-in-CopyUInt32 w ↦ moved l there old v w.try_copied-done.new.work new w.try_copied-done.result done w.work-is w.done-is (record {
         suits = w.try_copied-done.ensures.suits;
         fits = w.try_copied-done.ensures.fits;
         ok = w.try_copied-done.ensures.ok;
         keeps = w.try_copied-done.ensures.keeps;
         room = w.try_copied-done.ensures.room;
       })
-      | try_body-in-CopyInt32 w ↦ moved l here old v w.try_copied-done-in-CopyInt32.new.work new w.try_copied-done-in-CopyInt32.result done
+      | try_body-in-CopyInt32 w ↦ moved l there old v w.try_copied-done-in-CopyInt32.new.work new w.try_copied-done-in-CopyInt32.result done
           w.work-is w.done-is (record {
             suits = w.try_copied-done-in-CopyInt32.ensures.suits;
             fits = w.try_copied-done-in-CopyInt32.ensures.fits;
@@ -705,7 +762,7 @@ try_body-returns-then-is_err-2-clause-keeps t c =
             keeps = w.try_copied-done-in-CopyInt32.ensures.keeps;
             room = w.try_copied-done-in-CopyInt32.ensures.room;
           })
-      | try_body-in-CopyUInt64 w ↦ moved l here old v w.try_copied-done-in-CopyUInt64.new.work new w.try_copied-done-in-CopyUInt64.result
+      | try_body-in-CopyUInt64 w ↦ moved l there old v w.try_copied-done-in-CopyUInt64.new.work new w.try_copied-done-in-CopyUInt64.result
           done w.work-is w.done-is (record {
             suits = w.try_copied-done-in-CopyUInt64.ensures.suits;
             fits = w.try_copied-done-in-CopyUInt64.ensures.fits;
@@ -713,7 +770,7 @@ try_body-returns-then-is_err-2-clause-keeps t c =
             keeps = w.try_copied-done-in-CopyUInt64.ensures.keeps;
             room = w.try_copied-done-in-CopyUInt64.ensures.room;
           })
-      | try_body-in-CopyInt64 w ↦ moved l here old v w.try_copied-done-in-CopyInt64.new.work new w.try_copied-done-in-CopyInt64.result done
+      | try_body-in-CopyInt64 w ↦ moved l there old v w.try_copied-done-in-CopyInt64.new.work new w.try_copied-done-in-CopyInt64.result done
           w.work-is w.done-is (record {
             suits = w.try_copied-done-in-CopyInt64.ensures.suits;
             fits = w.try_copied-done-in-CopyInt64.ensures.fits;
@@ -721,14 +778,14 @@ try_body-returns-then-is_err-2-clause-keeps t c =
             keeps = w.try_copied-done-in-CopyInt64.ensures.keeps;
             room = w.try_copied-done-in-CopyInt64.ensures.room;
           })
-      | try_body-in-IncrementUInt32 w ↦ moved l here old v w.try_next-done.new.work new w.try_next-done.result done w.work-is w.done-is (record {
+      | try_body-in-IncrementUInt32 w ↦ moved l there old v w.try_next-done.new.work new w.try_next-done.result done w.work-is w.done-is (record {
         suits = w.try_next-done.ensures.suits;
         fits = w.try_next-done.ensures.fits;
         ok = w.try_next-done.ensures.ok;
         keeps = w.try_next-done.ensures.keeps;
         room = w.try_next-done.ensures.room;
       })
-      | try_body-in-IncrementInt32 w ↦ moved l here old v w.try_next-done-in-IncrementInt32.new.work new
+      | try_body-in-IncrementInt32 w ↦ moved l there old v w.try_next-done-in-IncrementInt32.new.work new
           w.try_next-done-in-IncrementInt32.result done w.work-is w.done-is (record {
             suits = w.try_next-done-in-IncrementInt32.ensures.suits;
             fits = w.try_next-done-in-IncrementInt32.ensures.fits;
@@ -736,7 +793,7 @@ try_body-returns-then-is_err-2-clause-keeps t c =
             keeps = w.try_next-done-in-IncrementInt32.ensures.keeps;
             room = w.try_next-done-in-IncrementInt32.ensures.room;
           })
-      | try_body-in-IncrementUInt64 w ↦ moved l here old v w.try_next-done-in-IncrementUInt64.new.work new
+      | try_body-in-IncrementUInt64 w ↦ moved l there old v w.try_next-done-in-IncrementUInt64.new.work new
           w.try_next-done-in-IncrementUInt64.result done w.work-is w.done-is (record {
             suits = w.try_next-done-in-IncrementUInt64.ensures.suits;
             fits = w.try_next-done-in-IncrementUInt64.ensures.fits;
@@ -744,7 +801,7 @@ try_body-returns-then-is_err-2-clause-keeps t c =
             keeps = w.try_next-done-in-IncrementUInt64.ensures.keeps;
             room = w.try_next-done-in-IncrementUInt64.ensures.room;
           })
-      | try_body-in-IncrementInt64 w ↦ moved l here old v w.try_next-done-in-IncrementInt64.new.work new
+      | try_body-in-IncrementInt64 w ↦ moved l there old v w.try_next-done-in-IncrementInt64.new.work new
           w.try_next-done-in-IncrementInt64.result done w.work-is w.done-is (record {
             suits = w.try_next-done-in-IncrementInt64.ensures.suits;
             fits = w.try_next-done-in-IncrementInt64.ensures.fits;
@@ -752,14 +809,14 @@ try_body-returns-then-is_err-2-clause-keeps t c =
             keeps = w.try_next-done-in-IncrementInt64.ensures.keeps;
             room = w.try_next-done-in-IncrementInt64.ensures.room;
           })
-      | try_body-in-DeltaUInt32 w ↦ moved l here old v w.try_difference-done.new.work new w.try_difference-done.result done w.work-is w.done-is (record {
+      | try_body-in-DeltaUInt32 w ↦ moved l there old v w.try_difference-done.new.work new w.try_difference-done.result done w.work-is w.done-is (record {
         suits = w.try_difference-done.ensures.suits;
         fits = w.try_difference-done.ensures.fits;
         ok = w.try_difference-done.ensures.ok;
         keeps = w.try_difference-done.ensures.keeps;
         room = w.try_difference-done.ensures.room;
       })
-      | try_body-in-DeltaInt32 w ↦ moved l here old v w.try_difference-done-in-DeltaInt32.new.work new
+      | try_body-in-DeltaInt32 w ↦ moved l there old v w.try_difference-done-in-DeltaInt32.new.work new
           w.try_difference-done-in-DeltaInt32.result done w.work-is w.done-is (record {
             suits = w.try_difference-done-in-DeltaInt32.ensures.suits;
             fits = w.try_difference-done-in-DeltaInt32.ensures.fits;
@@ -767,7 +824,7 @@ try_body-returns-then-is_err-2-clause-keeps t c =
             keeps = w.try_difference-done-in-DeltaInt32.ensures.keeps;
             room = w.try_difference-done-in-DeltaInt32.ensures.room;
           })
-      | try_body-in-DeltaUInt64 w ↦ moved l here old v w.try_difference-done-in-DeltaUInt64.new.work new
+      | try_body-in-DeltaUInt64 w ↦ moved l there old v w.try_difference-done-in-DeltaUInt64.new.work new
           w.try_difference-done-in-DeltaUInt64.result done w.work-is w.done-is (record {
             suits = w.try_difference-done-in-DeltaUInt64.ensures.suits;
             fits = w.try_difference-done-in-DeltaUInt64.ensures.fits;
@@ -775,7 +832,7 @@ try_body-returns-then-is_err-2-clause-keeps t c =
             keeps = w.try_difference-done-in-DeltaUInt64.ensures.keeps;
             room = w.try_difference-done-in-DeltaUInt64.ensures.room;
           })
-      | try_body-in-DeltaInt64 w ↦ moved l here old v w.try_difference-done-in-DeltaInt64.new.work new
+      | try_body-in-DeltaInt64 w ↦ moved l there old v w.try_difference-done-in-DeltaInt64.new.work new
           w.try_difference-done-in-DeltaInt64.result done w.work-is w.done-is (record {
             suits = w.try_difference-done-in-DeltaInt64.ensures.suits;
             fits = w.try_difference-done-in-DeltaInt64.ensures.fits;
@@ -783,7 +840,7 @@ try_body-returns-then-is_err-2-clause-keeps t c =
             keeps = w.try_difference-done-in-DeltaInt64.ensures.keeps;
             room = w.try_difference-done-in-DeltaInt64.ensures.room;
           })
-      | try_body-in-PlainAscii w ↦ moved l here old v w.try_plain-done-in-PlainAscii.new.work new w.try_plain-done-in-PlainAscii.result
+      | try_body-in-PlainAscii w ↦ moved l there old v w.try_plain-done-in-PlainAscii.new.work new w.try_plain-done-in-PlainAscii.result
           done w.work-is w.done-is (record {
             suits = w.try_plain-done-in-PlainAscii.ensures.suits;
             fits = w.try_plain-done-in-PlainAscii.ensures.fits;
@@ -791,7 +848,7 @@ try_body-returns-then-is_err-2-clause-keeps t c =
             keeps = w.try_plain-done-in-PlainAscii.ensures.keeps;
             room = w.try_plain-done-in-PlainAscii.ensures.room;
           })
-      | try_body-in-ConstantAscii w ↦ moved l here old v w.try_constant-done-in-ConstantAscii.new.work new
+      | try_body-in-ConstantAscii w ↦ moved l there old v w.try_constant-done-in-ConstantAscii.new.work new
           w.try_constant-done-in-ConstantAscii.result done w.work-is w.done-is (record {
             suits = w.try_constant-done-in-ConstantAscii.ensures.suits;
             fits = w.try_constant-done-in-ConstantAscii.ensures.fits;
@@ -799,7 +856,7 @@ try_body-returns-then-is_err-2-clause-keeps t c =
             keeps = w.try_constant-done-in-ConstantAscii.ensures.keeps;
             room = w.try_constant-done-in-ConstantAscii.ensures.room;
           })
-      | try_body-in-DefaultAscii w ↦ moved l here old v w.try_default-done-in-DefaultAscii.new.work new
+      | try_body-in-DefaultAscii w ↦ moved l there old v w.try_default-done-in-DefaultAscii.new.work new
           w.try_default-done-in-DefaultAscii.result done w.work-is w.done-is (record {
             suits = w.try_default-done-in-DefaultAscii.ensures.suits;
             fits = w.try_default-done-in-DefaultAscii.ensures.fits;
@@ -807,21 +864,21 @@ try_body-returns-then-is_err-2-clause-keeps t c =
             keeps = w.try_default-done-in-DefaultAscii.ensures.keeps;
             room = w.try_default-done-in-DefaultAscii.ensures.room;
           })
-      | try_body-in-CopyAscii w ↦ moved l here old v w.try_copied_other-done.new.work new w.try_copied_other-done.result done w.work-is w.done-is (record {
+      | try_body-in-CopyAscii w ↦ moved l there old v w.try_copied_other-done.new.work new w.try_copied_other-done.result done w.work-is w.done-is (record {
         suits = w.try_copied_other-done.ensures.suits;
         fits = w.try_copied_other-done.ensures.fits;
         ok = w.try_copied_other-done.ensures.ok;
         keeps = w.try_copied_other-done.ensures.keeps;
         room = w.try_copied_other-done.ensures.room;
       })
-      | try_body-in-TailAscii w ↦ moved l here old v w.try_chosen-done.new.work new w.try_chosen-done.result done w.work-is w.done-is (record {
+      | try_body-in-TailAscii w ↦ moved l there old v w.try_chosen-done.new.work new w.try_chosen-done.result done w.work-is w.done-is (record {
         suits = w.try_chosen-done.ensures.suits;
         fits = w.try_chosen-done.ensures.fits;
         ok = w.try_chosen-done.ensures.ok;
         keeps = w.try_chosen-done.ensures.keeps;
         room = w.try_chosen-done.ensures.room;
       })
-      | try_body-in-DeltaAscii w ↦ moved l here old v w.try_chosen-done-in-DeltaAscii.new.work new w.try_chosen-done-in-DeltaAscii.result
+      | try_body-in-DeltaAscii w ↦ moved l there old v w.try_chosen-done-in-DeltaAscii.new.work new w.try_chosen-done-in-DeltaAscii.result
           done w.work-is w.done-is (record {
             suits = w.try_chosen-done-in-DeltaAscii.ensures.suits;
             fits = w.try_chosen-done-in-DeltaAscii.ensures.fits;
@@ -829,7 +886,7 @@ try_body-returns-then-is_err-2-clause-keeps t c =
             keeps = w.try_chosen-done-in-DeltaAscii.ensures.keeps;
             room = w.try_chosen-done-in-DeltaAscii.ensures.room;
           })
-      | try_body-in-PlainUnicode w ↦ moved l here old v w.try_plain-done-in-PlainUnicode.new.work new
+      | try_body-in-PlainUnicode w ↦ moved l there old v w.try_plain-done-in-PlainUnicode.new.work new
           w.try_plain-done-in-PlainUnicode.result done w.work-is w.done-is (record {
             suits = w.try_plain-done-in-PlainUnicode.ensures.suits;
             fits = w.try_plain-done-in-PlainUnicode.ensures.fits;
@@ -837,7 +894,7 @@ try_body-returns-then-is_err-2-clause-keeps t c =
             keeps = w.try_plain-done-in-PlainUnicode.ensures.keeps;
             room = w.try_plain-done-in-PlainUnicode.ensures.room;
           })
-      | try_body-in-DeltaUnicode w ↦ moved l here old v w.try_chosen-done-in-DeltaUnicode.new.work new
+      | try_body-in-DeltaUnicode w ↦ moved l there old v w.try_chosen-done-in-DeltaUnicode.new.work new
           w.try_chosen-done-in-DeltaUnicode.result done w.work-is w.done-is (record {
             suits = w.try_chosen-done-in-DeltaUnicode.ensures.suits;
             fits = w.try_chosen-done-in-DeltaUnicode.ensures.fits;
@@ -845,7 +902,7 @@ try_body-returns-then-is_err-2-clause-keeps t c =
             keeps = w.try_chosen-done-in-DeltaUnicode.ensures.keeps;
             room = w.try_chosen-done-in-DeltaUnicode.ensures.room;
           })
-      | try_body-in-PlainBytes w ↦ moved l here old v w.try_plain-done-in-PlainBytes.new.work new w.try_plain-done-in-PlainBytes.result
+      | try_body-in-PlainBytes w ↦ moved l there old v w.try_plain-done-in-PlainBytes.new.work new w.try_plain-done-in-PlainBytes.result
           done w.work-is w.done-is (record {
             suits = w.try_plain-done-in-PlainBytes.ensures.suits;
             fits = w.try_plain-done-in-PlainBytes.ensures.fits;
@@ -853,7 +910,7 @@ try_body-returns-then-is_err-2-clause-keeps t c =
             keeps = w.try_plain-done-in-PlainBytes.ensures.keeps;
             room = w.try_plain-done-in-PlainBytes.ensures.room;
           })
-      | try_body-in-TailBytes w ↦ moved l here old v w.try_chosen-done-in-TailBytes.new.work new w.try_chosen-done-in-TailBytes.result done
+      | try_body-in-TailBytes w ↦ moved l there old v w.try_chosen-done-in-TailBytes.new.work new w.try_chosen-done-in-TailBytes.result done
           w.work-is w.done-is (record {
             suits = w.try_chosen-done-in-TailBytes.ensures.suits;
             fits = w.try_chosen-done-in-TailBytes.ensures.fits;
@@ -861,7 +918,7 @@ try_body-returns-then-is_err-2-clause-keeps t c =
             keeps = w.try_chosen-done-in-TailBytes.ensures.keeps;
             room = w.try_chosen-done-in-TailBytes.ensures.room;
           })
-      | try_body-in-PlainDecimal w ↦ moved l here old v w.try_plain-done-in-PlainDecimal.new.work new
+      | try_body-in-PlainDecimal w ↦ moved l there old v w.try_plain-done-in-PlainDecimal.new.work new
           w.try_plain-done-in-PlainDecimal.result done w.work-is w.done-is (record {
             suits = w.try_plain-done-in-PlainDecimal.ensures.suits;
             fits = w.try_plain-done-in-PlainDecimal.ensures.fits;
@@ -869,7 +926,7 @@ try_body-returns-then-is_err-2-clause-keeps t c =
             keeps = w.try_plain-done-in-PlainDecimal.ensures.keeps;
             room = w.try_plain-done-in-PlainDecimal.ensures.room;
           })
-      | try_body-in-CopyDecimal w ↦ moved l here old v w.try_copied_other-done-in-CopyDecimal.new.work new
+      | try_body-in-CopyDecimal w ↦ moved l there old v w.try_copied_other-done-in-CopyDecimal.new.work new
           w.try_copied_other-done-in-CopyDecimal.result done w.work-is w.done-is (record {
             suits = w.try_copied_other-done-in-CopyDecimal.ensures.suits;
             fits = w.try_copied_other-done-in-CopyDecimal.ensures.fits;
@@ -877,7 +934,7 @@ try_body-returns-then-is_err-2-clause-keeps t c =
             keeps = w.try_copied_other-done-in-CopyDecimal.ensures.keeps;
             room = w.try_copied_other-done-in-CopyDecimal.ensures.room;
           })
-      | try_body-in-DeltaDecimal w ↦ moved l here old v w.try_chosen-done-in-DeltaDecimal.new.work new
+      | try_body-in-DeltaDecimal w ↦ moved l there old v w.try_chosen-done-in-DeltaDecimal.new.work new
           w.try_chosen-done-in-DeltaDecimal.result done w.work-is w.done-is (record {
             suits = w.try_chosen-done-in-DeltaDecimal.ensures.suits;
             fits = w.try_chosen-done-in-DeltaDecimal.ensures.fits;
@@ -885,7 +942,7 @@ try_body-returns-then-is_err-2-clause-keeps t c =
             keeps = w.try_chosen-done-in-DeltaDecimal.ensures.keeps;
             room = w.try_chosen-done-in-DeltaDecimal.ensures.room;
           })
-      | try_body-in-DefaultParts w ↦ moved l here old v w.try_parts-done.new.work new
+      | try_body-in-DefaultParts w ↦ moved l there old v w.try_parts-done.new.work new
           w.try_parts-done.result done w.work-is w.done-is (record {
             suits = w.try_parts-done.ensures.suits;
             fits = w.try_parts-done.ensures.fits;
@@ -893,7 +950,7 @@ try_body-returns-then-is_err-2-clause-keeps t c =
             keeps = w.try_parts-done.ensures.keeps;
             room = w.try_parts-done.ensures.room;
           })
-      | try_body-in-CopyParts w ↦ moved l here old v w.try_parts-done-in-CopyParts.new.work new
+      | try_body-in-CopyParts w ↦ moved l there old v w.try_parts-done-in-CopyParts.new.work new
           w.try_parts-done-in-CopyParts.result done w.work-is w.done-is (record {
             suits = w.try_parts-done-in-CopyParts.ensures.suits;
             fits = w.try_parts-done-in-CopyParts.ensures.fits;
@@ -901,7 +958,7 @@ try_body-returns-then-is_err-2-clause-keeps t c =
             keeps = w.try_parts-done-in-CopyParts.ensures.keeps;
             room = w.try_parts-done-in-CopyParts.ensures.room;
           })
-      | try_body-in-Other w ↦ moved l here old v w.try_other-done.new.work new w.try_other-done.result done w.work-is w.done-is (record {
+      | try_body-in-Other w ↦ moved l there old v w.try_other-done.new.work new w.try_other-done.result done w.work-is w.done-is (record {
         suits = w.try_other-done.ensures.suits;
         fits = w.try_other-done.ensures.fits;
         ok = w.try_other-done.ensures.ok;
@@ -909,6 +966,10 @@ try_body-returns-then-is_err-2-clause-keeps t c =
         room = w.try_other-done.ensures.room;
       })
     ] in
+    let stands = step_in (nodes_of c.args.plan.now.templates.now) c.args.body.now c.args.steps.now c.loop-i.i no_step c.requires.steps
+    c.requires.nodes (omega (arith, c.if-not-has_slot_for_each.ensures.0 refl, c.loop-i-test.true)) in
+    let tried : Tried l here old v new done = subst (λ (n : ℕ). Tried l (instruction_in (nodes_of c.args.plan.now.templates.now) n) old v new done)
+    stands.0 tried_there in
     keeps_on c.args.work.now.ledger old.ledger new.ledger c.loop-i.invariant.keeps tried.keeps
 
 pub try_body-loop-i-preserved : goal.try_body-loop-i-preserved
@@ -924,8 +985,9 @@ try_body-loop-i-preserved t c =
     let inside : i < length c.args.body.now = omega (arith, c.if-not-has_slot_for_each.ensures.0 refl, c.loop-i-test.true) in
     let done = c.match-form_at.done in
     let v = value_data c.in-One.value in
-    let tried : Tried l here old v new done = elim c.match-form_at.branch [
-      | try_body-in-PlainUInt32 w ↦ moved l here old v w.try_plain_unsigned-done.new.work new w.try_plain_unsigned-done.result done
+    let there = instruction_in (nodes_of c.args.plan.now.templates.now) (get_or c.args.steps.now c.loop-i.i no_step).node in
+    let tried_there : Tried l there old v new done = elim c.match-form_at.branch [
+      | try_body-in-PlainUInt32 w ↦ moved l there old v w.try_plain_unsigned-done.new.work new w.try_plain_unsigned-done.result done
           w.work-is w.done-is (record {
             suits = w.try_plain_unsigned-done.ensures.suits;
             fits = w.try_plain_unsigned-done.ensures.fits;
@@ -933,14 +995,14 @@ try_body-loop-i-preserved t c =
             keeps = w.try_plain_unsigned-done.ensures.keeps;
             room = w.try_plain_unsigned-done.ensures.room;
           })
-      | try_body-in-PlainInt32 w ↦ moved l here old v w.try_plain-done.new.work new w.try_plain-done.result done w.work-is w.done-is (record {
+      | try_body-in-PlainInt32 w ↦ moved l there old v w.try_plain-done.new.work new w.try_plain-done.result done w.work-is w.done-is (record {
         suits = w.try_plain-done.ensures.suits;
         fits = w.try_plain-done.ensures.fits;
         ok = w.try_plain-done.ensures.ok;
         keeps = w.try_plain-done.ensures.keeps;
         room = w.try_plain-done.ensures.room;
       })
-      | try_body-in-PlainUInt64 w ↦ moved l here old v w.try_plain_unsigned-done-in-PlainUInt64.new.work new
+      | try_body-in-PlainUInt64 w ↦ moved l there old v w.try_plain_unsigned-done-in-PlainUInt64.new.work new
           w.try_plain_unsigned-done-in-PlainUInt64.result done w.work-is w.done-is (record {
             suits = w.try_plain_unsigned-done-in-PlainUInt64.ensures.suits;
             fits = w.try_plain_unsigned-done-in-PlainUInt64.ensures.fits;
@@ -948,7 +1010,7 @@ try_body-loop-i-preserved t c =
             keeps = w.try_plain_unsigned-done-in-PlainUInt64.ensures.keeps;
             room = w.try_plain_unsigned-done-in-PlainUInt64.ensures.room;
           })
-      | try_body-in-PlainInt64 w ↦ moved l here old v w.try_plain-done-in-PlainInt64.new.work new w.try_plain-done-in-PlainInt64.result
+      | try_body-in-PlainInt64 w ↦ moved l there old v w.try_plain-done-in-PlainInt64.new.work new w.try_plain-done-in-PlainInt64.result
           done w.work-is w.done-is (record {
             suits = w.try_plain-done-in-PlainInt64.ensures.suits;
             fits = w.try_plain-done-in-PlainInt64.ensures.fits;
@@ -956,14 +1018,14 @@ try_body-loop-i-preserved t c =
             keeps = w.try_plain-done-in-PlainInt64.ensures.keeps;
             room = w.try_plain-done-in-PlainInt64.ensures.room;
           })
-      | try_body-in-ConstantUInt32 w ↦ moved l here old v w.try_constant-done.new.work new w.try_constant-done.result done w.work-is w.done-is (record {
+      | try_body-in-ConstantUInt32 w ↦ moved l there old v w.try_constant-done.new.work new w.try_constant-done.result done w.work-is w.done-is (record {
         suits = w.try_constant-done.ensures.suits;
         fits = w.try_constant-done.ensures.fits;
         ok = w.try_constant-done.ensures.ok;
         keeps = w.try_constant-done.ensures.keeps;
         room = w.try_constant-done.ensures.room;
       })
-      | try_body-in-ConstantInt32 w ↦ moved l here old v w.try_constant-done-in-ConstantInt32.new.work new
+      | try_body-in-ConstantInt32 w ↦ moved l there old v w.try_constant-done-in-ConstantInt32.new.work new
           w.try_constant-done-in-ConstantInt32.result done w.work-is w.done-is (record {
             suits = w.try_constant-done-in-ConstantInt32.ensures.suits;
             fits = w.try_constant-done-in-ConstantInt32.ensures.fits;
@@ -971,7 +1033,7 @@ try_body-loop-i-preserved t c =
             keeps = w.try_constant-done-in-ConstantInt32.ensures.keeps;
             room = w.try_constant-done-in-ConstantInt32.ensures.room;
           })
-      | try_body-in-ConstantUInt64 w ↦ moved l here old v w.try_constant-done-in-ConstantUInt64.new.work new
+      | try_body-in-ConstantUInt64 w ↦ moved l there old v w.try_constant-done-in-ConstantUInt64.new.work new
           w.try_constant-done-in-ConstantUInt64.result done w.work-is w.done-is (record {
             suits = w.try_constant-done-in-ConstantUInt64.ensures.suits;
             fits = w.try_constant-done-in-ConstantUInt64.ensures.fits;
@@ -979,7 +1041,7 @@ try_body-loop-i-preserved t c =
             keeps = w.try_constant-done-in-ConstantUInt64.ensures.keeps;
             room = w.try_constant-done-in-ConstantUInt64.ensures.room;
           })
-      | try_body-in-ConstantInt64 w ↦ moved l here old v w.try_constant-done-in-ConstantInt64.new.work new
+      | try_body-in-ConstantInt64 w ↦ moved l there old v w.try_constant-done-in-ConstantInt64.new.work new
           w.try_constant-done-in-ConstantInt64.result done w.work-is w.done-is (record {
             suits = w.try_constant-done-in-ConstantInt64.ensures.suits;
             fits = w.try_constant-done-in-ConstantInt64.ensures.fits;
@@ -987,14 +1049,14 @@ try_body-loop-i-preserved t c =
             keeps = w.try_constant-done-in-ConstantInt64.ensures.keeps;
             room = w.try_constant-done-in-ConstantInt64.ensures.room;
           })
-      | try_body-in-DefaultUInt32 w ↦ moved l here old v w.try_default-done.new.work new w.try_default-done.result done w.work-is w.done-is (record {
+      | try_body-in-DefaultUInt32 w ↦ moved l there old v w.try_default-done.new.work new w.try_default-done.result done w.work-is w.done-is (record {
         suits = w.try_default-done.ensures.suits;
         fits = w.try_default-done.ensures.fits;
         ok = w.try_default-done.ensures.ok;
         keeps = w.try_default-done.ensures.keeps;
         room = w.try_default-done.ensures.room;
       })
-      | try_body-in-DefaultInt32 w ↦ moved l here old v w.try_default-done-in-DefaultInt32.new.work new
+      | try_body-in-DefaultInt32 w ↦ moved l there old v w.try_default-done-in-DefaultInt32.new.work new
           w.try_default-done-in-DefaultInt32.result done w.work-is w.done-is (record {
             suits = w.try_default-done-in-DefaultInt32.ensures.suits;
             fits = w.try_default-done-in-DefaultInt32.ensures.fits;
@@ -1002,7 +1064,7 @@ try_body-loop-i-preserved t c =
             keeps = w.try_default-done-in-DefaultInt32.ensures.keeps;
             room = w.try_default-done-in-DefaultInt32.ensures.room;
           })
-      | try_body-in-DefaultUInt64 w ↦ moved l here old v w.try_default-done-in-DefaultUInt64.new.work new
+      | try_body-in-DefaultUInt64 w ↦ moved l there old v w.try_default-done-in-DefaultUInt64.new.work new
           w.try_default-done-in-DefaultUInt64.result done w.work-is w.done-is (record {
             suits = w.try_default-done-in-DefaultUInt64.ensures.suits;
             fits = w.try_default-done-in-DefaultUInt64.ensures.fits;
@@ -1010,7 +1072,7 @@ try_body-loop-i-preserved t c =
             keeps = w.try_default-done-in-DefaultUInt64.ensures.keeps;
             room = w.try_default-done-in-DefaultUInt64.ensures.room;
           })
-      | try_body-in-DefaultInt64 w ↦ moved l here old v w.try_default-done-in-DefaultInt64.new.work new
+      | try_body-in-DefaultInt64 w ↦ moved l there old v w.try_default-done-in-DefaultInt64.new.work new
           w.try_default-done-in-DefaultInt64.result done w.work-is w.done-is (record {
             suits = w.try_default-done-in-DefaultInt64.ensures.suits;
             fits = w.try_default-done-in-DefaultInt64.ensures.fits;
@@ -1018,14 +1080,14 @@ try_body-loop-i-preserved t c =
             keeps = w.try_default-done-in-DefaultInt64.ensures.keeps;
             room = w.try_default-done-in-DefaultInt64.ensures.room;
           })
-      | try_body-in-CopyUInt32 w ↦ moved l here old v w.try_copied-done.new.work new w.try_copied-done.result done w.work-is w.done-is (record {
+      | try_body-in-CopyUInt32 w ↦ moved l there old v w.try_copied-done.new.work new w.try_copied-done.result done w.work-is w.done-is (record {
         suits = w.try_copied-done.ensures.suits;
         fits = w.try_copied-done.ensures.fits;
         ok = w.try_copied-done.ensures.ok;
         keeps = w.try_copied-done.ensures.keeps;
         room = w.try_copied-done.ensures.room;
       })
-      | try_body-in-CopyInt32 w ↦ moved l here old v w.try_copied-done-in-CopyInt32.new.work new w.try_copied-done-in-CopyInt32.result done
+      | try_body-in-CopyInt32 w ↦ moved l there old v w.try_copied-done-in-CopyInt32.new.work new w.try_copied-done-in-CopyInt32.result done
           w.work-is w.done-is (record {
             suits = w.try_copied-done-in-CopyInt32.ensures.suits;
             fits = w.try_copied-done-in-CopyInt32.ensures.fits;
@@ -1033,7 +1095,7 @@ try_body-loop-i-preserved t c =
             keeps = w.try_copied-done-in-CopyInt32.ensures.keeps;
             room = w.try_copied-done-in-CopyInt32.ensures.room;
           })
-      | try_body-in-CopyUInt64 w ↦ moved l here old v w.try_copied-done-in-CopyUInt64.new.work new w.try_copied-done-in-CopyUInt64.result
+      | try_body-in-CopyUInt64 w ↦ moved l there old v w.try_copied-done-in-CopyUInt64.new.work new w.try_copied-done-in-CopyUInt64.result
           done w.work-is w.done-is (record {
             suits = w.try_copied-done-in-CopyUInt64.ensures.suits;
             fits = w.try_copied-done-in-CopyUInt64.ensures.fits;
@@ -1041,7 +1103,7 @@ try_body-loop-i-preserved t c =
             keeps = w.try_copied-done-in-CopyUInt64.ensures.keeps;
             room = w.try_copied-done-in-CopyUInt64.ensures.room;
           })
-      | try_body-in-CopyInt64 w ↦ moved l here old v w.try_copied-done-in-CopyInt64.new.work new w.try_copied-done-in-CopyInt64.result done
+      | try_body-in-CopyInt64 w ↦ moved l there old v w.try_copied-done-in-CopyInt64.new.work new w.try_copied-done-in-CopyInt64.result done
           w.work-is w.done-is (record {
             suits = w.try_copied-done-in-CopyInt64.ensures.suits;
             fits = w.try_copied-done-in-CopyInt64.ensures.fits;
@@ -1049,14 +1111,14 @@ try_body-loop-i-preserved t c =
             keeps = w.try_copied-done-in-CopyInt64.ensures.keeps;
             room = w.try_copied-done-in-CopyInt64.ensures.room;
           })
-      | try_body-in-IncrementUInt32 w ↦ moved l here old v w.try_next-done.new.work new w.try_next-done.result done w.work-is w.done-is (record {
+      | try_body-in-IncrementUInt32 w ↦ moved l there old v w.try_next-done.new.work new w.try_next-done.result done w.work-is w.done-is (record {
         suits = w.try_next-done.ensures.suits;
         fits = w.try_next-done.ensures.fits;
         ok = w.try_next-done.ensures.ok;
         keeps = w.try_next-done.ensures.keeps;
         room = w.try_next-done.ensures.room;
       })
-      | try_body-in-IncrementInt32 w ↦ moved l here old v w.try_next-done-in-IncrementInt32.new.work new
+      | try_body-in-IncrementInt32 w ↦ moved l there old v w.try_next-done-in-IncrementInt32.new.work new
           w.try_next-done-in-IncrementInt32.result done w.work-is w.done-is (record {
             suits = w.try_next-done-in-IncrementInt32.ensures.suits;
             fits = w.try_next-done-in-IncrementInt32.ensures.fits;
@@ -1064,7 +1126,7 @@ try_body-loop-i-preserved t c =
             keeps = w.try_next-done-in-IncrementInt32.ensures.keeps;
             room = w.try_next-done-in-IncrementInt32.ensures.room;
           })
-      | try_body-in-IncrementUInt64 w ↦ moved l here old v w.try_next-done-in-IncrementUInt64.new.work new
+      | try_body-in-IncrementUInt64 w ↦ moved l there old v w.try_next-done-in-IncrementUInt64.new.work new
           w.try_next-done-in-IncrementUInt64.result done w.work-is w.done-is (record {
             suits = w.try_next-done-in-IncrementUInt64.ensures.suits;
             fits = w.try_next-done-in-IncrementUInt64.ensures.fits;
@@ -1072,7 +1134,7 @@ try_body-loop-i-preserved t c =
             keeps = w.try_next-done-in-IncrementUInt64.ensures.keeps;
             room = w.try_next-done-in-IncrementUInt64.ensures.room;
           })
-      | try_body-in-IncrementInt64 w ↦ moved l here old v w.try_next-done-in-IncrementInt64.new.work new
+      | try_body-in-IncrementInt64 w ↦ moved l there old v w.try_next-done-in-IncrementInt64.new.work new
           w.try_next-done-in-IncrementInt64.result done w.work-is w.done-is (record {
             suits = w.try_next-done-in-IncrementInt64.ensures.suits;
             fits = w.try_next-done-in-IncrementInt64.ensures.fits;
@@ -1080,14 +1142,14 @@ try_body-loop-i-preserved t c =
             keeps = w.try_next-done-in-IncrementInt64.ensures.keeps;
             room = w.try_next-done-in-IncrementInt64.ensures.room;
           })
-      | try_body-in-DeltaUInt32 w ↦ moved l here old v w.try_difference-done.new.work new w.try_difference-done.result done w.work-is w.done-is (record {
+      | try_body-in-DeltaUInt32 w ↦ moved l there old v w.try_difference-done.new.work new w.try_difference-done.result done w.work-is w.done-is (record {
         suits = w.try_difference-done.ensures.suits;
         fits = w.try_difference-done.ensures.fits;
         ok = w.try_difference-done.ensures.ok;
         keeps = w.try_difference-done.ensures.keeps;
         room = w.try_difference-done.ensures.room;
       })
-      | try_body-in-DeltaInt32 w ↦ moved l here old v w.try_difference-done-in-DeltaInt32.new.work new
+      | try_body-in-DeltaInt32 w ↦ moved l there old v w.try_difference-done-in-DeltaInt32.new.work new
           w.try_difference-done-in-DeltaInt32.result done w.work-is w.done-is (record {
             suits = w.try_difference-done-in-DeltaInt32.ensures.suits;
             fits = w.try_difference-done-in-DeltaInt32.ensures.fits;
@@ -1095,7 +1157,7 @@ try_body-loop-i-preserved t c =
             keeps = w.try_difference-done-in-DeltaInt32.ensures.keeps;
             room = w.try_difference-done-in-DeltaInt32.ensures.room;
           })
-      | try_body-in-DeltaUInt64 w ↦ moved l here old v w.try_difference-done-in-DeltaUInt64.new.work new
+      | try_body-in-DeltaUInt64 w ↦ moved l there old v w.try_difference-done-in-DeltaUInt64.new.work new
           w.try_difference-done-in-DeltaUInt64.result done w.work-is w.done-is (record {
             suits = w.try_difference-done-in-DeltaUInt64.ensures.suits;
             fits = w.try_difference-done-in-DeltaUInt64.ensures.fits;
@@ -1103,7 +1165,7 @@ try_body-loop-i-preserved t c =
             keeps = w.try_difference-done-in-DeltaUInt64.ensures.keeps;
             room = w.try_difference-done-in-DeltaUInt64.ensures.room;
           })
-      | try_body-in-DeltaInt64 w ↦ moved l here old v w.try_difference-done-in-DeltaInt64.new.work new
+      | try_body-in-DeltaInt64 w ↦ moved l there old v w.try_difference-done-in-DeltaInt64.new.work new
           w.try_difference-done-in-DeltaInt64.result done w.work-is w.done-is (record {
             suits = w.try_difference-done-in-DeltaInt64.ensures.suits;
             fits = w.try_difference-done-in-DeltaInt64.ensures.fits;
@@ -1111,7 +1173,7 @@ try_body-loop-i-preserved t c =
             keeps = w.try_difference-done-in-DeltaInt64.ensures.keeps;
             room = w.try_difference-done-in-DeltaInt64.ensures.room;
           })
-      | try_body-in-PlainAscii w ↦ moved l here old v w.try_plain-done-in-PlainAscii.new.work new w.try_plain-done-in-PlainAscii.result
+      | try_body-in-PlainAscii w ↦ moved l there old v w.try_plain-done-in-PlainAscii.new.work new w.try_plain-done-in-PlainAscii.result
           done w.work-is w.done-is (record {
             suits = w.try_plain-done-in-PlainAscii.ensures.suits;
             fits = w.try_plain-done-in-PlainAscii.ensures.fits;
@@ -1119,7 +1181,7 @@ try_body-loop-i-preserved t c =
             keeps = w.try_plain-done-in-PlainAscii.ensures.keeps;
             room = w.try_plain-done-in-PlainAscii.ensures.room;
           })
-      | try_body-in-ConstantAscii w ↦ moved l here old v w.try_constant-done-in-ConstantAscii.new.work new
+      | try_body-in-ConstantAscii w ↦ moved l there old v w.try_constant-done-in-ConstantAscii.new.work new
           w.try_constant-done-in-ConstantAscii.result done w.work-is w.done-is (record {
             suits = w.try_constant-done-in-ConstantAscii.ensures.suits;
             fits = w.try_constant-done-in-ConstantAscii.ensures.fits;
@@ -1127,7 +1189,7 @@ try_body-loop-i-preserved t c =
             keeps = w.try_constant-done-in-ConstantAscii.ensures.keeps;
             room = w.try_constant-done-in-ConstantAscii.ensures.room;
           })
-      | try_body-in-DefaultAscii w ↦ moved l here old v w.try_default-done-in-DefaultAscii.new.work new
+      | try_body-in-DefaultAscii w ↦ moved l there old v w.try_default-done-in-DefaultAscii.new.work new
           w.try_default-done-in-DefaultAscii.result done w.work-is w.done-is (record {
             suits = w.try_default-done-in-DefaultAscii.ensures.suits;
             fits = w.try_default-done-in-DefaultAscii.ensures.fits;
@@ -1135,21 +1197,21 @@ try_body-loop-i-preserved t c =
             keeps = w.try_default-done-in-DefaultAscii.ensures.keeps;
             room = w.try_default-done-in-DefaultAscii.ensures.room;
           })
-      | try_body-in-CopyAscii w ↦ moved l here old v w.try_copied_other-done.new.work new w.try_copied_other-done.result done w.work-is w.done-is (record {
+      | try_body-in-CopyAscii w ↦ moved l there old v w.try_copied_other-done.new.work new w.try_copied_other-done.result done w.work-is w.done-is (record {
         suits = w.try_copied_other-done.ensures.suits;
         fits = w.try_copied_other-done.ensures.fits;
         ok = w.try_copied_other-done.ensures.ok;
         keeps = w.try_copied_other-done.ensures.keeps;
         room = w.try_copied_other-done.ensures.room;
       })
-      | try_body-in-TailAscii w ↦ moved l here old v w.try_chosen-done.new.work new w.try_chosen-done.result done w.work-is w.done-is (record {
+      | try_body-in-TailAscii w ↦ moved l there old v w.try_chosen-done.new.work new w.try_chosen-done.result done w.work-is w.done-is (record {
         suits = w.try_chosen-done.ensures.suits;
         fits = w.try_chosen-done.ensures.fits;
         ok = w.try_chosen-done.ensures.ok;
         keeps = w.try_chosen-done.ensures.keeps;
         room = w.try_chosen-done.ensures.room;
       })
-      | try_body-in-DeltaAscii w ↦ moved l here old v w.try_chosen-done-in-DeltaAscii.new.work new w.try_chosen-done-in-DeltaAscii.result
+      | try_body-in-DeltaAscii w ↦ moved l there old v w.try_chosen-done-in-DeltaAscii.new.work new w.try_chosen-done-in-DeltaAscii.result
           done w.work-is w.done-is (record {
             suits = w.try_chosen-done-in-DeltaAscii.ensures.suits;
             fits = w.try_chosen-done-in-DeltaAscii.ensures.fits;
@@ -1157,7 +1219,7 @@ try_body-loop-i-preserved t c =
             keeps = w.try_chosen-done-in-DeltaAscii.ensures.keeps;
             room = w.try_chosen-done-in-DeltaAscii.ensures.room;
           })
-      | try_body-in-PlainUnicode w ↦ moved l here old v w.try_plain-done-in-PlainUnicode.new.work new
+      | try_body-in-PlainUnicode w ↦ moved l there old v w.try_plain-done-in-PlainUnicode.new.work new
           w.try_plain-done-in-PlainUnicode.result done w.work-is w.done-is (record {
             suits = w.try_plain-done-in-PlainUnicode.ensures.suits;
             fits = w.try_plain-done-in-PlainUnicode.ensures.fits;
@@ -1165,7 +1227,7 @@ try_body-loop-i-preserved t c =
             keeps = w.try_plain-done-in-PlainUnicode.ensures.keeps;
             room = w.try_plain-done-in-PlainUnicode.ensures.room;
           })
-      | try_body-in-DeltaUnicode w ↦ moved l here old v w.try_chosen-done-in-DeltaUnicode.new.work new
+      | try_body-in-DeltaUnicode w ↦ moved l there old v w.try_chosen-done-in-DeltaUnicode.new.work new
           w.try_chosen-done-in-DeltaUnicode.result done w.work-is w.done-is (record {
             suits = w.try_chosen-done-in-DeltaUnicode.ensures.suits;
             fits = w.try_chosen-done-in-DeltaUnicode.ensures.fits;
@@ -1173,7 +1235,7 @@ try_body-loop-i-preserved t c =
             keeps = w.try_chosen-done-in-DeltaUnicode.ensures.keeps;
             room = w.try_chosen-done-in-DeltaUnicode.ensures.room;
           })
-      | try_body-in-PlainBytes w ↦ moved l here old v w.try_plain-done-in-PlainBytes.new.work new w.try_plain-done-in-PlainBytes.result
+      | try_body-in-PlainBytes w ↦ moved l there old v w.try_plain-done-in-PlainBytes.new.work new w.try_plain-done-in-PlainBytes.result
           done w.work-is w.done-is (record {
             suits = w.try_plain-done-in-PlainBytes.ensures.suits;
             fits = w.try_plain-done-in-PlainBytes.ensures.fits;
@@ -1181,7 +1243,7 @@ try_body-loop-i-preserved t c =
             keeps = w.try_plain-done-in-PlainBytes.ensures.keeps;
             room = w.try_plain-done-in-PlainBytes.ensures.room;
           })
-      | try_body-in-TailBytes w ↦ moved l here old v w.try_chosen-done-in-TailBytes.new.work new w.try_chosen-done-in-TailBytes.result done
+      | try_body-in-TailBytes w ↦ moved l there old v w.try_chosen-done-in-TailBytes.new.work new w.try_chosen-done-in-TailBytes.result done
           w.work-is w.done-is (record {
             suits = w.try_chosen-done-in-TailBytes.ensures.suits;
             fits = w.try_chosen-done-in-TailBytes.ensures.fits;
@@ -1189,7 +1251,7 @@ try_body-loop-i-preserved t c =
             keeps = w.try_chosen-done-in-TailBytes.ensures.keeps;
             room = w.try_chosen-done-in-TailBytes.ensures.room;
           })
-      | try_body-in-PlainDecimal w ↦ moved l here old v w.try_plain-done-in-PlainDecimal.new.work new
+      | try_body-in-PlainDecimal w ↦ moved l there old v w.try_plain-done-in-PlainDecimal.new.work new
           w.try_plain-done-in-PlainDecimal.result done w.work-is w.done-is (record {
             suits = w.try_plain-done-in-PlainDecimal.ensures.suits;
             fits = w.try_plain-done-in-PlainDecimal.ensures.fits;
@@ -1197,7 +1259,7 @@ try_body-loop-i-preserved t c =
             keeps = w.try_plain-done-in-PlainDecimal.ensures.keeps;
             room = w.try_plain-done-in-PlainDecimal.ensures.room;
           })
-      | try_body-in-CopyDecimal w ↦ moved l here old v w.try_copied_other-done-in-CopyDecimal.new.work new
+      | try_body-in-CopyDecimal w ↦ moved l there old v w.try_copied_other-done-in-CopyDecimal.new.work new
           w.try_copied_other-done-in-CopyDecimal.result done w.work-is w.done-is (record {
             suits = w.try_copied_other-done-in-CopyDecimal.ensures.suits;
             fits = w.try_copied_other-done-in-CopyDecimal.ensures.fits;
@@ -1205,7 +1267,7 @@ try_body-loop-i-preserved t c =
             keeps = w.try_copied_other-done-in-CopyDecimal.ensures.keeps;
             room = w.try_copied_other-done-in-CopyDecimal.ensures.room;
           })
-      | try_body-in-DeltaDecimal w ↦ moved l here old v w.try_chosen-done-in-DeltaDecimal.new.work new
+      | try_body-in-DeltaDecimal w ↦ moved l there old v w.try_chosen-done-in-DeltaDecimal.new.work new
           w.try_chosen-done-in-DeltaDecimal.result done w.work-is w.done-is (record {
             suits = w.try_chosen-done-in-DeltaDecimal.ensures.suits;
             fits = w.try_chosen-done-in-DeltaDecimal.ensures.fits;
@@ -1213,7 +1275,7 @@ try_body-loop-i-preserved t c =
             keeps = w.try_chosen-done-in-DeltaDecimal.ensures.keeps;
             room = w.try_chosen-done-in-DeltaDecimal.ensures.room;
           })
-      | try_body-in-DefaultParts w ↦ moved l here old v w.try_parts-done.new.work new
+      | try_body-in-DefaultParts w ↦ moved l there old v w.try_parts-done.new.work new
           w.try_parts-done.result done w.work-is w.done-is (record {
             suits = w.try_parts-done.ensures.suits;
             fits = w.try_parts-done.ensures.fits;
@@ -1221,7 +1283,7 @@ try_body-loop-i-preserved t c =
             keeps = w.try_parts-done.ensures.keeps;
             room = w.try_parts-done.ensures.room;
           })
-      | try_body-in-CopyParts w ↦ moved l here old v w.try_parts-done-in-CopyParts.new.work new
+      | try_body-in-CopyParts w ↦ moved l there old v w.try_parts-done-in-CopyParts.new.work new
           w.try_parts-done-in-CopyParts.result done w.work-is w.done-is (record {
             suits = w.try_parts-done-in-CopyParts.ensures.suits;
             fits = w.try_parts-done-in-CopyParts.ensures.fits;
@@ -1229,7 +1291,7 @@ try_body-loop-i-preserved t c =
             keeps = w.try_parts-done-in-CopyParts.ensures.keeps;
             room = w.try_parts-done-in-CopyParts.ensures.room;
           })
-      | try_body-in-Other w ↦ moved l here old v w.try_other-done.new.work new w.try_other-done.result done w.work-is w.done-is (record {
+      | try_body-in-Other w ↦ moved l there old v w.try_other-done.new.work new w.try_other-done.result done w.work-is w.done-is (record {
         suits = w.try_other-done.ensures.suits;
         fits = w.try_other-done.ensures.fits;
         ok = w.try_other-done.ensures.ok;
@@ -1237,6 +1299,10 @@ try_body-loop-i-preserved t c =
         room = w.try_other-done.ensures.room;
       })
     ] in
+    let stands = step_in (nodes_of c.args.plan.now.templates.now) c.args.body.now c.args.steps.now c.loop-i.i no_step c.requires.steps
+    c.requires.nodes (omega (arith, c.if-not-has_slot_for_each.ensures.0 refl, c.loop-i-test.true)) in
+    let tried : Tried l here old v new done = subst (λ (n : ℕ). Tried l (instruction_in (nodes_of c.args.plan.now.templates.now) n) old v new done)
+    stands.0 tried_there in
     let good : is_ok done ≡ true = c.if-is_err-2.ensures.negation in
     let keeps = tried.keeps in
     let item : option_map item_data x ≡ Some (one v) = ap (option_map item_data) c.in-Some.is
@@ -1270,26 +1336,27 @@ pub try_item-try_segment-requires : goal.try_item-try_segment-requires
 try_item-try_segment-requires t c =
     let nodes = nodes_of c.args.plan.now.templates.now in
     let shape = Group c.in-Group-Group.optional c.in-Group-Group.body in
-    let later = subst (λ (z : Shape). AreBetween c.args.node (length nodes) (numbers_of z)) c.in-Group-Group.is-0 c.node.ensures.body in
+    let later = subst (λ (z : Shape). AreBetween c.args.here.now.node (length nodes) (numbers_of z)) c.in-Group-Group.is-0 c.node.ensures.body in
     let has = has_bits nodes c.segment_bits-has_map.result c.node.result.now shape
     (c.segment_bits-has_map.ensures c.node.result.now c.node.ensures.found) c.in-Group-Group.is-0 in
     let d : 4 * item_depth (item_data c.args.item.now) ≡ t = c.decreases in
     let deep : item_depth (item_data c.args.item.now) ≡ item_depth (group_item (slots_data c.in-Group-Group.slots.items)) =
     ap item_depth (ap item_data c.in-Group-Group.is-1 ∙ item_data-Group c.in-Group-Group.slots) in
     let smaller : 4 * slots_depth (slots_data c.deref-in-Group-Group.result.now) + 3 < t = rw c.deref-in-Group-Group.ensures.value (omega (arith, d, deep)) in
-    (smaller, (rw c.deref.ensures.value has, (rw c.deref.ensures.value (λ k h. (later k h).1), c.requires.ready)))
+    let steps = c.body.ensures c.node.result.now c.node.ensures.found ∙ ap (body_steps nodes) (ap numbers_of c.in-Group-Group.is-0) in
+    (smaller, (rw c.deref.ensures.value has, (rw c.deref.ensures.value (λ k h. (later k h).1), (rw c.deref.ensures.value steps, c.requires.ready))))
 
 pub try_item-returns-else-is_err-clause-accepted : goal.try_item-returns-else-is_err-clause-accepted
 try_item-returns-else-is_err-clause-accepted t c = λ e.
     let nodes = nodes_of c.args.plan.now.templates.now in
     let l = c.args.plan.now.limits in
     let v = c.node.result.now in
-    let at = label_of c.args.node v in
-    let i = instruction_in nodes c.args.node in
+    let at = label_of c.args.here.now.node v in
+    let i = instruction_in nodes c.args.here.now.node in
     let shape = Group c.in-Group-Group.optional c.in-Group-Group.body in
     let j = instruction_among nodes at shape in
     let y : Option ItemData = Some (group_item (slots_data c.in-Group-Group.slots.items)) in
-    let here : i ≡ j = at_shape nodes c.args.node v shape c.node.ensures.found c.node.ensures.body c.in-Group-Group.is-0 in
+    let here : i ≡ j = at_shape nodes c.args.here.now.node v shape c.node.ensures.found c.node.ensures.body c.in-Group-Group.is-0 in
     let item : Some (item_data c.args.item.now) ≡ y = ap (λ (z : Item). Some (item_data z)) c.in-Group-Group.is-1
     ∙ ap Some (item_data-Group c.in-Group-Group.slots) in
     let good : is_ok c.try_segment.result ≡ true = sym c.is_ok.ensures.value ∙ e in
@@ -1302,12 +1369,12 @@ try_item-returns-else-is_err-clause-ok t c = λ e.
     let nodes = nodes_of c.args.plan.now.templates.now in
     let l = c.args.plan.now.limits in
     let v = c.node.result.now in
-    let at = label_of c.args.node v in
-    let i = instruction_in nodes c.args.node in
+    let at = label_of c.args.here.now.node v in
+    let i = instruction_in nodes c.args.here.now.node in
     let shape = Group c.in-Group-Group.optional c.in-Group-Group.body in
     let j = instruction_among nodes at shape in
     let y : Option ItemData = Some (group_item (slots_data c.in-Group-Group.slots.items)) in
-    let here : i ≡ j = at_shape nodes c.args.node v shape c.node.ensures.found c.node.ensures.body c.in-Group-Group.is-0 in
+    let here : i ≡ j = at_shape nodes c.args.here.now.node v shape c.node.ensures.found c.node.ensures.body c.in-Group-Group.is-0 in
     let item : Some (item_data c.args.item.now) ≡ y = ap (λ (z : Item). Some (item_data z)) c.in-Group-Group.is-1
     ∙ ap Some (item_data-Group c.in-Group-Group.slots) in
     let good : is_ok c.try_segment.result ≡ true = sym c.is_ok.ensures.value ∙ e in
@@ -1329,7 +1396,7 @@ try_item-write_field-requires-clause-served t c =
     (field_data c.in-Sequence-Sequence.length) c.requires.ready
     (usable_at (tree_of c.args.plan.now.templates.now).entries c.node.result.now shape c.in-Sequence-Sequence.is-0
     c.node.ensures.usable).0
-    (λ m none long. short_at (nodes_of c.args.plan.now.templates.now) c.args.node c.node.result.now shape m c.node.ensures.found
+    (λ m none long. short_at (nodes_of c.args.plan.now.templates.now) c.args.here.now.node c.node.result.now shape m c.node.ensures.found
     c.in-Sequence-Sequence.is-0 none long)
 
 pub try_item-loop-row-init : goal.try_item-loop-row-init
@@ -1361,7 +1428,7 @@ pub try_item-try_segment-requires-in-loop-row : goal.try_item-try_segment-requir
 try_item-try_segment-requires-in-loop-row t c =
     let nodes = nodes_of c.args.plan.now.templates.now in
     let shape = Sequence c.in-Sequence-Sequence.length c.in-Sequence-Sequence.body in
-    let later = subst (λ (z : Shape). AreBetween c.args.node (length nodes) (numbers_of z)) c.in-Sequence-Sequence.is-0 c.node.ensures.body in
+    let later = subst (λ (z : Shape). AreBetween c.args.here.now.node (length nodes) (numbers_of z)) c.in-Sequence-Sequence.is-0 c.node.ensures.body in
     let has = has_bits nodes c.segment_bits-has_map-in-Sequence-Sequence.result c.node.result.now shape
     (c.segment_bits-has_map-in-Sequence-Sequence.ensures c.node.result.now c.node.ensures.found) c.in-Sequence-Sequence.is-0 in
     let d : 4 * item_depth (item_data c.args.item.now) ≡ t = c.decreases in
@@ -1372,7 +1439,16 @@ try_item-try_segment-requires-in-loop-row t c =
     c.loop-row-test.true c.row-item.is) in
     let smaller : 4 * slots_depth (slots_data c.deref-in-loop-row-2.result.now) + 3 < t =
     rw c.deref-in-loop-row-2.ensures.value (omega (arith, d, deep, own)) in
-    (smaller, (rw c.deref-in-loop-row.ensures.value has, (rw c.deref-in-loop-row.ensures.value (λ k h. (later k h).1), c.loop-row.invariant.ready)))
+    let steps = c.body-steps.ensures c.node.result.now c.node.ensures.found ∙ ap (body_steps nodes) (ap numbers_of c.in-Sequence-Sequence.is-0) in (
+      smaller,
+      (
+        rw c.deref-in-loop-row.ensures.value has,
+        (
+          rw c.deref-in-loop-row.ensures.value (λ k h. (later k h).1),
+          (rw c.deref-in-loop-row.ensures.value steps, c.loop-row.invariant.ready),
+        ),
+      ),
+    )
 
 pub try_item-loop-row-preserved : goal.try_item-loop-row-preserved
 try_item-loop-row-preserved t c =
@@ -1413,12 +1489,12 @@ try_item-returns-after-loop-row-clause-accepted t c = λ _.
     let nodes = nodes_of c.args.plan.now.templates.now in
     let l = c.args.plan.now.limits in
     let v = c.node.result.now in
-    let at = label_of c.args.node v in
-    let i = instruction_in nodes c.args.node in
+    let at = label_of c.args.here.now.node v in
+    let i = instruction_in nodes c.args.here.now.node in
     let shape = Sequence c.in-Sequence-Sequence.length c.in-Sequence-Sequence.body in
     let j = instruction_among nodes at shape in
     let y : Option ItemData = Some (sequence_item (elements_data c.in-Sequence-Sequence.rows.items)) in
-    let here : i ≡ j = at_shape nodes c.args.node v shape c.node.ensures.found c.node.ensures.body c.in-Sequence-Sequence.is-0 in
+    let here : i ≡ j = at_shape nodes c.args.here.now.node v shape c.node.ensures.found c.node.ensures.body c.in-Sequence-Sequence.is-0 in
     let item : Some (item_data c.args.item.now) ≡ y = ap (λ (z : Item). Some (item_data z)) c.in-Sequence-Sequence.is-1
     ∙ ap Some (item_data-Sequence c.in-Sequence-Sequence.rows) in
     let body = body_among nodes c.in-Sequence-Sequence.body.items in
@@ -1446,12 +1522,12 @@ try_item-returns-after-loop-row-clause-ok t c = λ _.
     let nodes = nodes_of c.args.plan.now.templates.now in
     let l = c.args.plan.now.limits in
     let v = c.node.result.now in
-    let at = label_of c.args.node v in
-    let i = instruction_in nodes c.args.node in
+    let at = label_of c.args.here.now.node v in
+    let i = instruction_in nodes c.args.here.now.node in
     let shape = Sequence c.in-Sequence-Sequence.length c.in-Sequence-Sequence.body in
     let j = instruction_among nodes at shape in
     let y : Option ItemData = Some (sequence_item (elements_data c.in-Sequence-Sequence.rows.items)) in
-    let here : i ≡ j = at_shape nodes c.args.node v shape c.node.ensures.found c.node.ensures.body c.in-Sequence-Sequence.is-0 in
+    let here : i ≡ j = at_shape nodes c.args.here.now.node v shape c.node.ensures.found c.node.ensures.body c.in-Sequence-Sequence.is-0 in
     let item : Some (item_data c.args.item.now) ≡ y = ap (λ (z : Item). Some (item_data z)) c.in-Sequence-Sequence.is-1
     ∙ ap Some (item_data-Sequence c.in-Sequence-Sequence.rows) in
     let long : c.len-in-Sequence-Sequence.result ≡ count (elements_data c.in-Sequence-Sequence.rows.items) =
@@ -1504,11 +1580,14 @@ try_body-returns-then-not-has_slot_for_each-clause-ok t c = λ h. absurd (cc h)
 pub try_body-bounds-slots-i : goal.try_body-bounds-slots-i
 try_body-bounds-slots-i t c = c.loop-i-test.true
 
-pub try_body-bounds-body-i : goal.try_body-bounds-body-i
-try_body-bounds-body-i t c = omega (arith, c.if-not-has_slot_for_each.ensures.0 refl, c.loop-i-test.true)
+pub try_body-bounds-steps-i : goal.try_body-bounds-steps-i
+try_body-bounds-steps-i t c =
+    let long = ap length c.requires.steps ∙ length-map c.args.body.now (body_step (nodes_of c.args.plan.now.templates.now)) in
+    omega (arith, long, c.if-not-has_slot_for_each.ensures.0 refl, c.loop-i-test.true)
 
 pub try_body-try_none-requires-clause-node : goal.try_body-try_none-requires-clause-node
-try_body-try_none-requires-clause-node t c = c.requires.nodes c.loop-i.i (omega (arith, c.if-not-has_slot_for_each.ensures.0 refl, c.loop-i-test.true))
+try_body-try_none-requires-clause-node t c = (step_in (nodes_of c.args.plan.now.templates.now) c.args.body.now c.args.steps.now c.loop-i.i no_step c.requires.steps
+    c.requires.nodes (omega (arith, c.if-not-has_slot_for_each.ensures.0 refl, c.loop-i-test.true))).1
 
 pub try_body-try_none-requires-clause-ready : goal.try_body-try_none-requires-clause-ready
 try_body-try_none-requires-clause-ready t c = c.loop-i.invariant.ready
@@ -1536,7 +1615,8 @@ try_body-returns-then-not-try_item t c =
     }
 
 pub try_body-form_at-requires : goal.try_body-form_at-requires
-try_body-form_at-requires t c = c.requires.nodes c.loop-i.i (omega (arith, c.if-not-has_slot_for_each.ensures.0 refl, c.loop-i-test.true))
+try_body-form_at-requires t c = (step_in (nodes_of c.args.plan.now.templates.now) c.args.body.now c.args.steps.now c.loop-i.i no_step c.requires.steps
+    c.requires.nodes (omega (arith, c.if-not-has_slot_for_each.ensures.0 refl, c.loop-i-test.true))).1
 
 pub try_body-returns-then-is_err-2-clause-suits : goal.try_body-returns-then-is_err-2-clause-suits
 try_body-returns-then-is_err-2-clause-suits t c = λ h. absurd (cc h)
@@ -1563,7 +1643,7 @@ pub try_body-returns-clause-keeps : goal.try_body-returns-clause-keeps
 try_body-returns-clause-keeps t c = c.loop-i.invariant.keeps
 
 pub try_item-node-requires : goal.try_item-node-requires
-try_item-node-requires t c = c.requires.node
+try_item-node-requires t c = c.requires.node.0
 
 pub try_item-push_bit_if-requires : goal.try_item-push_bit_if-requires
 try_item-push_bit_if-requires t c = tt
@@ -1575,7 +1655,7 @@ pub try_item-returns-then-is_err-clause-keeps : goal.try_item-returns-then-is_er
 try_item-returns-then-is_err-clause-keeps t c = keeps_all c.args.work.now.ledger
 
 pub try_item-segment_bits-has_map-requires : goal.try_item-segment_bits-has_map-requires
-try_item-segment_bits-has_map-requires t c = c.requires.node
+try_item-segment_bits-has_map-requires t c = c.requires.node.0
 
 pub try_item-returns-then-len-plan-clause-ok : goal.try_item-returns-then-len-plan-clause-ok
 try_item-returns-then-len-plan-clause-ok t c = λ h. absurd (cc h)
@@ -1625,7 +1705,7 @@ pub try_segment-try_body-requires : goal.try_segment-try_body-requires
 try_segment-try_body-requires t c =
     let d : 4 * slots_depth (slots_data c.args.slots.now) + 3 ≡ t = c.decreases in
     let smaller : 4 * slots_depth (slots_data c.args.slots.now) + 2 < t = omega (arith, d) in
-    (smaller, (c.requires.nodes, c.requires.ready))
+    (smaller, (c.requires.nodes, (c.requires.steps, c.requires.ready)))
 
 map_has_room : (has : Bool) (m : ℕ) (old mid new more : List ℕ) → m ≡ length old → mid ≡ old ++ (if has then 0 ∷ [] else [])
     → new ≡ mid ++ more → m + (if has then 1 else 0) ≤ length new
@@ -1683,7 +1763,7 @@ pub try_item-returns-then-is_err-2-clause-accepted : goal.try_item-returns-then-
 try_item-returns-then-is_err-2-clause-accepted t c = λ h. absurd (cc h)
 
 pub try_item-segment_bits-has_map-requires-in-Sequence-Sequence : goal.try_item-segment_bits-has_map-requires-in-Sequence-Sequence
-try_item-segment_bits-has_map-requires-in-Sequence-Sequence t c = c.requires.node
+try_item-segment_bits-has_map-requires-in-Sequence-Sequence t c = c.requires.node.0
 
 pub try_item-returns-then-is_err-3-clause-accepted : goal.try_item-returns-then-is_err-3-clause-accepted
 try_item-returns-then-is_err-3-clause-accepted t c = λ h. absurd (cc h)

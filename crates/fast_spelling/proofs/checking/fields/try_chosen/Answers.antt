@@ -34,7 +34,7 @@ returns-clause-ok c =
     let v = value_data c.args.value.now in
     let y : Option ItemData = Some (one v) in
     on_ok c.choose_value.result c.choose_value.ensures.ok (λ k. encodes_as l
-    (instruction_in (nodes_of c.args.plan.now.templates.now) c.args.node)
+    (instruction_in (nodes_of c.args.plan.now.templates.now) c.args.here.now.node)
     (field at f) y y d old new after c.field_at-field.ensures.instruction.1 refl
     (field_encodes l at f v d old new after (subst (λ (z : ScalarData). Wrote (EncodesField l f d (Some z)) old new after)
     c.in-Some.ensures.0 (k l c.requires.ready.room))))
@@ -59,7 +59,7 @@ choose_value-requires-clause-suited c = suited_as c.args.work.now.ledger.max_tex
 pub returns-clause-suits : goal.returns-clause-suits
 returns-clause-suits c =
     let here = c.field_at-field.ensures.instruction in
-    on_any c.choose_value.result (field_suits (instruction_in (nodes_of c.args.plan.now.templates.now) c.args.node) here.0
+    on_any c.choose_value.result (field_suits (instruction_in (nodes_of c.args.plan.now.templates.now) c.args.here.now.node) here.0
     (field_data c.field_at-field.result.now) c.args.kind
     (value_data c.args.value.now) here.1 c.field_at-field.ensures.kind c.in-Some.ensures.1)
 

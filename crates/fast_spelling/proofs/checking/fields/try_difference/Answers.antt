@@ -41,7 +41,7 @@ returns-clause-ok c =
     let v = value_data c.args.value.now in
     let y : Option ItemData = Some (one v) in
     on_ok c.write_difference.result c.write_difference.ensures.ok
-    (λ k. encodes_as l (instruction_in (nodes_of c.args.plan.now.templates.now) c.args.node)
+    (λ k. encodes_as l (instruction_in (nodes_of c.args.plan.now.templates.now) c.args.here.now.node)
     (field at f) y y d old new after c.known_at-at.ensures.instruction.1 refl
     (field_encodes l at f v d old new after (subst (λ (z : ScalarData). Wrote (EncodesField l f d (Some z)) old new after)
     c.in-Some.ensures.0 (k l c.requires.ready.room))))
@@ -70,7 +70,7 @@ write_difference-requires-clause-suited c = suited_as c.args.work.now.ledger.max
 pub returns-clause-suits : goal.returns-clause-suits
 returns-clause-suits c =
     let here = c.known_at-at.ensures.instruction in
-    on_any c.write_difference.result (field_suits (instruction_in (nodes_of c.args.plan.now.templates.now) c.args.node) here.0
+    on_any c.write_difference.result (field_suits (instruction_in (nodes_of c.args.plan.now.templates.now) c.args.here.now.node) here.0
     (field_data (field_there c.known_at-at.result.place)) c.args.kind
     (value_data c.args.value.now) here.1 c.known_at-at.ensures.kind c.in-Some.ensures.1)
 

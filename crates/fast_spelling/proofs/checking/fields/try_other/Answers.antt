@@ -24,7 +24,7 @@ write_field-requires-clause-served c =
     served c.args.plan.now.templates.now c.args.plan.now.limits c.args.work.now.ledger (field_data c.in-Field.field) c.requires.ready
     (usable_at (tree_of c.args.plan.now.templates.now).entries c.node.result.now
     (Field c.in-Field.field) c.in-Field.is c.node.ensures.usable)
-    (λ m none long. short_at (nodes_of c.args.plan.now.templates.now) c.args.node c.node.result.now
+    (λ m none long. short_at (nodes_of c.args.plan.now.templates.now) c.args.here.now.node c.node.result.now
     (Field c.in-Field.field) m c.node.ensures.found c.in-Field.is none long)
 
 pub write_decimal-requires-clause-exponent : goal.write_decimal-requires-clause-exponent
@@ -32,7 +32,7 @@ write_decimal-requires-clause-exponent c =
     served c.args.plan.now.templates.now c.args.plan.now.limits c.args.work.now.ledger (field_data c.in-Decimal.exponent) c.requires.ready
     (usable_at (tree_of c.args.plan.now.templates.now).entries c.node.result.now
     (Decimal c.in-Decimal.exponent c.in-Decimal.mantissa) c.in-Decimal.is c.node.ensures.usable).0
-    (λ m none long. short_at (nodes_of c.args.plan.now.templates.now) c.args.node c.node.result.now
+    (λ m none long. short_at (nodes_of c.args.plan.now.templates.now) c.args.here.now.node c.node.result.now
     (Decimal c.in-Decimal.exponent c.in-Decimal.mantissa) m c.node.ensures.found c.in-Decimal.is none (inl long))
 
 pub write_decimal-requires-clause-mantissa : goal.write_decimal-requires-clause-mantissa
@@ -40,26 +40,26 @@ write_decimal-requires-clause-mantissa c =
     served c.args.plan.now.templates.now c.args.plan.now.limits c.args.work.now.ledger (field_data c.in-Decimal.mantissa) c.requires.ready
     (usable_at (tree_of c.args.plan.now.templates.now).entries c.node.result.now
     (Decimal c.in-Decimal.exponent c.in-Decimal.mantissa) c.in-Decimal.is c.node.ensures.usable).1
-    (λ m none long. short_at (nodes_of c.args.plan.now.templates.now) c.args.node c.node.result.now
+    (λ m none long. short_at (nodes_of c.args.plan.now.templates.now) c.args.here.now.node c.node.result.now
     (Decimal c.in-Decimal.exponent c.in-Decimal.mantissa) m c.node.ensures.found c.in-Decimal.is none (inr long))
 
 pub returns-in_ok-write_field-in-Field-clause-suits : goal.returns-in_ok-write_field-in-Field-clause-suits
 returns-in_ok-write_field-in-Field-clause-suits c =
     let nodes = nodes_of c.args.plan.now.templates.now in
     let v = c.node.result.now in
-    let here : instruction_in nodes c.args.node ≡ instruction_among nodes (label_of c.args.node v) (Field c.in-Field.field) =
-    at_shape nodes c.args.node v (Field c.in-Field.field) c.node.ensures.found c.node.ensures.body c.in-Field.is in
+    let here : instruction_in nodes c.args.here.now.node ≡ instruction_among nodes (label_of c.args.here.now.node v) (Field c.in-Field.field) =
+    at_shape nodes c.args.here.now.node v (Field c.in-Field.field) c.node.ensures.found c.node.ensures.body c.in-Field.is in
     subst (λ (z : Instruction). Suits z (Some (one (value_data c.args.value.now)))) (sym here) (c.if-not-may_be.ensures refl).0
 
 pub returns-in_ok-write_field-in-Field-clause-ok : goal.returns-in_ok-write_field-in-Field-clause-ok
 returns-in_ok-write_field-in-Field-clause-ok c =
     let nodes = nodes_of c.args.plan.now.templates.now in
     let v = c.node.result.now in
-    let at = label_of c.args.node v in
-    let i = instruction_in nodes c.args.node in
+    let at = label_of c.args.here.now.node v in
+    let i = instruction_in nodes c.args.here.now.node in
     let j = instruction_among nodes at (Field c.in-Field.field) in
     let y : Option ItemData = Some (one (value_data c.args.value.now)) in
-    let here : i ≡ j = at_shape nodes c.args.node v (Field c.in-Field.field) c.node.ensures.found c.node.ensures.body c.in-Field.is in
+    let here : i ≡ j = at_shape nodes c.args.here.now.node v (Field c.in-Field.field) c.node.ensures.found c.node.ensures.body c.in-Field.is in
     encodes_as c.args.plan.now.limits i j y y c.args.work.now.ledger.now c.args.work.now.draft c.write_field.new.draft c.write_field.new.ledger.now here refl
     (field_encodes c.args.plan.now.limits at (field_data c.in-Field.field)
     (value_data c.args.value.now) c.args.work.now.ledger.now c.args.work.now.draft c.write_field.new.draft c.write_field.new.ledger.now
@@ -71,9 +71,9 @@ pub returns-in_ok-write_decimal-in-Decimal-clause-suits : goal.returns-in_ok-wri
 returns-in_ok-write_decimal-in-Decimal-clause-suits c =
     let nodes = nodes_of c.args.plan.now.templates.now in
     let v = c.node.result.now in
-    let here : instruction_in nodes c.args.node ≡ instruction_among nodes (label_of c.args.node v)
+    let here : instruction_in nodes c.args.here.now.node ≡ instruction_among nodes (label_of c.args.here.now.node v)
     (Decimal c.in-Decimal.exponent c.in-Decimal.mantissa) =
-    at_shape nodes c.args.node v (Decimal c.in-Decimal.exponent c.in-Decimal.mantissa) c.node.ensures.found c.node.ensures.body
+    at_shape nodes c.args.here.now.node v (Decimal c.in-Decimal.exponent c.in-Decimal.mantissa) c.node.ensures.found c.node.ensures.body
     c.in-Decimal.is in
     subst (λ (z : Instruction). Suits z (Some (one (value_data c.args.value.now)))) (sym here)
     ((decimal_right (field_data c.in-Decimal.exponent) (value_data c.args.value.now)).0 (c.if-not-may_be-2.ensures refl).0)
@@ -82,11 +82,11 @@ pub returns-in_ok-write_decimal-in-Decimal-clause-ok : goal.returns-in_ok-write_
 returns-in_ok-write_decimal-in-Decimal-clause-ok c =
     let nodes = nodes_of c.args.plan.now.templates.now in
     let v = c.node.result.now in
-    let at = label_of c.args.node v in
-    let i = instruction_in nodes c.args.node in
+    let at = label_of c.args.here.now.node v in
+    let i = instruction_in nodes c.args.here.now.node in
     let j = instruction_among nodes at (Decimal c.in-Decimal.exponent c.in-Decimal.mantissa) in
     let y : Option ItemData = Some (one (value_data c.args.value.now)) in
-    let here : i ≡ j = at_shape nodes c.args.node v (Decimal c.in-Decimal.exponent c.in-Decimal.mantissa) c.node.ensures.found
+    let here : i ≡ j = at_shape nodes c.args.here.now.node v (Decimal c.in-Decimal.exponent c.in-Decimal.mantissa) c.node.ensures.found
     c.node.ensures.body c.in-Decimal.is in
     encodes_as c.args.plan.now.limits i j y y c.args.work.now.ledger.now c.args.work.now.draft c.write_decimal.new.draft
     c.write_decimal.new.ledger.now here refl

@@ -22,7 +22,7 @@ write_decimal-requires-clause-exponent c =
     served c.args.plan.now.templates.now c.args.plan.now.limits c.args.work.now.ledger (field_data c.in-Decimal.exponent) c.requires.ready
     (usable_at (tree_of c.args.plan.now.templates.now).entries c.node.result.now
     (Decimal c.in-Decimal.exponent c.in-Decimal.mantissa) c.in-Decimal.is c.node.ensures.usable).0
-    (λ m none long. short_at (nodes_of c.args.plan.now.templates.now) c.args.node c.node.result.now
+    (λ m none long. short_at (nodes_of c.args.plan.now.templates.now) c.args.here.now.node c.node.result.now
     (Decimal c.in-Decimal.exponent c.in-Decimal.mantissa) m c.node.ensures.found c.in-Decimal.is none (inl long))
 
 pub write_decimal-requires-clause-mantissa : goal.write_decimal-requires-clause-mantissa
@@ -30,16 +30,16 @@ write_decimal-requires-clause-mantissa c =
     served c.args.plan.now.templates.now c.args.plan.now.limits c.args.work.now.ledger (field_data c.in-Decimal.mantissa) c.requires.ready
     (usable_at (tree_of c.args.plan.now.templates.now).entries c.node.result.now
     (Decimal c.in-Decimal.exponent c.in-Decimal.mantissa) c.in-Decimal.is c.node.ensures.usable).1
-    (λ m none long. short_at (nodes_of c.args.plan.now.templates.now) c.args.node c.node.result.now
+    (λ m none long. short_at (nodes_of c.args.plan.now.templates.now) c.args.here.now.node c.node.result.now
     (Decimal c.in-Decimal.exponent c.in-Decimal.mantissa) m c.node.ensures.found c.in-Decimal.is none (inr long))
 
 pub returns-clause-suits : goal.returns-clause-suits
 returns-clause-suits c =
     let nodes = nodes_of c.args.plan.now.templates.now in
     let v = c.node.result.now in
-    let here : instruction_in nodes c.args.node ≡ instruction_among nodes (label_of c.args.node v)
+    let here : instruction_in nodes c.args.here.now.node ≡ instruction_among nodes (label_of c.args.here.now.node v)
     (Decimal c.in-Decimal.exponent c.in-Decimal.mantissa) =
-    at_shape nodes c.args.node v (Decimal c.in-Decimal.exponent c.in-Decimal.mantissa) c.node.ensures.found c.node.ensures.body
+    at_shape nodes c.args.here.now.node v (Decimal c.in-Decimal.exponent c.in-Decimal.mantissa) c.node.ensures.found c.node.ensures.body
     c.in-Decimal.is in
     on_any c.write_decimal.result (subst (λ (z : Instruction). Suits z (Some (one (value_data c.args.value.now)))) (sym here)
     ((decimal_right (field_data c.in-Decimal.exponent) (value_data c.args.value.now)).0 (c.in-Some.ensures.right refl)))
@@ -53,11 +53,11 @@ pub returns-clause-ok : goal.returns-clause-ok
 returns-clause-ok c =
     let nodes = nodes_of c.args.plan.now.templates.now in
     let v = c.node.result.now in
-    let at = label_of c.args.node v in
-    let i = instruction_in nodes c.args.node in
+    let at = label_of c.args.here.now.node v in
+    let i = instruction_in nodes c.args.here.now.node in
     let j = instruction_among nodes at (Decimal c.in-Decimal.exponent c.in-Decimal.mantissa) in
     let y : Option ItemData = Some (one (value_data c.args.value.now)) in
-    let here : i ≡ j = at_shape nodes c.args.node v (Decimal c.in-Decimal.exponent c.in-Decimal.mantissa) c.node.ensures.found
+    let here : i ≡ j = at_shape nodes c.args.here.now.node v (Decimal c.in-Decimal.exponent c.in-Decimal.mantissa) c.node.ensures.found
     c.node.ensures.body c.in-Decimal.is in
     on_ok c.write_decimal.result c.write_decimal.ensures.ok (λ wrote.
     encodes_as c.args.plan.now.limits i j y y c.args.work.now.ledger.now c.args.work.now.draft c.write_decimal.new.draft

@@ -27,7 +27,7 @@ use Rattle.fast_spelling.proofs.checking.fields.try_plain_unsigned.Goals as goal
 
 pub returns-clause-suits : goal.returns-clause-suits
 returns-clause-suits c =
-    let h = (field_step c.args.plan.now c.args.node c.args.kind no_operator c.index.result.now c.requires.node c.index.ensures c.requires.form).known in
+    let h = (field_step c.args.plan.now c.args.here.now c.args.kind no_operator c.requires.node c.requires.form).known in
     let v = value_data c.args.value.now in
     subst (λ (i : Instruction). Suits i (Some (one v))) (sym h.instruction.1)
     (subst (λ (k : Kind). IsRight k v) (sym h.of_kind) (c.in-Some-U.ensures.right refl))
@@ -35,11 +35,11 @@ returns-clause-suits c =
 pub returns-clause-ok : goal.returns-clause-ok
 returns-clause-ok c =
     let nodes = nodes_of c.args.plan.now.templates.now in
-    let step = c.index.result.now in
+    let step = c.args.here.now.step in
     let l = c.args.plan.now.limits in
     let d = c.args.work.now.ledger.now in
     let old = c.args.work.now.draft in
-    let there = field_step c.args.plan.now c.args.node c.args.kind no_operator c.index.result.now c.requires.node c.index.ensures c.requires.form in
+    let there = field_step c.args.plan.now c.args.here.now c.args.kind no_operator c.requires.node c.requires.form in
     let i = there.field in
     let h = there.known in
     let f : FieldData = field_data i in
@@ -62,7 +62,7 @@ returns-clause-ok c =
     (value_sendable f.kind v l.max_text small right (omega (arith, none))) spelled
     (ap (λ (u : Bool). if u then true ∷ [] else []) (sym unused)) kept in
     let new = record old { bytes = c.write_unsigned_as.new.bytes } in
-    encodes_as l (instruction_in nodes c.args.node) (field h.instruction.0 f) y y d old new d h.instruction.1 refl
+    encodes_as l (instruction_in nodes c.args.here.now.node) (field h.instruction.0 f) y y d old new d h.instruction.1 refl
     (field_encodes l h.instruction.0 f v d old new d ([], w.0, sym (append-nil old.bits), w.1, says))
 
 pub branch-write_unsigned_as-requires : goal.branch-write_unsigned_as-requires

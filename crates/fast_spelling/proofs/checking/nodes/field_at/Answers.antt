@@ -12,8 +12,8 @@ use Rattle.fast_spelling.proofs.checking.nodes.field_at.Goals.{In-Field}
 
 pub returns-clause-instruction : goal.returns-clause-instruction
 returns-clause-instruction c = (
-  label_of c.args.node c.node.result.now,
-  at_shape (nodes_of c.args.plan.now.templates.now) c.args.node c.node.result.now
+  label_of c.args.here.now.node c.node.result.now,
+  at_shape (nodes_of c.args.plan.now.templates.now) c.args.here.now.node c.node.result.now
       (Field c.in-Field.field) c.node.ensures.found c.node.ensures.body c.in-Field.is,
 )
 
@@ -22,7 +22,7 @@ returns-clause-usable c = usable_at (tree_of c.args.plan.now.templates.now).entr
     (Field c.in-Field.field) c.in-Field.is c.node.ensures.usable
 
 pub returns-clause-initial : goal.returns-clause-initial
-returns-clause-initial c = λ m none long. short_at (nodes_of c.args.plan.now.templates.now) c.args.node c.node.result.now
+returns-clause-initial c = λ m none long. short_at (nodes_of c.args.plan.now.templates.now) c.args.here.now.node c.node.result.now
     (Field c.in-Field.field) m c.node.ensures.found c.in-Field.is none long
 
 is_field : (c : In-Field) → IsFieldOf c.args.kind c.args.operator (Field c.in-Field.field)

@@ -16,7 +16,7 @@ use Rattle.fast_spelling.proofs.checking.nodes.known_at.Goals.{then-keeps, else-
 
 pub invariant_of-result : goal.invariant_of-result
 invariant_of-result c =
-    let h = field_step c.args.plan.now c.args.node c.args.kind c.args.operator c.index-step.result.now c.requires.node c.index-step.ensures c.requires.form in
+    let h = field_step c.args.plan.now c.args.here.now c.args.kind c.args.operator c.requires.node c.requires.form in
     let kept : keeps_value c.args.operator ≡ is_some h.field.entry = ap keeps_value (sym h.known.under) ∙ h.known.usable.kept in
     let told = sym kept ∙ sym c.keeps.ensures.value in
     record {
@@ -31,26 +31,26 @@ invariant_of-result c =
 
 pub returns-clause-kind : goal.returns-clause-kind
 returns-clause-kind c =
-    let h = field_step c.args.plan.now c.args.node c.args.kind c.args.operator c.index-step.result.now c.requires.node c.index-step.ensures c.requires.form in
+    let h = field_step c.args.plan.now c.args.here.now c.args.kind c.args.operator c.requires.node c.requires.form in
     ap (λ (g : FieldInstruction). g.kind) h.there ∙ h.known.of_kind
 
 pub returns-clause-operator : goal.returns-clause-operator
 returns-clause-operator c =
-    let h = field_step c.args.plan.now c.args.node c.args.kind c.args.operator c.index-step.result.now c.requires.node c.index-step.ensures c.requires.form in
+    let h = field_step c.args.plan.now c.args.here.now c.args.kind c.args.operator c.requires.node c.requires.form in
     ap (λ (g : FieldInstruction). g.operator) h.there ∙ h.known.under
 
 pub returns-clause-instruction : goal.returns-clause-instruction
 returns-clause-instruction c =
-    let h = field_step c.args.plan.now c.args.node c.args.kind c.args.operator c.index-step.result.now c.requires.node c.index-step.ensures c.requires.form in
+    let h = field_step c.args.plan.now c.args.here.now c.args.kind c.args.operator c.requires.node c.requires.form in
     let at = h.known.instruction in
     (at.0, at.1 ∙ ap (λ (g : FieldInstruction). field at.0 (field_data g)) (sym h.there))
 
 pub returns-clause-usable : goal.returns-clause-usable
 returns-clause-usable c =
-    let h = field_step c.args.plan.now c.args.node c.args.kind c.args.operator c.index-step.result.now c.requires.node c.index-step.ensures c.requires.form in
+    let h = field_step c.args.plan.now c.args.here.now c.args.kind c.args.operator c.requires.node c.requires.form in
     subst (λ (g : FieldInstruction). IsUsable (tree_of c.args.plan.now.templates.now).entries (field_data g)) (sym h.there) h.known.usable
 
 pub returns-clause-initial : goal.returns-clause-initial
 returns-clause-initial c = λ m none long.
-    let h = field_step c.args.plan.now c.args.node c.args.kind c.args.operator c.index-step.result.now c.requires.node c.index-step.ensures c.requires.form in
+    let h = field_step c.args.plan.now c.args.here.now c.args.kind c.args.operator c.requires.node c.requires.form in
     h.known.initial m none (subst (λ (g : FieldInstruction). IsLongText m (field_data g).initial) h.there long)

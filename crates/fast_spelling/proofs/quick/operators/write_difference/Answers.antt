@@ -1,5 +1,5 @@
 -- What the value is more than the entry holds is sent.
-use Rattle.std.proofs.Common.{◌≡◌, [], ◌∷◌, refl, ap, sym, subst, ◌∙◌, ℕ, ℤ}
+use Rattle.std.proofs.Common.{[], ◌∷◌, refl, ap, sym, subst, ℕ}
 use Rattle.std.specs.Prelude.{Bool, true, ◌-ℤ◌, if◌then◌else◌, Some}
 use Rattle.std.proofs.lemmas.List.{append-nil}
 use Rattle.fast_wire.specs.meaning.Shortest.{IsShortest}
