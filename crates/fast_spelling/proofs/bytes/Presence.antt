@@ -2,7 +2,8 @@
 use Rattle.std.proofs.Common.{◌≡◌, ◌⊎◌, inl, inr, ℕ, zero, suc, ◌+◌, ◌-◌, ◌*◌, ◌/◌, ◌%◌, ◌^◌, ◌<◌, ◌≤◌, ◌++◌, List, [], ◌∷◌, refl, ap, sym, ◌∙◌, arith}
 use Rattle.std.specs.Prelude.{Bool, false, nat_eq, slice_index_or, replicate, length, take, drop}
 use Rattle.std.specs.Int.Count.{count_leading_zeros, leading_unique}
-use Rattle.std.proofs.Math.Nat.{add-mul, div-div-eq-div-mul, div-lt_iff_lt-mul, mod-add-div', mod-lt, mul-add, mul_assoc, mul-lt-mul_of_pos_right, one-le-pow, pow-le-pow_right, pow-suc, two-pow-succ}
+use Rattle.std.proofs.Math.Nat.{add-mul, div-div-eq-div-mul, div-lt_iff_lt-mul, mod-add-div', mod-lt, mul-add}
+use Rattle.std.proofs.Math.Nat.{mul_assoc, mul-lt-mul_of_pos_right, one-le-pow, pow-le-pow_right, pow-suc, two-pow-succ}
 use Rattle.std.proofs.lemmas.Bool.{cases_lt}
 use Rattle.std.proofs.lemmas.Nat.{leading_top, le-div, pow-add}
 use Rattle.std.proofs.lemmas.List.{append-nil, append_assoc, length-append, replicate-append-replicate}
@@ -123,7 +124,8 @@ few_zeros w some room = let (j, e, low, high) = leading_top 64 w (omega (arith, 
 pub length_low : (n x : ℕ) → length (low_bits n x) ≡ n
 unfolding low_bits
 length_low zero x = refl
-length_low (suc n) x = let next : n + 1 ≡ suc n = omega arith in length-append (low_bits n (x / 2)) (nat_eq (x % 2) 1 ∷ []) ∙ ap (λ (k : ℕ). k + 1) (length_low n (x / 2)) ∙ next
+length_low (suc n) x = let next : n + 1 ≡ suc n = omega arith in length-append (low_bits n (x / 2)) (nat_eq (x % 2) 1 ∷ [])
+    ∙ ap (λ (k : ℕ). k + 1) (length_low n (x / 2)) ∙ next
 
 -- The bits of a word from an index on are its lower ones,
 pub later_bits : (w from : ℕ) → from ≤ 63 - count_leading_zeros 64 w
@@ -168,7 +170,8 @@ top_bits w k room few =
     let small : r < 2 ^ k = mod-lt w (omega (arith, some)) in
     let sum : k + (63 - k) ≡ 63 = omega (arith, few) in
     let full : 2 ^ k * p ≡ 2 ^ 63 = sym (pow-add 2 k (63 - k)) ∙ ap (λ (n : ℕ). 2 ^ n) sum in
-    let parts : w * p ≡ a * 2 ^ 63 + r * p = ap (λ (x : ℕ). x * p) is ∙ add-mul (a * 2 ^ k) r p ∙ ap (λ (x : ℕ). x + r * p) (mul_assoc a (2 ^ k) p ∙ ap (λ (x : ℕ). a * x) full) in
+    let parts : w * p ≡ a * 2 ^ 63 + r * p = ap (λ (x : ℕ). x * p) is ∙ add-mul (a * 2 ^ k) r p ∙ ap (λ (x : ℕ). x + r * p) (mul_assoc a (2 ^ k) p
+    ∙ ap (λ (x : ℕ). a * x) full) in
     let less : r * p < 2 ^ k * p = mul-lt-mul_of_pos_right small (one-le-pow (63 - k) 2 (omega arith)) in
     let next : 64 - k ≡ suc (63 - k) = omega (arith, few) in
     let both : r * 2 ^ (64 - k) ≡ r * p + r * p = ap (λ (n : ℕ). r * 2 ^ n) next ∙ ap (λ (x : ℕ). r * x) (two-pow-succ (63 - k)) ∙ mul-add r p p in

@@ -131,7 +131,8 @@ pub steps_more : (nodes : List Node) (body : List ℕ) (i : ℕ) (x : Node) → 
     → body_steps nodes (take i body) ++ record { node = get_or body i 0; step = step_of x.shape } ∷ [] ≡ body_steps nodes (take (i + 1) body)
 steps_more nodes body i x within found =
     let n : ℕ = get_or body i 0 in
-    let here : record { node = n; step = step_of x.shape } ≡ body_step nodes n = ap (λ (o : Option Node). record { node = n; step = step_there o }) (sym found) in
+    let here : record { node = n; step = step_of x.shape } ≡ body_step nodes n = ap (λ (o : Option Node). record { node = n; step = step_there o })
+    (sym found) in
     ap (λ (z : BodyStep). body_steps nodes (take i body) ++ z ∷ []) here ∙ sym (map-append (body_step nodes) (take i body) (n ∷ []))
     ∙ ap (body_steps nodes) (sym (take_more body i 0 within))
 

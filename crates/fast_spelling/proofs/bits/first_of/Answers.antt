@@ -20,7 +20,9 @@ pub overflow_sub-result : goal.overflow_sub-result
 overflow_sub-result c = let few = within c in omega (arith, few)
 
 pub returns-clause-marked : goal.returns-clause-marked
-returns-clause-marked c = let few = within c in let fits = c.ranges.word.fits in (first_bits c.args.word c.args.count c.requires.some (omega (arith, fits)) (omega (arith, few))).0
+returns-clause-marked c = let few = within c in let fits = c.ranges.word.fits in (first_bits c.args.word c.args.count c.requires.some (omega
+    (arith, fits)) (omega (arith, few))).0
 
 pub returns-clause-bits : goal.returns-clause-bits
-returns-clause-bits c = let few = within c in let fits = c.ranges.word.fits in (first_bits c.args.word c.args.count c.requires.some (omega (arith, fits)) (omega (arith, few))).1
+returns-clause-bits c = let few = within c in let fits = c.ranges.word.fits in (first_bits c.args.word c.args.count c.requires.some (omega
+    (arith, fits)) (omega (arith, few))).1

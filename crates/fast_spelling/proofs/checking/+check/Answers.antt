@@ -189,7 +189,8 @@ pub try_body-try_plain_unsigned-done-requires-clause-ready : goal.try_body-try_p
 try_body-try_plain_unsigned-done-requires-clause-ready t c = c.loop-i.invariant.ready
 
 pub try_body-try_plain-done-requires-clause-node : goal.try_body-try_plain-done-requires-clause-node
-try_body-try_plain-done-requires-clause-node t c = (step_in (nodes_of c.args.plan.now.templates.now) c.args.body.now c.args.steps.now c.loop-i.i no_step c.requires.steps
+try_body-try_plain-done-requires-clause-node t c = (step_in (nodes_of c.args.plan.now.templates.now) c.args.body.now c.args.steps.now
+    c.loop-i.i no_step c.requires.steps
     c.requires.nodes (omega (arith, c.if-not-has_slot_for_each.ensures.0 refl, c.loop-i-test.true))).1
 
 pub try_body-try_plain-done-requires-clause-form : goal.try_body-try_plain-done-requires-clause-form
@@ -221,7 +222,8 @@ pub try_body-try_plain-done-requires-in-PlainInt64-clause-ready : goal.try_body-
 try_body-try_plain-done-requires-in-PlainInt64-clause-ready t c = c.loop-i.invariant.ready
 
 pub try_body-try_constant-done-requires-clause-node : goal.try_body-try_constant-done-requires-clause-node
-try_body-try_constant-done-requires-clause-node t c = (step_in (nodes_of c.args.plan.now.templates.now) c.args.body.now c.args.steps.now c.loop-i.i no_step c.requires.steps
+try_body-try_constant-done-requires-clause-node t c = (step_in (nodes_of c.args.plan.now.templates.now) c.args.body.now c.args.steps.now
+    c.loop-i.i no_step c.requires.steps
     c.requires.nodes (omega (arith, c.if-not-has_slot_for_each.ensures.0 refl, c.loop-i-test.true))).1
 
 pub try_body-try_constant-done-requires-clause-form : goal.try_body-try_constant-done-requires-clause-form
@@ -264,7 +266,8 @@ pub try_body-try_constant-done-requires-in-ConstantInt64-clause-ready : goal.try
 try_body-try_constant-done-requires-in-ConstantInt64-clause-ready t c = c.loop-i.invariant.ready
 
 pub try_body-try_default-done-requires-clause-node : goal.try_body-try_default-done-requires-clause-node
-try_body-try_default-done-requires-clause-node t c = (step_in (nodes_of c.args.plan.now.templates.now) c.args.body.now c.args.steps.now c.loop-i.i no_step c.requires.steps
+try_body-try_default-done-requires-clause-node t c = (step_in (nodes_of c.args.plan.now.templates.now) c.args.body.now c.args.steps.now
+    c.loop-i.i no_step c.requires.steps
     c.requires.nodes (omega (arith, c.if-not-has_slot_for_each.ensures.0 refl, c.loop-i-test.true))).1
 
 pub try_body-try_default-done-requires-clause-form : goal.try_body-try_default-done-requires-clause-form
@@ -307,7 +310,8 @@ pub try_body-try_default-done-requires-in-DefaultInt64-clause-ready : goal.try_b
 try_body-try_default-done-requires-in-DefaultInt64-clause-ready t c = c.loop-i.invariant.ready
 
 pub try_body-try_copied-done-requires-clause-node : goal.try_body-try_copied-done-requires-clause-node
-try_body-try_copied-done-requires-clause-node t c = (step_in (nodes_of c.args.plan.now.templates.now) c.args.body.now c.args.steps.now c.loop-i.i no_step c.requires.steps
+try_body-try_copied-done-requires-clause-node t c = (step_in (nodes_of c.args.plan.now.templates.now) c.args.body.now c.args.steps.now
+    c.loop-i.i no_step c.requires.steps
     c.requires.nodes (omega (arith, c.if-not-has_slot_for_each.ensures.0 refl, c.loop-i-test.true))).1
 
 pub try_body-try_copied-done-requires-clause-form : goal.try_body-try_copied-done-requires-clause-form
@@ -362,7 +366,8 @@ pub try_body-try_copied-done-requires-in-CopyInt64-clause-numbers : goal.try_bod
 try_body-try_copied-done-requires-in-CopyInt64-clause-numbers t c = tt
 
 pub try_body-try_next-done-requires-clause-node : goal.try_body-try_next-done-requires-clause-node
-try_body-try_next-done-requires-clause-node t c = (step_in (nodes_of c.args.plan.now.templates.now) c.args.body.now c.args.steps.now c.loop-i.i no_step c.requires.steps
+try_body-try_next-done-requires-clause-node t c = (step_in (nodes_of c.args.plan.now.templates.now) c.args.body.now c.args.steps.now
+    c.loop-i.i no_step c.requires.steps
     c.requires.nodes (omega (arith, c.if-not-has_slot_for_each.ensures.0 refl, c.loop-i-test.true))).1
 
 pub try_body-try_next-done-requires-clause-form : goal.try_body-try_next-done-requires-clause-form
@@ -517,7 +522,8 @@ pub try_body-try_copied_other-done-requires-clause-ready : goal.try_body-try_cop
 try_body-try_copied_other-done-requires-clause-ready t c = c.loop-i.invariant.ready
 
 pub try_body-try_chosen-done-requires-clause-node : goal.try_body-try_chosen-done-requires-clause-node
-try_body-try_chosen-done-requires-clause-node t c = (step_in (nodes_of c.args.plan.now.templates.now) c.args.body.now c.args.steps.now c.loop-i.i no_step c.requires.steps
+try_body-try_chosen-done-requires-clause-node t c = (step_in (nodes_of c.args.plan.now.templates.now) c.args.body.now c.args.steps.now
+    c.loop-i.i no_step c.requires.steps
     c.requires.nodes (omega (arith, c.if-not-has_slot_for_each.ensures.0 refl, c.loop-i-test.true))).1
 
 pub try_body-try_chosen-done-requires-clause-form : goal.try_body-try_chosen-done-requires-clause-form
@@ -637,7 +643,8 @@ pub try_body-try_parts-done-requires-in-CopyParts-clause-ready : goal.try_body-t
 try_body-try_parts-done-requires-in-CopyParts-clause-ready t c = c.loop-i.invariant.ready
 
 pub try_body-try_other-done-requires-clause-node : goal.try_body-try_other-done-requires-clause-node
-try_body-try_other-done-requires-clause-node t c = (step_in (nodes_of c.args.plan.now.templates.now) c.args.body.now c.args.steps.now c.loop-i.i no_step c.requires.steps
+try_body-try_other-done-requires-clause-node t c = (step_in (nodes_of c.args.plan.now.templates.now) c.args.body.now c.args.steps.now
+    c.loop-i.i no_step c.requires.steps
     c.requires.nodes (omega (arith, c.if-not-has_slot_for_each.ensures.0 refl, c.loop-i-test.true))).1
 
 pub try_body-try_other-done-requires-clause-ready : goal.try_body-try_other-done-requires-clause-ready
@@ -1586,7 +1593,8 @@ try_body-bounds-steps-i t c =
     omega (arith, long, c.if-not-has_slot_for_each.ensures.0 refl, c.loop-i-test.true)
 
 pub try_body-try_none-requires-clause-node : goal.try_body-try_none-requires-clause-node
-try_body-try_none-requires-clause-node t c = (step_in (nodes_of c.args.plan.now.templates.now) c.args.body.now c.args.steps.now c.loop-i.i no_step c.requires.steps
+try_body-try_none-requires-clause-node t c = (step_in (nodes_of c.args.plan.now.templates.now) c.args.body.now c.args.steps.now c.loop-i.i no_step
+    c.requires.steps
     c.requires.nodes (omega (arith, c.if-not-has_slot_for_each.ensures.0 refl, c.loop-i-test.true))).1
 
 pub try_body-try_none-requires-clause-ready : goal.try_body-try_none-requires-clause-ready

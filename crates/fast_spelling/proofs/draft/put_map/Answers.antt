@@ -34,4 +34,8 @@ returns-in_ok-insert-in-Some-2-clause-ok c =
     )
 
 pub returns-in-None-2-clause-err : goal.returns-in-None-2-clause-err
-returns-in-None-2-clause-err c = inr (refl, subst (λ (r : _). IfNone r (HaveNoMap (drop c.args.mark.bits c.args.presence.now))) c.in-None-2.is c.in_ok-map-in-None.ensures.none)
+returns-in-None-2-clause-err c = inr (
+  refl,
+  subst (λ (r : _). IfNone r (HaveNoMap (drop c.args.mark.bits c.args.presence.now))) c.in-None-2.is
+      c.in_ok-map-in-None.ensures.none,
+)

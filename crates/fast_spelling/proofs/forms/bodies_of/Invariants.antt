@@ -7,4 +7,5 @@ use Rattle.fast_spelling.proofs.forms.bodies_of.Given as goal
 
 -- the bodies of the nodes so far
 abbrev pub invariant-loop-node : goal.invariant-loop-node
-invariant-loop-node l = map (λ v. v.items) l.bodies.items ≡ map (λ x. body_steps (nodes_of l.templates) (numbers_of x.shape)) (take l.node (nodes_of l.templates))
+invariant-loop-node l = map (λ v. v.items) l.bodies.items ≡ map (λ x. body_steps (nodes_of l.templates) (numbers_of x.shape)) (take l.node
+    (nodes_of l.templates))

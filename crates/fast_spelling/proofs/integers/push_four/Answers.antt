@@ -8,7 +8,10 @@ returns c =
     let n = c.args.number in
     let old = c.args.bytes.now.items in
     let first = c.push_reserved.ensures.items in
-    let second = then_one old (n / 2097152 % 128 ∷ []) c.push_reserved.new.self.items c.push_reserved-2.new.self.items (n / 16384 % 128) first c.push_reserved-2.ensures.items in
-    let third = then_one old (n / 2097152 % 128 ∷ n / 16384 % 128 ∷ []) c.push_reserved-2.new.self.items c.push_reserved-3.new.self.items (n / 128 % 128) second c.push_reserved-3.ensures.items in
-    let fourth = then_one old (n / 2097152 % 128 ∷ n / 16384 % 128 ∷ n / 128 % 128 ∷ []) c.push_reserved-3.new.self.items c.push_reserved-4.new.self.items (n % 128 + 128) third c.push_reserved-4.ensures.items in
+    let second = then_one old (n / 2097152 % 128 ∷ []) c.push_reserved.new.self.items c.push_reserved-2.new.self.items (n / 16384 % 128) first
+    c.push_reserved-2.ensures.items in
+    let third = then_one old (n / 2097152 % 128 ∷ n / 16384 % 128 ∷ []) c.push_reserved-2.new.self.items c.push_reserved-3.new.self.items
+    (n / 128 % 128) second c.push_reserved-3.ensures.items in
+    let fourth = then_one old (n / 2097152 % 128 ∷ n / 16384 % 128 ∷ n / 128 % 128 ∷ []) c.push_reserved-3.new.self.items
+    c.push_reserved-4.new.self.items (n % 128 + 128) third c.push_reserved-4.ensures.items in
     (n / 2097152 % 128 ∷ n / 16384 % 128 ∷ n / 128 % 128 ∷ (n % 128 + 128) ∷ [], fourth, four n c.requires.fits)

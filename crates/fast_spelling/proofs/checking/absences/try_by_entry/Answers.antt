@@ -69,6 +69,7 @@ returns-in_ok-push_byte-in-Assigned-clause-ok c =
       c.in_ok-push_byte-in-Assigned.ensures ∙ ap (λ (w : List ℕ). w ++ 0x80 ∷ []) c.push_bit-in-Assigned.ensures.bytes,
       subst (λ (z : Dictionary). Encodes l i d None (true ∷ []) (0x80 ∷ []) z)
           (ap (λ (e : ℕ). write_at (Some e) empty d) h.3 ∙ sym c.set_empty.ensures.now)
-          (absent_kept t l c.args.here.now.node h.0.shape d c.in-Assigned.field-0 (scalar_data c.in-Assigned.field-1) (node_known t c.args.here.now.node h.0 h.1) h.2
+          (absent_kept t l c.args.here.now.node h.0.shape d c.in-Assigned.field-0 (scalar_data c.in-Assigned.field-1) (node_known t
+          c.args.here.now.node h.0 h.1) h.2
           (ap (λ (e : ℕ). previous_at (Some e) d) h.3 ∙ sym c.get.ensures.value ∙ ap previous_data c.in-Assigned.is)),
     )
