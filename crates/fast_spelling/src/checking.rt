@@ -23,7 +23,7 @@ ghost use Rattle.fast_tree.specs.meaning.Tree.{has_map as needs_map};
 use crate::faults::EncodeFault;
 use crate::fields::write_field;
 use crate::forms::{BodyStep, Form};
-use crate::messages::{reset_if, write_identifier_by};
+use crate::messages::{reset_if, write_identifier};
 use crate::plan::{Plan, Work};
 use crate::suiting::has_slot_for_each;
 use absences::try_none;
@@ -57,10 +57,9 @@ pub fn try_message(
 {
     let template = plan.templates.template(message.template);
     work.draft.begin()?;
-    write_identifier_by(
+    write_identifier(
         plan.templates,
         plan.limits,
-        &plan.id_field,
         id,
         &mut work.draft,
         &mut work.ledger,

@@ -64,37 +64,16 @@ pub fn write_message(
     draft.close(mark, true)
 }
 
-/// Writes the template identifier.
-fn write_identifier(
-    templates: &Templates,
-    limits: Limits,
-    id: u32,
-    draft: &mut Draft,
-    ledger: &mut Ledger,
-) -> Result<(), EncodeFault>
-    requires ready { IsReady templates.now limits ledger.old }
-    ensures ok { OnOk result
-        (Wrote (EncodesField limits identifier ledger.old.now (Some (U id))) draft.old draft.new ledger.new.now) }
-    ensures err { IfErr result (λ c. c ≡ Memory) }
-    ensures keeps { Keeps ledger.old ledger.new }
-{
-    let field = identifier();
-    write_identifier_by(templates, limits, &field, id, draft, ledger)
-}
-
-/// Writes the template identifier, whose instruction is `field` (FAST 1.1, Transfer Encoding, Template Identifier). Its entry usually holds
-/// the same one already.
+/// Writes the template identifier (FAST 1.1, Transfer Encoding, Template Identifier). Its entry usually holds the same one already.
 #[inline(always)]
-pub fn write_identifier_by(
+pub fn write_identifier(
     templates: &Templates,
     limits: Limits,
-    field: &FieldInstruction,
     id: u32,
     draft: &mut Draft,
     ledger: &mut Ledger,
 ) -> Result<(), EncodeFault>
     requires ready { IsReady templates.now limits ledger.old }
-    requires field { field_data field.now ≡ identifier }
     ensures ok { OnOk result
         (Wrote (EncodesField limits identifier ledger.old.now (Some (U id))) draft.old draft.new ledger.new.now) }
     ensures err { IfErr result (λ c. c ≡ Memory) }
@@ -102,7 +81,7 @@ pub fn write_identifier_by(
 {
     match ledger.unsigned_at(0, Kind::UInt32) {
         Some(Scalar::U(held)) if held == u64::from(id) => Ok(draft.push_bit(false)?),
-        _ => write_new_identifier(templates, limits, field, id, draft, ledger),
+        _ => write_new_identifier(templates, limits, id, draft, ledger),
     }
 }
 
@@ -110,23 +89,26 @@ pub fn write_identifier_by(
 fn write_new_identifier(
     templates: &Templates,
     limits: Limits,
-    field: &FieldInstruction,
     id: u32,
     draft: &mut Draft,
     ledger: &mut Ledger,
 ) -> Result<(), EncodeFault>
     requires ready { IsReady templates.now limits ledger.old }
-    requires field { field_data field.now ≡ identifier }
     ensures ok { OnOk result
         (Wrote (EncodesField limits identifier ledger.old.now (Some (U id))) draft.old draft.new ledger.new.now) }
     ensures err { IfErr result (λ c. c ≡ Memory) }
     ensures keeps { Keeps ledger.old ledger.new }
 {
-    write_copied(draft, ledger, Known::of(field), Scalar::U(u64::from(id)))
+    write_copied(
+        draft,
+        ledger,
+        Known::of(&identifier()),
+        Scalar::U(u64::from(id)),
+    )
 }
 
 /// Returns the instruction of the template identifier: a mandatory `uInt32` with the operator copy, at the first entry.
-pub fn identifier() -> FieldInstruction
+fn identifier() -> FieldInstruction
     ensures { field_data result ≡ identifier }
 {
     FieldInstruction {

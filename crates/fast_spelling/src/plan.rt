@@ -4,16 +4,13 @@ ghost use Rattle.std.specs.Prelude.{◌≡◌, ◌<◌, Some, length, slice_get,
 ghost use Rattle.fast_tree.specs.declared.instructions.Node.{Node};
 ghost use Rattle.fast_tree.specs.declared.instructions.Template.{Template};
 ghost use Rattle.fast_tree.specs.meaning.Numbers.{numbers_of};
-ghost use Rattle.fast_tree.specs.meaning.Nodes.{field_data};
-ghost use Rattle.fast_tree.specs.meaning.Tree.{identifier};
 ghost use Rattle.fast_template.specs.meaning.Flat.{nodes_of, templates_of};
 ghost use Rattle.fast_spelling.specs.device.Forms.{body_steps, AreBodies, AreRoots};
 
 use crate::draft::Draft;
 use crate::forms::{BodyStep, bodies_of, roots_of};
 use crate::ledger::Ledger;
-use crate::messages::identifier;
-use fast_template::{FieldInstruction, Templates};
+use fast_template::Templates;
 use fast_value::Limits;
 use std::alloc::{AllocError, Global};
 
@@ -28,11 +25,8 @@ pub struct Plan<'t> {
     pub roots: Vec<Vec<BodyStep>>,
     /// The steps of the bodies of groups and sequences, by node number; none for other nodes.
     pub bodies: Vec<Vec<BodyStep>>,
-    /// The instruction of the template identifier.
-    pub id_field: FieldInstruction,
     ghost roots_fit: { AreRoots (nodes_of templates.now) (templates_of templates.now) roots.items },
     ghost bodies_fit: { AreBodies (nodes_of templates.now) bodies.items },
-    ghost id_fits: { field_data id_field ≡ identifier },
 }
 
 impl<'t> Plan<'t> {
@@ -53,7 +47,6 @@ impl<'t> Plan<'t> {
             limits,
             roots: roots_of(alloc, templates)?,
             bodies: bodies_of(alloc, templates)?,
-            id_field: identifier(),
         })
     }
 

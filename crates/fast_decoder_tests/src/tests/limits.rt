@@ -221,6 +221,28 @@ pub fn wide_text(alloc: Global) -> Result<String, AllocError> {
     Ok(text)
 }
 
+/// Returns a template of 60 optional copies, a sequence of three, and two more.
+pub fn around_text(alloc: Global) -> Result<String, AllocError> {
+    let mut text = String::new(alloc);
+    put(
+        &mut text,
+        &["[[template]]\nname = 'Around'\nid = 1\nfields = ["],
+    )?;
+    for field in 0..60 {
+        put_number(&mut text, FIELD, field, "'},")?;
+    }
+    put(&mut text, &["{kind='sequence', name='s', fields=["])?;
+    for field in 60..63 {
+        put_number(&mut text, FIELD, field, "'},")?;
+    }
+    put(&mut text, &["]},"])?;
+    for field in 63..65 {
+        put_number(&mut text, FIELD, field, "'},")?;
+    }
+    put(&mut text, &["]"])?;
+    Ok(text)
+}
+
 /// A message without fields, and one of the last field alone, whose map has the identifier's bit, those of f0 to f298, and that of f299 in
 /// the last bit of 43 bytes.
 const A_WIDE_SEGMENT: &str = "\

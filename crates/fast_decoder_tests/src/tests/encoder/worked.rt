@@ -1,6 +1,6 @@
 //! Messages of a set with templates of every type.
 
-use super::super::limits::wide_text;
+use super::super::limits::{around_text, wide_text};
 use super::expect_rows;
 use fast_template::VECTORS;
 use std::test::Fail;
@@ -128,6 +128,20 @@ const WIDE: &[&str] = &[
 fn a_wide_map(rt: HostRuntime) -> Result<(), Fail> {
     let text = wide_text(rt.alloc())?;
     expect_rows(&rt, rt.alloc(), text.as_str(), WIDE)
+}
+
+/// Elements whose bits follow 61 of the segment around them: the 63rd and the 64th bit of all are within the first one.
+const AROUND: &[&str] = &[
+    "bits of an element on both sides of the 63rd | lenient
+     m0 -*60 s60*2 e u61=1 u62=2 u63=3 /e e u61=1 u62=5 - /e /s - - /m > C0 81 82 F0 82 83 84 B0 86 80
+     m0 -*60 s60*1 e - u62=5 - /e /s u64=7 u65=8 /m > 00*8 83 81 C0 80 88 89
+     m0 -*59 u59=4 s60*0 /s - u65=8 /m > 00*8 86 85 80 80",
+];
+
+#[test]
+fn bits_around_elements(rt: HostRuntime) -> Result<(), Fail> {
+    let text = around_text(rt.alloc())?;
+    expect_rows(&rt, rt.alloc(), text.as_str(), AROUND)
 }
 
 /// Fields whose values need not be sent.

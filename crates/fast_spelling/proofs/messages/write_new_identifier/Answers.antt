@@ -17,10 +17,10 @@ returns-clause-ok c = on_ok c.write_copied.result c.write_copied.ensures.ok (λ 
     subst (λ (n : ℕ). Wrote (EncodesField c.args.limits identifier c.args.ledger.now.now (Some (U n))) c.args.draft.now
     c.write_copied.new.draft c.write_copied.new.ledger.now) c.from.ensures
     (subst (λ (f : FieldData). Wrote (EncodesField c.args.limits f c.args.ledger.now.now (Some (U c.from.result))) c.args.draft.now
-    c.write_copied.new.draft c.write_copied.new.ledger.now) (ap field_data c.of.ensures ∙ c.requires.field)
+    c.write_copied.new.draft c.write_copied.new.ledger.now) (ap field_data c.of.ensures ∙ c.identifier.ensures)
     (wrote c.args.limits c.requires.ready.room)))
 
 pub returns-clause-err : goal.returns-clause-err
 returns-clause-err c = only_memory c.write_copied.result c.write_copied.ensures.err
     (subst (λ (f : FieldData). (e : EncodeFault) → ¬ (RefusesField f c.args.ledger.now.now (Some (U c.from.result)) e))
-    (sym (ap field_data c.of.ensures ∙ c.requires.field)) (identifier_goes c.args.ledger.now.now c.from.result))
+    (sym (ap field_data c.of.ensures ∙ c.identifier.ensures)) (identifier_goes c.args.ledger.now.now c.from.result))

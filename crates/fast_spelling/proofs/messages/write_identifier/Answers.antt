@@ -9,7 +9,7 @@ use Rattle.fast_value.specs.meaning.Values.{scalar_data}
 use Rattle.fast_tree.specs.meaning.Tree.{identifier}
 use Rattle.fast_dict.specs.meaning.Dictionary.{previous_at, assigned}
 use Rattle.fast_spelling.proofs.rules.Usual.{copy_passed}
-use Rattle.fast_spelling.proofs.messages.write_identifier_by.Goals as goal
+use Rattle.fast_spelling.proofs.messages.write_identifier.Goals as goal
 
 pub returns-in_ok-push_bit-in-Some-U-clause-ok : goal.returns-in_ok-push_bit-in-Some-U-clause-ok
 returns-in_ok-push_bit-in-Some-U-clause-ok c =
