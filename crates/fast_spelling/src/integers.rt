@@ -233,10 +233,8 @@ fn groups(number: u64) -> usize
     ensures enough { number < 2 ^ (7 * result) }
     ensures no_more { 1 < result → 2 ^ (7 * (result - 1)) ≤ number }
 {
-    if number < 0x80 {
-        1
-    } else if number < 0x4000 {
-        2
+    if number < 0x4000 {
+        if number < 0x80 { 1 } else { 2 }
     } else if number < 0x20_0000 {
         3
     } else if number < 0x1000_0000 {
