@@ -1,6 +1,6 @@
 //! The presence bits of the segments that are being encoded.
 
-ghost use Rattle.std.specs.Prelude.{◌≡◌, ◌≤◌, ◌<◌, ◌+◌, ◌^◌, ◌∷◌, ◌++◌, [], true, vec_len, length, take, drop, IfSome, IfNone, OnOk, IfOk};
+ghost use Rattle.std.specs.Prelude.{◌≡◌, ◌≤◌, ◌<◌, ◌+◌, ◌^◌, ◌∷◌, ◌++◌, [], true, length, take, drop, IfSome, IfNone, OnOk, IfOk};
 ghost use Rattle.fast_wire.specs.meaning.Maps.{bits, IsMap};
 ghost use Rattle.fast_spelling.specs.device.Presence.{bits_after, low_bits};
 ghost use Rattle.fast_spelling.specs.meaning.Encoding.{SameBits};

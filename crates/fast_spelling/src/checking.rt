@@ -6,7 +6,7 @@ mod fields;
 mod nodes;
 mod values;
 
-ghost use Rattle.std.specs.Prelude.{◌≡◌, ◌+◌, ◌<◌, length, Some, OnOk, IsTrue};
+ghost use Rattle.std.specs.Prelude.{◌≡◌, ◌+◌, length, Some, OnOk, IsTrue};
 ghost use Rattle.fast_value.specs.meaning.Messages.{total};
 ghost use Rattle.fast_value.specs.meaning.Views.{item_data, message_data, slots_data};
 ghost use Rattle.fast_template.specs.meaning.Flat.{nodes_of, tree_of};
@@ -79,7 +79,8 @@ pub fn try_message(
 }
 
 /// Writes the slots of the instructions of these nodes, if they suit their template and keep to the limits. The elements of their sequences
-/// count against the room for elements.
+/// count against the room for elements. `steps` are the steps of the nodes, in the same order: they tell which code writes a value of a node,
+/// and what its absence writes.
 ///
 /// Returns false if anything was refused, with any fault; the draft is then unusable.
 #[cycle(check)]
@@ -227,7 +228,7 @@ fn try_item(plan: &Plan<'_>, here: &BodyStep, item: &Item, work: &mut Work) -> b
     }
 }
 
-/// Writes the presence map and the slots of a group, or of an element of a sequence.
+/// Writes the presence map and the slots of a group, or of an element of a sequence. `steps` are the steps of the nodes of its body.
 #[cycle(check)]
 #[inline(always)]
 fn try_segment(

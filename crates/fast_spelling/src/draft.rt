@@ -1,6 +1,6 @@
 //! The draft of a message that is being encoded.
 
-ghost use Rattle.std.specs.Prelude.{◌≡◌, ◌≤◌, ◌∷◌, ◌++◌, [], true, if◌then◌else◌, take, drop, vec_len, length, ◌+◌, ◌<◌, IfSome, IfNone, IfOk, OnOk, IfErr};
+ghost use Rattle.std.specs.Prelude.{◌≡◌, ◌≤◌, ◌∷◌, ◌++◌, [], true, if◌then◌else◌, take, drop, vec_len, length, ◌+◌, ◌<◌, IfOk, OnOk, IfErr};
 ghost use Rattle.fast_spelling.specs.declared.faults.EncodeFault.TheVariants.{E3};
 ghost use Rattle.fast_spelling.specs.device.Drafts.{IsTold, Closes};
 ghost use Rattle.fast_spelling.specs.meaning.Refusals.{HaveNoMap};

@@ -1,7 +1,7 @@
 //! An entry of the encoder's dictionary, with the value that it held before the message that changes it.
 
-ghost use Rattle.std.specs.Prelude.{◌≡◌, ◌≤◌, ℕ, List, length, IfSome, IsFalse, OnOk};
-ghost use Rattle.fast_value.specs.meaning.Kinds.{text_of};
+ghost use Rattle.std.specs.Prelude.{◌≡◌, ◌≤◌, ◌↔◌, ℕ, List, length, IfSome, IsFalse, IsTrue, OnOk};
+ghost use Rattle.fast_value.specs.meaning.Kinds.{U, text_of};
 ghost use Rattle.fast_value.specs.meaning.Values.{scalar_data};
 ghost use Rattle.fast_dict.specs.meaning.Dictionary.{assigned, empty, undefined};
 ghost use Rattle.fast_dict.specs.meaning.Previous.{previous_data};
@@ -102,6 +102,17 @@ impl Entry {
         match self.held {
             Held::U(found, number) if found == kind => Some(Scalar::U(number)),
             _ => None,
+        }
+    }
+
+    /// Returns whether the entry holds this unsigned integer, which a field of this type assigned.
+    #[inline(always)]
+    pub fn holds(&self, kind: Kind, number: u64) -> bool
+        ensures { IsTrue result ↔ (entry_now self.now ≡ assigned kind (U number)) }
+    {
+        match self.held {
+            Held::U(found, held) => found == kind && held == number,
+            _ => false,
         }
     }
 

@@ -1,6 +1,6 @@
 //! Fields: the presence bit, the item, and the entry of the dictionary.
 
-ghost use Rattle.std.specs.Prelude.{◌≡◌, Option, false, ◌<◌, ◌≤◌, length, option_map, Some, OnOk, IfErr, Ok};
+ghost use Rattle.std.specs.Prelude.{◌≡◌, Option, false, ◌≤◌, length, option_map, Some, OnOk, IfErr, Ok};
 ghost use Rattle.std.specs.Bool.{IsFalse};
 ghost use Rattle.fast_value.specs.declared.kinds.Kind.{Kind};
 ghost use Rattle.fast_value.specs.declared.settings.Limits.{Limits};

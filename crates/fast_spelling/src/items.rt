@@ -1,6 +1,6 @@
 //! Items: the bytes that are sent for a field, each integer in its shortest form.
 
-ghost use Rattle.std.specs.Prelude.{◌≡◌, ℕ, ◌<◌, ◌≤◌, ◌∷◌, ◌-ℤ◌, List, true, false, All, length, Some, OnOk, IfErr};
+ghost use Rattle.std.specs.Prelude.{◌≡◌, ℕ, ◌<◌, ◌≤◌, ◌∷◌, ◌-ℤ◌, List, true, All, length, Some, OnOk, IfErr};
 ghost use Rattle.fast_wire.specs.meaning.Shortest.{IsShortest};
 ghost use Rattle.fast_wire.specs.meaning.Texts.{SpellsAscii};
 ghost use Rattle.fast_value.specs.meaning.Kinds.{integer_of, exponent_of, mantissa_of};

@@ -13,7 +13,7 @@ use fast_value::Kind;
 pub enum Place<'t> {
     /// In the node of this number.
     Node(&'t Plan<'t>, u32),
-    /// By itself: the exponent or the mantissa of a decimal, the length of a sequence, the template identifier.
+    /// By itself: the exponent or the mantissa of a decimal, or the length of a sequence.
     Alone(&'t FieldInstruction),
 }
 

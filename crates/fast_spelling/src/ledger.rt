@@ -1,7 +1,7 @@
 //! The encoder's dictionary. The changes of a message can be undone, which allocates nothing.
 
-ghost use Rattle.std.specs.Prelude.{◌≡◌, ◌<◌, ◌≤◌, ◌-◌, ◌++◌, ℕ, All, length, take, slice_set, Some, IfOk, IfSome, OnOk};
-ghost use Rattle.fast_value.specs.meaning.Kinds.{text_of};
+ghost use Rattle.std.specs.Prelude.{◌≡◌, ◌<◌, ◌≤◌, ◌-◌, ◌++◌, ◌↔◌, ℕ, All, length, take, slice_set, Some, IfOk, IfSome, IsTrue, OnOk};
+ghost use Rattle.fast_value.specs.meaning.Kinds.{U, text_of};
 ghost use Rattle.fast_value.specs.meaning.Values.{scalar_data};
 ghost use Rattle.fast_dict.specs.meaning.Dictionary.{assigned, empty, fresh, reset, previous_at, write_at};
 ghost use Rattle.fast_dict.specs.meaning.Held.{text_size};
@@ -75,6 +75,15 @@ impl Ledger {
         ensures short { IfSome result (λ v. length (text_of (scalar_data v)) ≤ self.now.max_text) }
     {
         self.entries[entry].unsigned(kind)
+    }
+
+    /// Returns whether the entry holds this unsigned integer, which a field of this type assigned.
+    #[inline(always)]
+    pub fn holds(&self, entry: usize, kind: Kind, number: u64) -> bool
+        requires { entry < length self.now.now }
+        ensures { IsTrue result ↔ (previous_at (Some entry) self.now.now ≡ assigned kind (U number)) }
+    {
+        self.entries[entry].holds(kind, number)
     }
 
     /// Returns the signed integer that the entry holds; `None` if it holds no value that a field of this type assigned.

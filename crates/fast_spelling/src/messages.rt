@@ -1,10 +1,9 @@
 //! Whole messages: presence map, template identifier and instructions.
 
-ghost use Rattle.std.specs.Prelude.{◌≡◌, ◌<◌, if◌then◌else◌, Some, OnOk, IfErr};
+ghost use Rattle.std.specs.Prelude.{◌≡◌, if◌then◌else◌, Some, OnOk, IfErr};
 ghost use Rattle.fast_value.specs.meaning.Views.{message_data, slots_data};
 ghost use Rattle.fast_value.specs.meaning.Kinds.{U};
 ghost use Rattle.fast_tree.specs.meaning.Tree.{identifier};
-ghost use Rattle.fast_tree.specs.meaning.Nodes.{field_data};
 ghost use Rattle.fast_template.specs.meaning.Flat.{tree_of};
 ghost use Rattle.fast_dict.specs.meaning.Dictionary.{reset};
 ghost use Rattle.fast_spelling.specs.declared.faults.EncodeFault.TheVariants.{Memory};
@@ -17,11 +16,10 @@ ghost use Rattle.fast_spelling.specs.meaning.Suiting.{IsKnownAs, SuitsTemplate, 
 
 use crate::draft::Draft;
 use crate::faults::EncodeFault;
-use crate::known::Known;
+use crate::integers::write_unsigned_as;
 use crate::ledger::Ledger;
-use crate::quick::write_copied;
 use crate::writing::write_body;
-use fast_template::{FieldInstruction, Operator, Templates};
+use fast_template::Templates;
 use fast_value::{Kind, Limits, Message, Scalar};
 
 /// Writes a message that suits its template, which has this identifier, and the limits. It replaces the content of the draft.
@@ -64,7 +62,8 @@ pub fn write_message(
     draft.close(mark, true)
 }
 
-/// Writes the template identifier (FAST 1.1, Transfer Encoding, Template Identifier). Its entry usually holds the same one already.
+/// Writes the template identifier (FAST 1.1, Transfer Encoding, Template Identifier): a mandatory `uInt32` with the operator copy, at the
+/// first entry. So it is written unless the entry holds the same one.
 #[inline(always)]
 pub fn write_identifier(
     templates: &Templates,
@@ -79,45 +78,13 @@ pub fn write_identifier(
     ensures err { IfErr result (λ c. c ≡ Memory) }
     ensures keeps { Keeps ledger.old ledger.new }
 {
-    match ledger.unsigned_at(0, Kind::UInt32) {
-        Some(Scalar::U(held)) if held == u64::from(id) => Ok(draft.push_bit(false)?),
-        _ => write_new_identifier(templates, limits, id, draft, ledger),
+    let number = u64::from(id);
+    if ledger.holds(0, Kind::UInt32, number) {
+        return Ok(draft.push_bit(false)?);
     }
-}
-
-/// Writes the template identifier where its entry may hold another.
-fn write_new_identifier(
-    templates: &Templates,
-    limits: Limits,
-    id: u32,
-    draft: &mut Draft,
-    ledger: &mut Ledger,
-) -> Result<(), EncodeFault>
-    requires ready { IsReady templates.now limits ledger.old }
-    ensures ok { OnOk result
-        (Wrote (EncodesField limits identifier ledger.old.now (Some (U id))) draft.old draft.new ledger.new.now) }
-    ensures err { IfErr result (λ c. c ≡ Memory) }
-    ensures keeps { Keeps ledger.old ledger.new }
-{
-    write_copied(
-        draft,
-        ledger,
-        Known::of(&identifier()),
-        Scalar::U(u64::from(id)),
-    )
-}
-
-/// Returns the instruction of the template identifier: a mandatory `uInt32` with the operator copy, at the first entry.
-fn identifier() -> FieldInstruction
-    ensures { field_data result ≡ identifier }
-{
-    FieldInstruction {
-        kind: Kind::UInt32,
-        optional: false,
-        operator: Operator::Copy,
-        initial: None,
-        entry: Some(0),
-    }
+    draft.push_bit(true)?;
+    write_unsigned_as(&mut draft.bytes, false, number)?;
+    Ok(ledger.set(0, Kind::UInt32, Scalar::U(number))?)
 }
 
 /// Resets the dictionary if `resets`, as a template with the key `reset` does after the template identifier.

@@ -1,26 +1,30 @@
 -- A whole message: its identifier is never refused, and what is written or refused of its parts is so of the message.
-use Rattle.std.proofs.Common.{◌≡◌, inl, inr, ℕ, List, [], ◌∷◌, ◌++◌, refl, ap, sym, subst, ◌∙◌}
-use Rattle.std.specs.Prelude.{Bool, true, false, if◌then◌else◌, take, drop, Some, Result, Ok, Err, IfErr, slice_get, option_map}
+use Rattle.std.proofs.Common.{◌≡◌, ◌<◌, ◌^◌, inl, inr, ℕ, List, [], ◌∷◌, ◌++◌, refl, ap, sym, subst, ◌∙◌, arith}
+use Rattle.std.specs.Prelude.{Bool, true, false, if◌then◌else◌, take, drop, pos, Some, Ok, slice_get, option_map}
 use Rattle.std.proofs.lemmas.List.{append_assoc}
 use Rattle.std.proofs.lemmas.Option.{slice_get-map}
+use Rattle.fast_wire.specs.meaning.Shortest.{IsShortest}
+use Rattle.fast_value.specs.declared.kinds.Kind.TheVariants.{UInt32}
 use Rattle.fast_value.specs.declared.settings.Limits.{Limits}
-use Rattle.fast_value.specs.meaning.Kinds.{U}
+use Rattle.fast_value.specs.meaning.Kinds.{ScalarData, U}
 use Rattle.fast_value.specs.meaning.Messages.{MessageData}
 use Rattle.fast_tree.specs.declared.instructions.Template.{Template}
 use Rattle.fast_tree.specs.meaning.Tree.{identifier, TemplateData}
 use Rattle.fast_tree.specs.meaning.Nodes.{instructions_from, template_data, body_among}
 use Rattle.fast_template.specs.declared.sets.Templates.{Templates}
 use Rattle.fast_template.specs.meaning.Flat.{nodes_of, templates_of, tree_of}
-use Rattle.fast_dict.specs.meaning.Dictionary.{Dictionary, reset}
-use Rattle.fast_dict.specs.meaning.Operators.{nothing, value}
+use Rattle.fast_dict.specs.meaning.Dictionary.{Dictionary, PreviousData, assigned, previous_at, write_at, reset}
+use Rattle.fast_dict.specs.meaning.Operators.{Outcome, nothing, unsent, value}
 use Rattle.fast_spelling.specs.declared.draft.Draft.{Draft}
 use Rattle.fast_spelling.specs.declared.faults.EncodeFault.{EncodeFault}
 use Rattle.fast_spelling.specs.declared.faults.EncodeFault.TheVariants.{E1, E2, E3, E4, R9, Memory}
-use Rattle.fast_spelling.specs.device.Drafts.{IsTold, Closes}
+use Rattle.fast_spelling.specs.device.Drafts.{Closes}
 use Rattle.fast_spelling.specs.meaning.Encoding.{ShortestMap, EncodesField, EncodesBody, EncodesMessage}
 use Rattle.fast_spelling.specs.device.Fields.{Wrote}
 use Rattle.fast_spelling.specs.meaning.Refusals.{RefusesField, RefusesBody, RefusesMessage, HaveNoMap}
 use Rattle.fast_spelling.specs.meaning.Suiting.{IsKnownAs, SuitsTemplate, SuitsBody}
+use Rattle.fast_spelling.proofs.rules.FieldsWritten.{field_done}
+use Rattle.fast_spelling.proofs.rules.OneItem.{one_ok}
 
 -- A mandatory copy of an integer can always be sent.
 pub identifier_goes : (d : Dictionary) (n : ℕ) (c : EncodeFault) → ¬ (RefusesField identifier d (Some (U n)) c)
@@ -31,11 +35,22 @@ identifier_goes d n E4 h = h
 identifier_goes d n R9 (bit, item, rule, zero) = zero
 identifier_goes d n Memory h = h
 
-pub only_memory : {R : Type 0} {P : EncodeFault → Type 0} (r : Result R EncodeFault) → IfErr r (IsTold P) → ((c : EncodeFault) → ¬ (P c))
-    → IfErr r (λ c. c ≡ Memory)
-only_memory (Ok x) h never = tt
-only_memory (Err c) (inl is) never = is
-only_memory (Err c) (inr p) never = absurd (never c p)
+-- The identifier is sent if its entry does not hold it.
+held_alone : (p next : PreviousData) (v : ScalarData) → unsent identifier p ≡ Ok (record { value = Some v; next = next }) → p ≡ assigned UInt32 v
+held_alone (assigned UInt32 u) next v e =
+    let same : Some u ≡ Some v = ap (λ (z : Outcome). z.value) (one_ok (unsent identifier (assigned UInt32 u)) (record {
+      value = Some u;
+      next = assigned UInt32 u;
+    }) (record { value = Some v; next = next }) refl e) in cc same
+held_alone p next v e = absurd (cc e)
+
+pub identifier_sent : (l : Limits) (d d' : Dictionary) (id : ℕ) (w : List ℕ) → id < 2 ^ 32
+    → ¬ (previous_at identifier.entry d ≡ assigned UInt32 (U id)) → IsShortest false false (Some (pos id)) w
+    → d' ≡ write_at identifier.entry (assigned UInt32 (U id)) d → EncodesField l identifier d (Some (U id)) (true ∷ []) w d'
+identifier_sent l d d' id w small differs spelled written =
+    field_done l identifier d (previous_at identifier.entry d) (Some (U id)) true (value (U id)) (true ∷ []) w d' refl (λ q. absurd (cc q))
+    ((0, small), omega arith) ((λ (m, used, (none, g)). differs (held_alone (previous_at identifier.entry d) m (U id) g)), refl) small spelled
+    refl written
 
 -- a template of the set, in its tree
 pub template_there : (t : Templates) (i : ℕ) (v : Template) → slice_get (templates_of t) i ≡ Some v

@@ -1,7 +1,6 @@
 //! Absent fields, groups and sequences, checked as they are written.
 
-ghost use Rattle.std.specs.Prelude.{None, Some, ◌≡◌, ◌<◌, length, slice_get, OnOk};
-ghost use Rattle.fast_tree.specs.declared.instructions.Node.{Node};
+ghost use Rattle.std.specs.Prelude.{None, ◌≡◌, OnOk};
 ghost use Rattle.fast_template.specs.meaning.Flat.{nodes_of};
 ghost use Rattle.fast_spelling.specs.meaning.Encoding.{Encodes};
 ghost use Rattle.fast_spelling.specs.declared.forms.Absence.TheVariants.{ByEntry};

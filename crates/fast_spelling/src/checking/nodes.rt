@@ -1,6 +1,6 @@
 //! The field of a node, and the part of it that is known from the node's step.
 
-ghost use Rattle.std.specs.Prelude.{slice_get, ℕ, ◌≡◌, ◌<◌, length, Some};
+ghost use Rattle.std.specs.Prelude.{slice_get, ℕ, ◌≡◌, Some};
 ghost use Rattle.fast_template.specs.meaning.Flat.{field_data, nodes_of, tree_of};
 ghost use Rattle.fast_spelling.specs.device.Places.{field_there};
 ghost use Rattle.fast_spelling.specs.device.Forms.{Says, IsFieldAt, IsIn};

@@ -1,6 +1,6 @@
 //! Integers of more than five bytes.
 
-ghost use Rattle.std.specs.Prelude.{◌≡◌, ◌<◌, ◌≤◌, ◌-◌, ◌*◌, ◌^◌, Some, pos, true, false, OnOk};
+ghost use Rattle.std.specs.Prelude.{◌<◌, ◌≤◌, ◌-◌, ◌*◌, ◌^◌, Some, pos, true, false, OnOk};
 ghost use Rattle.fast_wire.specs.meaning.Integers.{signed_range, IsWithin};
 ghost use Rattle.fast_wire.specs.meaning.Shortest.{IsShortest};
 ghost use Rattle.fast_spelling.specs.device.Drafts.{Adds};
