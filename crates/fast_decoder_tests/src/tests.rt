@@ -11,6 +11,7 @@
 mod cuts;
 mod encoder;
 mod faults;
+mod fields;
 mod limits;
 mod maps;
 mod numbers;

@@ -74,7 +74,7 @@ pub(crate) fn received(
 
 /// Returns the integer that a delta is added to.
 #[inline(always)]
-fn base_integer(slots: &Slots, field: &FieldInstruction) -> Result<i128, Code>
+pub(crate) fn base_integer(slots: &Slots, field: &FieldInstruction) -> Result<i128, Code>
     requires within { HasEntryOf slots.now field.now }
     ensures { result ≡ base_integer (field_data field.now) (previous_of slots.now field.now) }
 {

@@ -18,10 +18,11 @@ ghost use Rattle.fast_stream.specs.meaning.Fields.{sent_integer};
 ghost use Rattle.fast_units.specs.device.Deciding.{number_data, sent_number, source_of};
 ghost use Rattle.fast_units.specs.device.Words.{ServesField, HasEntryOf, previous_of, sent_reader, IsLastUnitOf, IsDecidedIn};
 
-use crate::fields::{Number, assign_empty, number_under};
+use crate::fields::{Number, assign_empty};
+use crate::numbers::base_integer;
 use crate::progress::Progress;
 use fast_dict::Slots;
-use fast_dict::operators::integers::{integer_of, range_of, sum_in};
+use fast_dict::operators::integers::{range_of, sum_in};
 use fast_fronts::{
     ShortEntity, quick_nullable_signed, quick_nullable_unsigned, quick_signed, quick_unsigned,
 };
@@ -220,7 +221,7 @@ pub fn quick_change(
     Some(Some(delta))
 }
 
-/// Adds a delta to the entry's integer, which the entry then holds: if it holds one of the field's own type, and the sum is one.
+/// Adds a delta to the base of an integer field, if it has one, and the sum is an integer of the type. The entry then holds the sum.
 #[inline(always)]
 fn changed(slots: &mut Slots, field: &FieldInstruction, kind: Kind, delta: i64) -> Option<Number>
     requires kind { kind ≡ field.now.kind }
@@ -230,9 +231,9 @@ fn changed(slots: &mut Slots, field: &FieldInstruction, kind: Kind, delta: i64) 
     ensures none { IfNone result (slots.new ≡ slots.old) }
     ensures terms { slots_terms slots.new ≡ slots_terms slots.old }
 {
-    let entry = field.entry?;
-    let number = number_under(kind, slots.held(entry as usize))?;
-    let base = integer_of(number.as_scalar());
+    let Ok(base) = base_integer(slots, field) else {
+        return None;
+    };
     let (low, high) = range_of(kind);
     match sum_in(low, high, Code::D2, base, i128::from(delta)) {
         Ok(sum) => {

@@ -55,7 +55,7 @@ fn name_of(code: FaultCode) -> &'static [u8] {
     }
 }
 
-fn stream_name_of(code: Code) -> &'static [u8] {
+pub fn stream_name_of(code: Code) -> &'static [u8] {
     match code {
         Code::D2 => b"D2",
         Code::D4 => b"D4",

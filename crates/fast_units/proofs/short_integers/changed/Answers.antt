@@ -1,30 +1,27 @@
 -- The sum is kept.
-use Rattle.std.proofs.Common.{refl, ◌≡◌, ◌∙◌, ◌+ℤ◌, rules, sym, ap, Some, Ok}
-use Rattle.fast_value.specs.meaning.Kinds.{value_of_integer, integer_of}
+use Rattle.std.proofs.Common.{◌≡◌, ◌∙◌, ◌+ℤ◌, rules, sym, ap, Some, Ok}
+use Rattle.fast_value.specs.meaning.Kinds.{value_of_integer}
 use Rattle.fast_value.specs.declared.codes.Code.TheVariants.{D2}
 use Rattle.fast_tree.specs.meaning.Nodes.{field_data}
-use Rattle.fast_dict.specs.meaning.Dictionary.{previous_at, assigned}
+use Rattle.fast_dict.specs.meaning.Dictionary.{previous_at}
 use Rattle.fast_dict.specs.meaning.Operators.{◌>>=◌, keeps, ranged, range_of, integer_step}
 use Rattle.fast_dict.specs.meaning.Slots.{slots_dictionary}
 use Rattle.fast_units.specs.device.Deciding.{base_integer, number_data, source_of}
-use Rattle.fast_units.proofs.Deciding.{decided_as, keep_decided, base_stepped, base_own, item_value}
+use Rattle.fast_units.proofs.Deciding.{decided_as, keep_decided, base_stepped, item_value}
 use Rattle.fast_units.proofs.short_integers.changed.Goals as goal
 
-pub returns-in-Ok-clause-decided : goal.returns-in-Ok-clause-decided
-returns-in-Ok-clause-decided c =
+pub returns-in-Ok-sum_in-clause-decided : goal.returns-in-Ok-sum_in-clause-decided
+returns-in-Ok-sum_in-clause-decided c =
     let f = field_data c.args.field.now in
     let old = slots_dictionary c.args.slots.now in
     let p = previous_at f.entry old in
-    let v = number_data c.in_ok-number.number in
-    let held : p ≡ assigned f.kind v = ap (λ e. previous_at e old) c.in_ok-entry.was ∙ sym c.held.ensures.1
-    ∙ c.in_ok-number.ensures c.held.ensures.0 ∙ ap (λ k. assigned k v) c.requires.kind in
-    let own : base_integer f p ≡ Ok (integer_of v) = base_own f p v held in
-    let inside : ranged (range_of c.args.kind) D2 (integer_of v +ℤ c.args.delta) ≡ Ok c.in-Ok.sum = search rules in
-    let kept : value_of_integer c.args.kind c.in-Ok.sum ≡ number_data c.of_integer-number.result = search rules in
+    let own : base_integer f p ≡ Ok c.in-Ok.base = sym c.base_integer.ensures ∙ c.in-Ok.is in
+    let inside : ranged (range_of c.args.kind) D2 (c.in-Ok.base +ℤ c.args.delta) ≡ Ok c.in-Ok-sum_in.sum = search rules in
+    let kept : value_of_integer c.args.kind c.in-Ok-sum_in.sum ≡ number_data c.of_integer-number.result = search rules in
     let step : integer_step f p c.args.delta ≡ keeps f.kind (number_data c.of_integer-number.result) =
     base_stepped f p c.args.delta
     ∙ ap (λ b. b >>= (λ x. ranged (range_of f.kind) D2 (x +ℤ c.args.delta) >>= (λ y. keeps f.kind (value_of_integer f.kind y)))) own
-    ∙ ap (λ k. ranged (range_of k) D2 (integer_of v +ℤ c.args.delta) >>= (λ y. keeps k (value_of_integer k y))) (sym c.requires.kind)
+    ∙ ap (λ k. ranged (range_of k) D2 (c.in-Ok.base +ℤ c.args.delta) >>= (λ y. keeps k (value_of_integer k y))) (sym c.requires.kind)
     ∙ ap (λ r. r >>= (λ y. keeps c.args.kind (value_of_integer c.args.kind y))) inside
     ∙ ap (keeps c.args.kind) kept
     ∙ ap (λ k. keeps k (number_data c.of_integer-number.result)) c.requires.kind in
@@ -32,23 +29,8 @@ returns-in-Ok-clause-decided c =
     (keep_decided f old (slots_dictionary c.keep_integer.new.slots) (number_data c.of_integer-number.result)
     (source_of (Some c.of_integer-number.result)) c.keep_integer.ensures.entry (item_value (Some c.of_integer-number.result) f))
 
-pub returns-in_err-entry-clause-decided : goal.returns-in_err-entry-clause-decided
-returns-in_err-entry-clause-decided c = rw c.from_residual.ensures tt
-
-pub returns-in_err-entry-clause-none : goal.returns-in_err-entry-clause-none
-returns-in_err-entry-clause-none c = rw c.from_residual.ensures refl
-
-pub returns-in_err-number-clause-decided : goal.returns-in_err-number-clause-decided
-returns-in_err-number-clause-decided c = rw c.from_residual-in_err-number.ensures tt
-
-pub returns-in_err-number-clause-none : goal.returns-in_err-number-clause-none
-returns-in_err-number-clause-none c = rw c.from_residual-in_err-number.ensures refl
-
 pub keep_integer-requires-clause-kind : goal.keep_integer-requires-clause-kind
 keep_integer-requires-clause-kind c = c.requires.kind
 
 pub keep_integer-requires-clause-within : goal.keep_integer-requires-clause-within
 keep_integer-requires-clause-within c = c.requires.serves.within
-
-pub held-requires : goal.held-requires
-held-requires c = c.requires.serves.within c.in_ok-entry.entry c.in_ok-entry.was

@@ -1,0 +1,121 @@
+-- What bytes say of a field, unit after unit.
+use Rattle.std.proofs.Common.{refl, sym, ap, ◌∙◌, subst, arith, append_assoc, length-append}
+use Rattle.std.specs.Prelude.{◌≡◌, ℕ, ◌+◌, ◌<◌, ◌≤◌, List, [], ◌++◌, length, take, drop}
+use Rattle.std.proofs.Math.Seq.{take-add}
+use Rattle.std.proofs.lemmas.List.{take-append-drop, drop-take, drop-drop, length-drop}
+use Rattle.std.proofs.lemmas.List.Elements.{All-append}
+use Rattle.fast_value.specs.declared.settings.Limits.{Limits}
+use Rattle.fast_value.specs.declared.codes.Code.{Code}
+use Rattle.fast_value.specs.meaning.Limits.{bounds}
+use Rattle.fast_tree.specs.meaning.Tree.{FieldData}
+use Rattle.fast_dict.specs.meaning.Dictionary.{Dictionary, previous_at}
+use Rattle.fast_dict.specs.meaning.Operators.{Outcome}
+use Rattle.fast_stream.specs.device.Readers.{Reader, Done, Stop}
+use Rattle.fast_stream.specs.device.GrammarReaders.{reader_of}
+use Rattle.fast_stream.specs.device.Machine.{after_bytes}
+use Rattle.fast_units.specs.device.Taking.{Waits, Quiet, Turns, Stays}
+use Rattle.fast_units.specs.device.Stages.{term_behind, IsStageOf, IsFieldUnit}
+use Rattle.fast_units.specs.device.Settling.{IsSettled}
+use Rattle.fast_units.specs.declared.source.ValueSource.{ValueSource}
+use Rattle.fast_units.specs.declared.stages.Stage.{Stage}
+use Rattle.fast_units.specs.declared.stages.FieldStep.{FieldStep}
+use Rattle.fast_units.specs.declared.stages.FieldStep.TheVariants.{Settled, Next}
+use Rattle.fast_units.specs.declared.progress.Progress.TheVariants as Progress
+use Rattle.fast_units.proofs.Turning.{after_run, quiet_run, turns_run}
+use Rattle.fast_units.proofs.OpenUnits.{IsOpen}
+use Rattle.fast_fields.specs.declared.reading.Reading.{Reading}
+use Rattle.fast_fields.specs.declared.reading.Reading.TheVariants.{Whole, Wrong, More}
+use Rattle.fast_fields.specs.device.Readings.{IsFieldReading, IsCutInteger, shifted}
+
+-- A reader that has turned to another one waits where that one does.
+stays_run : {A : Type 0} {r q : Reader A} {u v : List ℕ} → Turns r u q → Stays q v → Stays r (u ++ v)
+stays_run {r = r} {u = u} {v = v} h j = record {
+  quiet = quiet_run r u v h.quiet (subst (λ x. Quiet x v) (sym h.becomes) j.quiet);
+  waits = subst Waits (sym (after_run r u v ∙ ap (λ x. after_bytes x v) h.becomes)) j.waits;
+}
+
+-- To say that an integer goes on is to say so with bytes in front.
+pub cut_shifted : (w : List ℕ) (n : ℕ) (x : Reading) → IsCutInteger w x → shifted n x ≡ x
+cut_shifted w n (Whole found) h = absurd h
+cut_shifted w n (Wrong c m) h = absurd h
+cut_shifted w n (More missing) h = refl
+
+module _ (f : FieldData) (old new : Dictionary) (scratch : List ℕ) where
+  -- Behind complete units, what the rest of the bytes says of the rest of the field.
+  pub reading_behind : (r q : Reader Outcome) (w : List ℕ) (n : ℕ) (x : Reading) → n ≤ length w → Turns r (take n w) q
+      → IsFieldReading q f (drop n w) old new scratch x → IsFieldReading r f w old new scratch (shifted n x)
+  reading_behind r q w n (Whole found) within h (inside, (some, fits, gives)) =
+      let left = length-drop n w in
+      let front : take (n + found.bytes) w ≡ take n w ++ take found.bytes (drop n w) = take-add n found.bytes w in
+      let piece : drop found.from (take found.bytes (drop n w)) ≡ drop (n + found.from) (take (n + found.bytes) w) =
+      ap (drop found.from) (sym (drop-take n found.bytes w)) ∙ drop-drop found.from n (take (n + found.bytes) w) in (
+        omega (arith, inside),
+        (
+          omega (arith, some),
+          omega (arith, fits, left, within),
+          record {
+            outcome = gives.outcome;
+            turns = subst (λ (u : List ℕ). Turns r u (Done gives.outcome)) (sym front) (turns_run h gives.turns);
+            settled = subst (λ (u : List ℕ). IsSettled gives.outcome f found.source old new scratch u) piece gives.settled;
+          },
+        ),
+      )
+  reading_behind r q w n (Wrong c m) within h (some, fits, turns) =
+      let left = length-drop n w in (
+        omega (arith, some),
+        omega (arith, fits, left, within),
+        subst (λ u. Turns r u (Stop c)) (sym (take-add n m w)) (turns_run h turns),
+      )
+  reading_behind r q w n (More missing) within h ((some, stays), same) = (
+    (
+      some,
+      λ v none short. subst (Stays r) (sym (append_assoc (take n w) (drop n w) v) ∙ ap (λ u. u ++ v) (take-append-drop n w))
+          (stays_run h (stays v none short)),
+    ),
+    same,
+  )
+
+  -- An integer that goes on.
+  pub cut_reading : (r : Reader Outcome) (w : List ℕ) (x : Reading) → ((v : List ℕ) → IsOpen v → Stays r v) → new ≡ old
+      → IsCutInteger w x → IsFieldReading r f w old new scratch x
+  cut_reading r w (Whole found) waits same h = absurd h
+  cut_reading r w (Wrong c n) waits same h = absurd h
+  cut_reading r w (More missing) waits same (open_front, ten, some) = (
+    (
+      some,
+      λ v none short. waits (w ++ v) (
+          let len = length-append w v in record {
+            no_stop = All-append (λ b. b < 128) w v open_front none;
+            short = omega (arith, len, ten, short);
+          }
+          ),
+    ),
+    same,
+  )
+
+  module _ (l : Limits) (r : Reader Outcome) (w front : List ℕ) (none : front ≡ []) (n : ℕ) where
+    -- A unit that completes the field.
+    pub whole_reading : (step : FieldStep) (source : ValueSource) (x : Reading) → step ≡ Settled source
+        → x ≡ Whole (record { source = source; from = 0; bytes = n })
+        → IsFieldUnit l r f front w old new scratch (Progress.Whole step n) → IsFieldReading r f w old new scratch x
+    whole_reading step source x e i h = subst (λ (y : Reading). IsFieldReading r f w old new scratch y) (sym i)
+        (by (subst (λ (u : List ℕ). IsFieldUnit l r f u w old new scratch (Progress.Whole (Settled source) n)) none
+        (subst (λ (s : FieldStep). IsFieldUnit l r f front w old new scratch (Progress.Whole s n)) e h)))
+      where
+        by : IsFieldUnit l r f [] w old new scratch (Progress.Whole (Settled source) n)
+            → IsFieldReading r f w old new scratch (Whole (record { source = source; from = 0; bytes = n }))
+        by (some, within, gives) = (omega arith, (some, within, gives))
+
+    -- A unit after which another follows.
+    pub next_unit : (step : FieldStep) (stage : Stage) → step ≡ Next stage
+        → IsFieldUnit l r f front w old new scratch (Progress.Whole step n)
+        → (0 < n) × (n ≤ length w) × (new ≡ old) × IsStageOf (bounds l) f (previous_at f.entry old) stage
+        × Turns r (take n w) (reader_of l.strict (term_behind (bounds l) f (previous_at f.entry old) stage))
+    next_unit step stage e h =
+        subst (λ (u : List ℕ). IsFieldUnit l r f u w old new scratch (Progress.Whole (Next stage) n)) none
+        (subst (λ (s : FieldStep). IsFieldUnit l r f front w old new scratch (Progress.Whole s n)) e h)
+
+    -- A unit that is wrong.
+    pub wrong_unit : (c : Code) → IsFieldUnit l r f front w old new scratch (Progress.Wrong c n)
+        → (0 < n) × (n ≤ length w) × Turns r (take n w) (Stop c)
+    wrong_unit c h = subst (λ (u : List ℕ). IsFieldUnit l r f u w old new scratch (Progress.Wrong c n)) none h
