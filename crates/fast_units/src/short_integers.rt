@@ -15,14 +15,14 @@ ghost use Rattle.fast_dict.specs.meaning.Dictionary.{assigned, write_at};
 ghost use Rattle.fast_dict.specs.meaning.Operators.{decide, integer_step, range_of};
 ghost use Rattle.fast_dict.specs.meaning.Slots.{slots_dictionary, slots_terms};
 ghost use Rattle.fast_stream.specs.meaning.Fields.{sent_integer};
-ghost use Rattle.fast_units.specs.device.Deciding.{number_data, sent_number, source_of};
+ghost use Rattle.fast_units.specs.device.Deciding.{base_integer, number_data, sent_number, source_of};
 ghost use Rattle.fast_units.specs.device.Words.{ServesField, HasEntryOf, previous_of, sent_reader, IsLastUnitOf, IsDecidedIn};
 
-use crate::fields::{Number, assign_empty};
+use crate::fields::{Number, assign_empty, number_under};
 use crate::numbers::base_integer;
 use crate::progress::Progress;
 use fast_dict::Slots;
-use fast_dict::operators::integers::{range_of, sum_in};
+use fast_dict::operators::integers::{integer_of, range_of, sum_in};
 use fast_fronts::{
     ShortEntity, quick_nullable_signed, quick_nullable_unsigned, quick_signed, quick_unsigned,
 };
@@ -221,6 +221,34 @@ pub fn quick_change(
     Some(Some(delta))
 }
 
+/// Returns the integer that a delta is added to. That the entry holds one of the field's own type is by far the most common.
+#[inline(always)]
+fn short_base(slots: &Slots, field: &FieldInstruction, kind: Kind) -> Option<i128>
+    requires kind { kind ≡ field.now.kind }
+    requires within { HasEntryOf slots.now field.now }
+    ensures { IfSome result (λ base. base_integer (field_data field.now) (previous_of slots.now field.now) ≡ Ok base) }
+{
+    let entry = field.entry?;
+    match number_under(kind, slots.held(entry as usize)) {
+        Some(number) => Some(integer_of(number.as_scalar())),
+        None => other_base(slots, field),
+    }
+}
+
+/// Returns the integer that a delta is added to, also if there was no value before. It is marked as cold, and apart, so that the fast path is
+/// inlined.
+#[cold]
+#[inline(never)]
+fn other_base(slots: &Slots, field: &FieldInstruction) -> Option<i128>
+    requires within { HasEntryOf slots.now field.now }
+    ensures { IfSome result (λ base. base_integer (field_data field.now) (previous_of slots.now field.now) ≡ Ok base) }
+{
+    match base_integer(slots, field) {
+        Ok(base) => Some(base),
+        Err(_) => None,
+    }
+}
+
 /// Adds a delta to the base of an integer field, if it has one, and the sum is an integer of the type. The entry then holds the sum.
 #[inline(always)]
 fn changed(slots: &mut Slots, field: &FieldInstruction, kind: Kind, delta: i64) -> Option<Number>
@@ -231,9 +259,7 @@ fn changed(slots: &mut Slots, field: &FieldInstruction, kind: Kind, delta: i64) 
     ensures none { IfNone result (slots.new ≡ slots.old) }
     ensures terms { slots_terms slots.new ≡ slots_terms slots.old }
 {
-    let Ok(base) = base_integer(slots, field) else {
-        return None;
-    };
+    let base = short_base(slots, field, kind)?;
     let (low, high) = range_of(kind);
     match sum_in(low, high, Code::D2, base, i128::from(delta)) {
         Ok(sum) => {
