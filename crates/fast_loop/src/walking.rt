@@ -76,6 +76,9 @@ fn general_step<'t, S: Sink>(
     if machine.waits_at_once(templates, *limits, sink) {
         return machine.take_slowly(templates, *limits, rest, sink);
     }
+    if let Some(quick) = machine.step_by_length(templates, *limits, rest, sink) {
+        return quick;
+    }
     machine.step_by_turn(templates, *limits, rest, sink)
 }
 

@@ -1,5 +1,5 @@
 //! The fast path of fields that are numbers, at the start of a piece, or after the last bit of the map's word, where the loop's arms decline:
-//! integers, of which some bytes may be buffered, and decimals under delta, both units at once.
+//! integers, of which some bytes may be buffered, decimals under delta, both units at once, and lengths of sequences under any operator.
 
 ghost use Rattle.std.specs.Prelude.{◌≡◌, ◌≢◌, ◌⊎◌, ◌+◌, ◌<◌, true, false, ℕ, List, [], Ok, IfSome, IfNone};
 ghost use Rattle.fast_wire.specs.meaning.Maps.{first_bit};
@@ -18,6 +18,7 @@ ghost use Rattle.fast_machine.specs.device.TurnsLeft.{Way, HasTurns, HasTurnsBeh
 
 use crate::machine::{Machine, Turn, Waiting};
 use crate::quick_units::UnitTaken;
+use crate::turns::Turns;
 use fast_dict::Slots;
 use fast_fronts::{ShortEntity, short_entity};
 use fast_stream::Sink;
@@ -172,6 +173,38 @@ impl<'t> Machine<'t> {
             }
             Kind::Decimal | Kind::Ascii | Kind::Unicode | Kind::Bytes => None,
         }
+    }
+
+    /// Reads the length of the next instruction, a sequence, if it is in the stream and complete.
+    #[inline(never)]
+    pub fn take_short_length<S: Sink>(
+        &mut self,
+        templates: &'t Templates,
+        limits: Limits,
+        rest: &[u8],
+        sink: &mut S,
+    ) -> Option<UnitTaken>
+        requires waits { self.old.waiting ≡ Waiting.Field }
+        requires turn { CanTurn (set_of templates.now) limits self.old }
+        ensures none { IfNone result ((self.new ≡ self.old) × (sink.new ≡ sink.old)) }
+        ensures step { IfSome result (λ q. IsStep S.takes S.stops (set_of templates.now) limits self.old rest.now
+            sink.old q sink.new self.new) }
+    {
+        let number = self.cursor.next()?;
+        let Shape::Sequence { length, .. } = &templates.node(number).shape else {
+            return None;
+        };
+        self.bit_of_sent(length)?;
+        let entity = short_entity(rest)?;
+        let item = integer_item(&mut self.slots, length, rest, entity, limits.strict)?;
+        self.turns = Turns::after(&self.turns);
+        let start = templates.body_start(number);
+        let source = source_of(item);
+        let turn = self.length_known(templates, limits, number, length, start, source, sink);
+        Some(UnitTaken {
+            bytes: entity.len,
+            turn,
+        })
     }
 
     /// Reads the next instruction, an integer of which some bytes are buffered, if it ends within eight bytes. The buffered bytes and those

@@ -1,6 +1,6 @@
 //! Steps on the general path: a turn of the machine, and the unit that it waits for, if the fast path has a case for it.
 
-ghost use Rattle.std.specs.Prelude.{◌≡◌, ◌≢◌, ◌<◌, ℕ, true, false, Ok, Err};
+ghost use Rattle.std.specs.Prelude.{◌≡◌, ◌≢◌, ◌<◌, ℕ, true, false, Ok, Err, IfSome, IfNone};
 ghost use Rattle.fast_machine.specs.declared.machine.Waiting.{Waiting};
 ghost use Rattle.fast_stream.specs.declared.faults.FaultCode.{FaultCode};
 ghost use Rattle.fast_machine.specs.device.Handing.{Hands};
@@ -88,6 +88,30 @@ impl<'t> Machine<'t> {
         }
         self.wait_first(field);
         true
+    }
+
+    /// Reads the length of the next instruction, a sequence, if it is in the stream and complete.
+    #[inline(always)]
+    pub fn step_by_length<S: Sink>(
+        &mut self,
+        templates: &'t Templates,
+        limits: Limits,
+        rest: &[u8],
+        sink: &mut S,
+    ) -> Option<UnitTaken>
+        requires waits { self.old.waiting ≡ Waiting.Field }
+        requires turn { CanTurn (set_of templates.now) limits self.old }
+        ensures none { IfNone result ((self.new ≡ self.old) × (sink.new ≡ sink.old)) }
+        ensures step { IfSome result (λ q. IsStep S.takes S.stops (set_of templates.now) limits self.old rest.now
+            sink.old q sink.new self.new) }
+        ensures waits { IfSome result (λ q. (t : Turn) → q.turn ≡ Ok t → t ≢ Turn.Waits
+            → self.new.waiting ≡ Waiting.Field) }
+    {
+        let unit = self.take_short_length(templates, limits, rest, sink)?;
+        if unit.goes_on() {
+            self.wait_for_field();
+        }
+        Some(unit)
     }
 
     /// Makes a turn of the machine, and reads the unit that it waits for after that, or the part of it that is there.

@@ -45,6 +45,10 @@ fields = [{kind="bytes", name="b"}]
 name = "text"
 id = 10
 fields = [{kind="ascii", name="a", op="delta"}]
+[[template]]
+name = "copied"
+id = 11
+fields = [{kind="sequence", name="l", optional=true, length={op="copy"}, fields=[{kind="uInt32", name="m"}]}]
 "#;
 
 const MAPS_AND_IDENTIFIERS: &str = "\
@@ -66,6 +70,10 @@ const LENGTHS: &str = "\
 a length that is not sent, and elements with a map each | strict | C0 83 80 C0 87 80 \
     | m2 s3*3 e u4=1 /e e u4=7 /e e u4=1 /e /s /m | between
 a length that is sent | strict | E0 83 80 | m2 s3*0 /s /m | between
+a length that is sent, and elements with a map each | strict | E0 83 82 C0 87 80 | m2 s3*2 e u4=7 /e e u4=1 /e /s /m | between
+a length that is sent, copied, absent and copied | strict | E0 8B 83 85 86 C0 8B 87 88 E0 8B 80 C0 8B \
+    | m10 s13*2 e u14=5 /e e u14=6 /e /s /m m10 s13*2 e u14=7 /e e u14=8 /e /s /m m10 /m m10 /m | between
+a length past the limit | lenient elements=2 | E0 83 83 | m2 | L2@3
 an overlong map of an element | strict | C0 83 80 00 80 | m2 s3*3 e u4=1 /e e | R7@5
 a length past the limit that is not sent | lenient elements=2 | C0 83 | m2 | L2@2
 the limit of the message | lenient total=2 | C0 83 | m2 | L5@2

@@ -1,4 +1,4 @@
--- A number, or a field that waits, or a turn.
+-- A number, or a field that waits, or a length, or a turn.
 use Rattle.std.proofs.Common.{◌∙◌, subst}
 use Rattle.fast_machine.specs.device.Positions.{set_of}
 use Rattle.fast_machine.specs.device.Steps.{IsStep}
@@ -30,7 +30,8 @@ returns-clause-step g c =
     let rest = c.args.rest.now in
     let was = c.in_default.ensures.none in
     let none = c.waits_at_once.ensures.none c.if-waits_at_once.false in
+    let left = c.in_default-step_by_length.ensures.none in
     let t = c.step_by_turn in
-    subst (λ (x : Machine). IsStep takes stops set l x rest c.args.sink.now t.result t.new.sink t.new.self) (none ∙ was.0)
-    (subst (λ s. IsStep takes stops set l c.waits_at_once.new.self rest s t.result t.new.sink t.new.self)
-    (c.waits_at_once.ensures.same ∙ was.1) t.ensures.step)
+    subst (λ (x : Machine). IsStep takes stops set l x rest c.args.sink.now t.result t.new.sink t.new.self) (left.0 ∙ none ∙ was.0)
+    (subst (λ s. IsStep takes stops set l c.step_by_length.new.self rest s t.result t.new.sink t.new.self)
+    (left.1 ∙ c.waits_at_once.ensures.same ∙ was.1) t.ensures.step)

@@ -1,0 +1,14 @@
+-- The length, after which the machine waits for a field, or for the map of an element.
+use Rattle.std.proofs.Common.{refl, sym, ◌∙◌}
+use Rattle.fast_machine.specs.declared.machine.Waiting.TheVariants.{Field}
+use Rattle.fast_machine.specs.device.Positions.{set_of}
+use Rattle.fast_machine.proofs.streams.Running.{step_waits}
+use Rattle.fast_machine.proofs.machine.Machine.step_by_length.Goals as goal
+
+pub returns-then-goes_on-clause-step : goal.returns-then-goes_on-clause-step
+returns-then-goes_on-clause-step g c =
+    let (turn, is, on) = c.if-goes_on.ensures.on refl in
+    let unit = c.in_ok-unit.unit in
+    step_waits g.S.Sink.takes g.S.Sink.stops (set_of c.args.templates.now) c.args.limits c.args.self.now c.args.rest.now c.args.sink.now
+    unit.bytes unit.turn c.take_short_length.new.sink c.take_short_length.new.self
+    c.wait_for_field.new.self Field c.wait_for_field.ensures (λ e. on (cc (sym is ∙ e))) c.in_ok-unit.ensures.step
