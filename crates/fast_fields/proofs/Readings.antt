@@ -1,15 +1,18 @@
 -- What bytes say of a field, unit after unit.
 use Rattle.std.proofs.Common.{refl, sym, ap, ◌∙◌, subst, arith, append_assoc, length-append}
-use Rattle.std.specs.Prelude.{◌≡◌, ℕ, ◌+◌, ◌<◌, ◌≤◌, List, [], ◌++◌, length, take, drop}
+use Rattle.std.specs.Prelude.{◌≡◌, ℕ, ◌+◌, ◌<◌, ◌≤◌, Bool, true, List, [], ◌++◌, length, take, drop, Option, Some, None, is_some, unwrap_or}
 use Rattle.std.proofs.Math.Seq.{take-add}
 use Rattle.std.proofs.lemmas.List.{take-append-drop, drop-take, drop-drop, length-drop}
 use Rattle.std.proofs.lemmas.List.Elements.{All-append}
 use Rattle.fast_value.specs.declared.settings.Limits.{Limits}
 use Rattle.fast_value.specs.declared.codes.Code.{Code}
-use Rattle.fast_value.specs.meaning.Limits.{bounds}
+use Rattle.fast_value.specs.meaning.Limits.{Bounds, bounds}
+use Rattle.fast_tree.specs.declared.operators.Operator.{Operator}
 use Rattle.fast_tree.specs.meaning.Tree.{FieldData}
-use Rattle.fast_dict.specs.meaning.Dictionary.{Dictionary, previous_at}
+use Rattle.fast_tree.specs.meaning.Entries.{keeps_value}
+use Rattle.fast_dict.specs.meaning.Dictionary.{Dictionary, PreviousData, previous_at}
 use Rattle.fast_dict.specs.meaning.Operators.{Outcome}
+use Rattle.fast_stream.specs.meaning.Fields.{field_term}
 use Rattle.fast_stream.specs.device.Readers.{Reader, Done, Stop}
 use Rattle.fast_stream.specs.device.GrammarReaders.{reader_of}
 use Rattle.fast_stream.specs.device.Machine.{after_bytes}
@@ -22,10 +25,17 @@ use Rattle.fast_units.specs.declared.stages.FieldStep.{FieldStep}
 use Rattle.fast_units.specs.declared.stages.FieldStep.TheVariants.{Settled, Next}
 use Rattle.fast_units.specs.declared.progress.Progress.TheVariants as Progress
 use Rattle.fast_units.proofs.Turning.{after_run, quiet_run, turns_run}
-use Rattle.fast_units.proofs.OpenUnits.{IsOpen}
+use Rattle.fast_units.proofs.OpenUnits.{IsOpen, bytes_open}
+use Rattle.fast_items.specs.device.TextsAs.{HasBegun}
+use Rattle.fast_fields.specs.declared.reading.Missing.{Missing}
 use Rattle.fast_fields.specs.declared.reading.Reading.{Reading}
 use Rattle.fast_fields.specs.declared.reading.Reading.TheVariants.{Whole, Wrong, More}
-use Rattle.fast_fields.specs.device.Readings.{IsFieldReading, IsCutInteger, shifted}
+use Rattle.fast_fields.specs.device.Readings.{IsUndecided, IsFieldReading, IsCutInteger, KeepsRun, shifted}
+
+-- the entry of an operator that keeps a value, by the number that it has, or any
+pub kept_entry : (o : Operator) (e : Option ℕ) → keeps_value o ≡ is_some e → keeps_value o ≡ true → e ≡ Some (unwrap_or e 0)
+kept_entry o (Some n) h k = refl
+kept_entry o None h k = absurd (cc (sym k ∙ h))
 
 -- A reader that has turned to another one waits where that one does.
 stays_run : {A : Type 0} {r q : Reader A} {u v : List ℕ} → Turns r u q → Stays q v → Stays r (u ++ v)
@@ -41,10 +51,10 @@ cut_shifted w n (Wrong c m) h = absurd h
 cut_shifted w n (More missing) h = refl
 
 module _ (f : FieldData) (old new : Dictionary) (scratch : List ℕ) where
-  -- Behind complete units, what the rest of the bytes says of the rest of the field.
-  pub reading_behind : (r q : Reader Outcome) (w : List ℕ) (n : ℕ) (x : Reading) → n ≤ length w → Turns r (take n w) q
+  -- After complete units, what the rest of the bytes says of the rest of the field.
+  pub reading_after : (r q : Reader Outcome) (w : List ℕ) (n : ℕ) (x : Reading) → n ≤ length w → Turns r (take n w) q
       → IsFieldReading q f (drop n w) old new scratch x → IsFieldReading r f w old new scratch (shifted n x)
-  reading_behind r q w n (Whole found) within h (inside, (some, fits, gives)) =
+  reading_after r q w n (Whole found) within h (inside, (some, fits, gives)) =
       let left = length-drop n w in
       let front : take (n + found.bytes) w ≡ take n w ++ take found.bytes (drop n w) = take-add n found.bytes w in
       let piece : drop found.from (take found.bytes (drop n w)) ≡ drop (n + found.from) (take (n + found.bytes) w) =
@@ -60,13 +70,13 @@ module _ (f : FieldData) (old new : Dictionary) (scratch : List ℕ) where
           },
         ),
       )
-  reading_behind r q w n (Wrong c m) within h (some, fits, turns) =
+  reading_after r q w n (Wrong c m) within h (some, fits, turns) =
       let left = length-drop n w in (
         omega (arith, some),
         omega (arith, fits, left, within),
         subst (λ u. Turns r u (Stop c)) (sym (take-add n m w)) (turns_run h turns),
       )
-  reading_behind r q w n (More missing) within h ((some, stays), same) = (
+  reading_after r q w n (More missing) within h ((some, stays), same) = (
     (
       some,
       λ v none short. subst (Stays r) (sym (append_assoc (take n w) (drop n w) v) ∙ ap (λ u. u ++ v) (take-append-drop n w))
@@ -80,12 +90,12 @@ module _ (f : FieldData) (old new : Dictionary) (scratch : List ℕ) where
       → IsCutInteger w x → IsFieldReading r f w old new scratch x
   cut_reading r w (Whole found) waits same h = absurd h
   cut_reading r w (Wrong c n) waits same h = absurd h
-  cut_reading r w (More missing) waits same (open_front, ten, some) = (
+  cut_reading r w (More missing) waits same (open_front, ten, some, stops) = (
     (
       some,
       λ v none short. waits (w ++ v) (
           let len = length-append w v in record {
-            no_stop = All-append (λ b. b < 128) w v open_front none;
+            no_stop = All-append (λ b. b < 128) w v open_front (none stops);
             short = omega (arith, len, ten, short);
           }
           ),
@@ -119,3 +129,13 @@ module _ (f : FieldData) (old new : Dictionary) (scratch : List ℕ) where
     pub wrong_unit : (c : Code) → IsFieldUnit l r f front w old new scratch (Progress.Wrong c n)
         → (0 < n) × (n ≤ length w) × Turns r (take n w) (Stop c)
     wrong_unit c h = subst (λ (u : List ℕ). IsFieldUnit l r f u w old new scratch (Progress.Wrong c n)) none h
+
+-- A string whose last unit waits for more bytes.
+pub begun_undecided : (s : Bool) (l : Bounds) (f : FieldData) (p : PreviousData) (rest : List ℕ) (stage : Stage) (n : ℕ) (m : Missing)
+    → HasBegun s l f p rest stage n → KeepsRun l f p stage (drop n rest) m → IsUndecided (reader_of s (field_term l f p true)) rest m
+begun_undecided s l f p rest stage n m h (some, keeps) = (
+  some,
+  λ v none short. subst (Stays (reader_of s (field_term l f p true)))
+      (sym (append_assoc (take n rest) (drop n rest) v) ∙ ap (λ u. u ++ v) (take-append-drop n rest))
+      (stays_run h.turns (bytes_open s l f p stage (drop n rest ++ v) h.stage (keeps v none short))),
+)

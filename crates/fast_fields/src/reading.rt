@@ -4,7 +4,7 @@
 //! are read one after the other. Nothing changes before the last one is complete, so a field that is cut is read again from its first byte
 //! once more of it is there.
 
-ghost use Rattle.std.specs.Prelude.{◌≡◌, ◌≢◌, ◌-◌, ◌≤◌, [], length, true, false};
+ghost use Rattle.std.specs.Prelude.{◌≡◌, ◌≢◌, ◌+◌, ◌-◌, ◌≤◌, [], ℕ, length, true, false};
 ghost use Rattle.fast_value.specs.meaning.Limits.{bounds};
 ghost use Rattle.fast_tree.specs.meaning.Nodes.{field_data};
 ghost use Rattle.fast_dict.specs.meaning.Slots.{slots_dictionary, slots_terms};
@@ -12,12 +12,12 @@ ghost use Rattle.fast_stream.specs.meaning.Phrases.{cut};
 ghost use Rattle.fast_stream.specs.meaning.Units.{ascii_text as ascii_phrase};
 ghost use Rattle.fast_units.specs.device.TextDecisions.{first_reader, reader_behind};
 ghost use Rattle.fast_units.specs.device.Stages.{IsStageOf};
-ghost use Rattle.fast_units.specs.device.UnitFronts.{IsAsciiFirst, IsNumberStage, IsBytesStage, IsNextStage};
+ghost use Rattle.fast_units.specs.device.UnitFronts.{IsAsciiFirst, IsNumberStage, IsRunStage, IsBytesStage, IsNextStage};
 ghost use Rattle.fast_units.specs.device.Words.{HasTextLimit, HasRoomFor, ServesField, previous_of};
-ghost use Rattle.fast_fields.specs.device.Readings.{IsFieldReading, IsCutInteger, IsRunStage, KeepsText, KeepsRun, ReadsWithin, shifted};
+ghost use Rattle.fast_fields.specs.device.Readings.{IsFieldReading, IsCutInteger, IsBounded, KeepsText, KeepsRun, ReadsWithin, shifted};
 
+use crate::whole::whole_string;
 use fast_dict::Slots;
-use fast_items::taken::TakenText;
 use fast_tree::{FieldInstruction, Operator};
 use fast_units::pending::Pending;
 use fast_units::progress::Progress;
@@ -31,15 +31,35 @@ use fast_value::{Code, Kind, Limits};
 /// The most bytes of an integer.
 const MAX_ENTITY: usize = 10;
 
+/// A field that is complete.
+#[derive(Clone, Copy)]
+pub struct WholeField {
+    /// The source of its value.
+    pub source: ValueSource,
+    /// The offset of its last unit, from which on its value is borrowed if the source is the piece.
+    pub from: usize,
+    /// The number of its bytes.
+    pub bytes: usize,
+}
+
+/// The bytes that have to follow before anything more is decided of a field.
+#[derive(Clone, Copy)]
+pub struct Missing {
+    /// Their number.
+    pub bytes: usize,
+    /// Whether a byte with a stop bit among them decides something earlier.
+    pub stops: bool,
+}
+
 /// The result of reading a field from the bytes that it begins with.
 #[derive(Clone, Copy)]
 pub enum Reading {
     /// The field is complete.
-    Whole(TakenText),
+    Whole(WholeField),
     /// A fault, and the number of bytes that decide it.
     Wrong(Code, usize),
-    /// The field goes on. Nothing is decided before a byte with a stop bit, or before this number of bytes more.
-    More(usize),
+    /// The field goes on.
+    More(Missing),
 }
 
 /// Returns the result for all `count` bytes, by the result for those after the first `front`, which belong to the field's earlier units.
@@ -51,7 +71,7 @@ fn shifted(reading: Reading, front: usize, count: usize) -> Reading
 {
     let _ = count;
     match reading {
-        Reading::Whole(taken) => Reading::Whole(TakenText {
+        Reading::Whole(taken) => Reading::Whole(WholeField {
             source: taken.source,
             from: front + taken.from,
             bytes: front + taken.bytes,
@@ -66,7 +86,7 @@ fn shifted(reading: Reading, front: usize, count: usize) -> Reading
 fn whole(source: ValueSource, bytes: usize) -> Reading
     ensures { result ≡ Reading.Whole (record { source = source; from = 0; bytes = bytes }) }
 {
-    Reading::Whole(TakenText {
+    Reading::Whole(WholeField {
         source,
         from: 0,
         bytes,
@@ -76,9 +96,10 @@ fn whole(source: ValueSource, bytes: usize) -> Reading
 /// Returns after how many bytes more something is decided of an ASCII string of at most `room` characters that begins with these and goes
 /// on, if none of them has a stop bit.
 #[inline]
-fn text_missing(bytes: &[u8], nullable: bool, room: usize) -> usize
+pub(crate) fn text_missing(bytes: &[u8], nullable: bool, room: usize) -> usize
     requires open { ascii_phrase nullable room bytes.now [] cut }
-    ensures { KeepsText nullable room bytes.now result }
+    ensures keeps { KeepsText nullable room bytes.now result }
+    ensures within { length bytes.now + result ≤ 2 + room }
 {
     let _ = nullable;
     match bytes.first() {
@@ -93,7 +114,10 @@ fn text_missing(bytes: &[u8], nullable: bool, room: usize) -> usize
 fn cut_integer(pending: &Pending) -> Reading
     ensures { IsCutInteger pending.now.bytes result }
 {
-    Reading::More(MAX_ENTITY - pending.len())
+    Reading::More(Missing {
+        bytes: MAX_ENTITY - pending.len(),
+        stops: true,
+    })
 }
 
 /// Returns whether a later unit of a field is an integer.
@@ -109,28 +133,39 @@ fn is_number(field: &FieldInstruction, stage: Stage) -> bool
     }
 }
 
-/// Returns after how many bytes more something is decided of a later unit that begins with these and goes on, if none of them has a stop
-/// bit.
+/// Returns the bytes that have to follow before anything more is decided of a later unit that begins with these and goes on.
 #[inline]
-fn run_missing(
+pub(crate) fn run_missing(
     slots: &Slots,
     field: &FieldInstruction,
     stage: Stage,
     bytes: &[u8],
     limits: Limits,
-) -> usize
+) -> Missing
     requires serves { ServesField slots.now field.now }
     requires stage { IsStageOf (bounds limits) (field_data field.now) (previous_of slots.now field.now) stage }
-    requires open { IsBytesStage (bounds limits) (field_data field.now) (previous_of slots.now field.now) stage bytes.now }
-    ensures { KeepsRun (bounds limits) (field_data field.now) (previous_of slots.now field.now) stage bytes.now result }
+    requires open { IsBytesStage (bounds limits) (field_data field.now) (previous_of slots.now field.now) stage
+        bytes.now }
+    ensures keeps { KeepsRun (bounds limits) (field_data field.now) (previous_of slots.now field.now) stage bytes.now
+        result }
+    ensures within { length bytes.now + result.bytes ≤ 2 + limits.max_text }
 {
     match stage {
-        Stage::Vector(size) | Stage::PartVector(_, size) => size - bytes.len(),
+        Stage::Vector(size) | Stage::PartVector(_, size) => Missing {
+            bytes: size - bytes.len(),
+            stops: false,
+        },
         Stage::Part(subtraction) => {
             let room = part_room(slots, field, subtraction, limits.max_text);
-            text_missing(bytes, false, room)
+            Missing {
+                bytes: text_missing(bytes, false, room),
+                stops: true,
+            }
         }
-        Stage::Mantissa(_) | Stage::MantissaDelta(_) => 1,
+        Stage::Mantissa(_) | Stage::MantissaDelta(_) => Missing {
+            bytes: 1,
+            stops: true,
+        },
     }
 }
 
@@ -138,7 +173,6 @@ fn run_missing(
 fn read_run(
     slots: &mut Slots,
     scratch: &mut Scratch,
-    joined: &mut Scratch,
     field: &FieldInstruction,
     stage: Stage,
     bytes: &[u8],
@@ -147,17 +181,18 @@ fn read_run(
     requires serves { ServesField slots.old field.now }
     requires limit { HasTextLimit slots.old limits }
     requires room { HasRoomFor slots.old scratch.old }
-    requires joined { HasRoomFor slots.old joined.old }
     requires stage { IsStageOf (bounds limits) (field_data field.now) (previous_of slots.old field.now) stage }
     requires next { IsNextStage (bounds limits) (field_data field.now) (previous_of slots.old field.now) stage }
     requires run { IsRunStage (field_data field.now) stage }
     ensures reading { IsFieldReading (reader_behind limits (field_data field.now) (slots_dictionary slots.old) stage)
-        (field_data field.now) bytes.now (slots_dictionary slots.old) (slots_dictionary slots.new) scratch.new.text result }
+        (field_data field.now) bytes.now (slots_dictionary slots.old) (slots_dictionary slots.new) scratch.new.text
+        result }
+    ensures bounded { IsBounded (2 + limits.max_text) bytes.now result }
     ensures terms { slots_terms slots.new ≡ slots_terms slots.old }
-    ensures capacity { (scratch.new.capacity ≡ scratch.old.capacity) × (joined.new.capacity ≡ joined.old.capacity) }
+    ensures capacity { scratch.new.capacity ≡ scratch.old.capacity }
 {
     scratch.clear();
-    match take_bytes(slots, scratch, joined, field, stage, bytes, limits) {
+    match take_bytes(slots, scratch, field, stage, bytes, limits) {
         Progress::Whole(FieldStep::Settled(source), count) => whole(source, count),
         Progress::Whole(FieldStep::Next(_), _) => unreachable!(),
         Progress::Wrong(code, count) => Reading::Wrong(code, count),
@@ -165,47 +200,40 @@ fn read_run(
     }
 }
 
-/// Reads a field from a later unit on, the `first` that is left.
-fn read_behind(
+/// Reads a field from its second unit on.
+fn read_later(
     slots: &mut Slots,
     pending: &mut Pending,
     scratch: &mut Scratch,
-    joined: &mut Scratch,
     field: &FieldInstruction,
-    first: Stage,
+    stage: Stage,
     bytes: &[u8],
     limits: Limits,
 ) -> Reading
     requires serves { ServesField slots.old field.now }
     requires limit { HasTextLimit slots.old limits }
     requires room { HasRoomFor slots.old scratch.old }
-    requires joined { HasRoomFor slots.old joined.old }
-    requires stage { IsStageOf (bounds limits) (field_data field.now) (previous_of slots.old field.now) first }
-    requires next { IsNextStage (bounds limits) (field_data field.now) (previous_of slots.old field.now) first }
+    requires stage { IsStageOf (bounds limits) (field_data field.now) (previous_of slots.old field.now) stage }
+    requires next { IsNextStage (bounds limits) (field_data field.now) (previous_of slots.old field.now) stage }
     requires unused { pending.old.bytes ≡ [] }
-    ensures reading { IsFieldReading (reader_behind limits (field_data field.now) (slots_dictionary slots.old) first)
-        (field_data field.now) bytes.now (slots_dictionary slots.old) (slots_dictionary slots.new) scratch.new.text result }
+    ensures reading { IsFieldReading (reader_behind limits (field_data field.now) (slots_dictionary slots.old) stage)
+        (field_data field.now) bytes.now (slots_dictionary slots.old) (slots_dictionary slots.new) scratch.new.text
+        result }
+    ensures bounded { IsBounded (12 + limits.max_text) bytes.now result }
     ensures terms { slots_terms slots.new ≡ slots_terms slots.old }
-    ensures capacity { (scratch.new.capacity ≡ scratch.old.capacity) × (joined.new.capacity ≡ joined.old.capacity) }
+    ensures capacity { scratch.new.capacity ≡ scratch.old.capacity }
 {
-    let (mut stage, mut at) = (first, 0);
-    'units: loop {
-        let rest = &bytes[at..];
-        if !is_number(field, stage) {
-            let reading = read_run(slots, scratch, joined, field, stage, rest, limits);
-            return shifted(reading, at, bytes.len());
+    if !is_number(field, stage) {
+        return read_run(slots, scratch, field, stage, bytes, limits);
+    }
+    match take_number(slots, pending, scratch, field, stage, bytes, limits) {
+        Progress::Whole(FieldStep::Settled(source), count) => whole(source, count),
+        Progress::Whole(FieldStep::Next(next), count) => {
+            let reading = read_run(slots, scratch, field, next, &bytes[count..], limits);
+            shifted(reading, count, bytes.len())
         }
-        match take_number(slots, pending, joined, field, stage, rest, limits) {
-            Progress::Whole(FieldStep::Settled(source), count) => {
-                return shifted(whole(source, count), at, bytes.len());
-            }
-            Progress::Whole(FieldStep::Next(next), count) => {
-                stage = next;
-                at += count;
-            }
-            Progress::Wrong(code, count) => return Reading::Wrong(code, at + count),
-            Progress::Cut => return cut_integer(pending),
-        }
+        Progress::Wrong(code, count) => Reading::Wrong(code, count),
+        Progress::Cut => cut_integer(pending),
     }
 }
 
@@ -213,7 +241,6 @@ fn read_behind(
 fn read_text(
     slots: &mut Slots,
     scratch: &mut Scratch,
-    joined: &mut Scratch,
     field: &FieldInstruction,
     bytes: &[u8],
     limits: Limits,
@@ -221,31 +248,70 @@ fn read_text(
     requires serves { ServesField slots.old field.now }
     requires limit { HasTextLimit slots.old limits }
     requires room { HasRoomFor slots.old scratch.old }
-    requires joined { HasRoomFor slots.old joined.old }
     requires text { IsAsciiFirst (field_data field.now) }
     requires varies { field.now.operator ≢ Operator.Constant }
     ensures reading { IsFieldReading (first_reader limits (field_data field.now) (slots_dictionary slots.old))
-        (field_data field.now) bytes.now (slots_dictionary slots.old) (slots_dictionary slots.new) scratch.new.text result }
+        (field_data field.now) bytes.now (slots_dictionary slots.old) (slots_dictionary slots.new) scratch.new.text
+        result }
+    ensures bounded { IsBounded (2 + limits.max_text) bytes.now result }
     ensures terms { slots_terms slots.new ≡ slots_terms slots.old }
-    ensures capacity { (scratch.new.capacity ≡ scratch.old.capacity) × (joined.new.capacity ≡ joined.old.capacity) }
+    ensures capacity { scratch.new.capacity ≡ scratch.old.capacity }
 {
     scratch.clear();
-    match take_first_text(slots, scratch, joined, field, bytes, limits) {
+    match take_first_text(slots, scratch, field, bytes, limits) {
         Progress::Whole(FieldStep::Settled(source), count) => whole(source, count),
         Progress::Whole(FieldStep::Next(_), _) => unreachable!(),
         Progress::Wrong(code, count) => Reading::Wrong(code, count),
-        Progress::Cut => Reading::More(text_missing(bytes, field.optional, limits.max_text)),
+        Progress::Cut => Reading::More(Missing {
+            bytes: text_missing(bytes, field.optional, limits.max_text),
+            stops: true,
+        }),
     }
 }
 
-/// Reads a field that is in the stream from the bytes that it begins with, all of which are at hand. A string that is
-/// neither in the bytes nor in the field's entry is in `scratch` then; `joined` is for strings of two parts.
+/// Reads a field that is in the stream unit after unit.
+fn read_units(
+    slots: &mut Slots,
+    scratch: &mut Scratch,
+    field: &FieldInstruction,
+    bytes: &[u8],
+    limits: Limits,
+) -> Reading
+    requires serves { ServesField slots.old field.now }
+    requires limit { HasTextLimit slots.old limits }
+    requires room { HasRoomFor slots.old scratch.old }
+    requires varies { field.now.operator ≢ Operator.Constant }
+    ensures reading { IsFieldReading (first_reader limits (field_data field.now) (slots_dictionary slots.old))
+        (field_data field.now) bytes.now (slots_dictionary slots.old) (slots_dictionary slots.new) scratch.new.text
+        result }
+    ensures bounded { IsBounded (22 + limits.max_text) bytes.now result }
+    ensures terms { slots_terms slots.new ≡ slots_terms slots.old }
+    ensures capacity { scratch.new.capacity ≡ scratch.old.capacity }
+{
+    if field.kind == Kind::Ascii && field.operator != Operator::Delta {
+        return read_text(slots, scratch, field, bytes, limits);
+    }
+    let mut pending = Pending::new();
+    let pending = &mut pending;
+    match take_first(slots, pending, scratch, field, bytes, limits) {
+        Progress::Whole(FieldStep::Settled(source), count) => whole(source, count),
+        Progress::Whole(FieldStep::Next(stage), count) => {
+            let rest = &bytes[count..];
+            let reading = read_later(slots, pending, scratch, field, stage, rest, limits);
+            shifted(reading, count, bytes.len())
+        }
+        Progress::Wrong(code, count) => Reading::Wrong(code, count),
+        Progress::Cut => cut_integer(pending),
+    }
+}
+
+/// Reads a field that is in the stream from the bytes that it begins with, all of which are at hand. A string that is neither in the bytes
+/// nor in the field's entry is in `scratch` then.
 ///
 /// Of a field that goes on nothing is kept: it is to be read again from its first byte.
 pub fn read_field(
     slots: &mut Slots,
     scratch: &mut Scratch,
-    joined: &mut Scratch,
     field: &FieldInstruction,
     bytes: &[u8],
     limits: Limits,
@@ -253,26 +319,16 @@ pub fn read_field(
     requires serves { ServesField slots.old field.now }
     requires limit { HasTextLimit slots.old limits }
     requires room { HasRoomFor slots.old scratch.old }
-    requires joined { HasRoomFor slots.old joined.old }
     requires varies { field.now.operator ≢ Operator.Constant }
     ensures reading { IsFieldReading (first_reader limits (field_data field.now) (slots_dictionary slots.old))
-        (field_data field.now) bytes.now (slots_dictionary slots.old) (slots_dictionary slots.new) scratch.new.text result }
+        (field_data field.now) bytes.now (slots_dictionary slots.old) (slots_dictionary slots.new) scratch.new.text
+        result }
+    ensures bounded { IsBounded (22 + limits.max_text) bytes.now result }
     ensures terms { slots_terms slots.new ≡ slots_terms slots.old }
-    ensures capacity { (scratch.new.capacity ≡ scratch.old.capacity) × (joined.new.capacity ≡ joined.old.capacity) }
+    ensures capacity { scratch.new.capacity ≡ scratch.old.capacity }
 {
-    if field.kind == Kind::Ascii && field.operator != Operator::Delta {
-        return read_text(slots, scratch, joined, field, bytes, limits);
-    }
-    let mut pending = Pending::new();
-    let pending = &mut pending;
-    match take_first(slots, pending, scratch, joined, field, bytes, limits) {
-        Progress::Whole(FieldStep::Settled(source), count) => whole(source, count),
-        Progress::Whole(FieldStep::Next(stage), count) => {
-            let rest = &bytes[count..];
-            let reading = read_behind(slots, pending, scratch, joined, field, stage, rest, limits);
-            shifted(reading, count, bytes.len())
-        }
-        Progress::Wrong(code, count) => Reading::Wrong(code, count),
-        Progress::Cut => cut_integer(pending),
+    match whole_string(slots, scratch, field, bytes, limits) {
+        Some(found) => Reading::Whole(found),
+        None => read_units(slots, scratch, field, bytes, limits),
     }
 }

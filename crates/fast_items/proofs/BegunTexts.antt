@@ -1,4 +1,4 @@
--- Deltas of texts that begin in the piece and go on behind it.
+-- Deltas of texts that begin in the piece and go on after it.
 use Rattle.std.proofs.Common.{refl, sym, ap, ◌∙◌, subst, arith, to_z, of_z}
 use Rattle.std.specs.Int.{w32, w64}
 use Rattle.std.specs.Prelude.{◌≡◌, ◌≢◌, ℕ, ◌+◌, ◌-◌, ◌<◌, ◌≤◌, Bool, true, false, List, [], length, take, drop, ℤ, pos, negsuc, ◌≤ℤ◌, ◌<ℤ◌}

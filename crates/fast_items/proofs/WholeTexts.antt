@@ -115,7 +115,7 @@ module _ (s : Bool) (l : Bounds) (f : FieldData) (rest : List ℕ) (old new : Di
       (reader_of s (behind (Some (pos size)))) text text (decide f p true (sent_text f.kind (Some text)))
       (ap (reader_of s) (next ∙ vector_field l f p size)) (run_whole s size text (length-take-le size (drop a rest) within)) refl h)
 
-  -- The bytes behind its size are too few.
+  -- The bytes after its size are too few.
   pub vector_begun : (size a : ℕ) → IsFirstInt (λ y. option_map pos y) s (unsigned_range 32) f.optional (First.Whole (Some size) a) rest
       → size ≤ l.max_text → length rest - a < size
       → HasBegun s l f (previous_at f.entry old) rest (Vector size) a

@@ -11,7 +11,6 @@ pub mod First
 pub mod Walks
 pub mod Ops
 pub mod Texts
-pub mod CutTexts
 pub mod Led
 pub mod Parts
 pub mod Lengths

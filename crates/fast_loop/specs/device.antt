@@ -1,4 +1,3 @@
 -- Definitions for the arms of the loop and its steps.
 pub mod Arms
 pub mod Parts
-pub mod Begun

@@ -2,7 +2,6 @@
 #![tactic(auto)]
 
 mod bits;
-mod cut_texts;
 mod decimal_arms;
 mod integer_arms;
 mod kind_arms;

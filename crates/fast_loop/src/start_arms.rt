@@ -75,7 +75,6 @@ fn first_message<'t>(
     piece: &[u8],
 ) -> Option<(usize, &'t Start)>
     requires supplied { IsSupplied (set_of templates.now) limits machine.old }
-    requires unused { machine.old.entity.bytes ≡ [] }
     ensures none { IfNone result (machine.new ≡ machine.old) }
     ensures ahead { IfSome result (λ r. IsMessageAhead (set_of templates.now) limits
         (slots_dictionary machine.old.slots) (slots_dictionary machine.new.slots) piece.now r.1.now.number r.0) }

@@ -15,7 +15,6 @@ ghost use Rattle.fast_cursor.specs.device.Places.{at_place, HasBits};
 ghost use Rattle.fast_loop.specs.device.Arms.{IsAtSpot, IsAtOp, IsFieldOp, IsOpText, HasWent};
 ghost use Rattle.fast_machine.specs.device.Positions.{set_of};
 
-use crate::cut_texts::{keep_ascii, kept_or_declined};
 use crate::spot::{Spot, Standing, Went, hand_taken, hand_unsent, stands};
 use fast_dict::operators::initial_value;
 use fast_dict::{Slots, Store};
@@ -234,10 +233,7 @@ pub fn ascii_arm<'t, S: Sink>(
                         sink,
                     )
                 }
-                None => {
-                    let kept = keep_ascii(machine, spot.rest.bytes);
-                    kept_or_declined(kept, spot)
-                }
+                None => Went::Declined,
             }
         }
     }

@@ -9,7 +9,6 @@ ghost use Rattle.fast_cursor.specs.device.Places.{at_place, HasBits};
 ghost use Rattle.fast_loop.specs.device.Arms.{IsAtSpot, IsAtOp, IsFieldOp, HasWent};
 ghost use Rattle.fast_machine.specs.device.Positions.{set_of};
 
-use crate::cut_texts::{keep_delta, keep_vector, kept_or_declined};
 use crate::spot::{Spot, Standing, Went, hand_taken, hand_unsent, stands};
 use fast_items::lent_texts::{kept_at, lent_at, unsent_text};
 use fast_items::part_items::sent_delta;
@@ -54,17 +53,7 @@ pub fn vector_arm<'t, S: Sink>(
                 sink,
             )
         }
-        None => {
-            let kept = keep_vector(
-                machine,
-                kind,
-                optional,
-                Operator::None,
-                rest.bytes,
-                limits.strict,
-            );
-            kept_or_declined(kept, spot)
-        }
+        None => Went::Declined,
     }
 }
 
@@ -89,7 +78,7 @@ pub fn part_arm<'t, S: Sink>(
 {
     match sent_delta(
         &mut machine.slots,
-        &mut machine.joined,
+        &mut machine.text,
         op.entry,
         kind,
         optional,
@@ -109,17 +98,7 @@ pub fn part_arm<'t, S: Sink>(
                 sink,
             )
         }
-        None => {
-            let kept = keep_delta(
-                machine,
-                op.entry,
-                kind,
-                optional,
-                spot.rest.bytes,
-                limits.strict,
-            );
-            kept_or_declined(kept, spot)
-        }
+        None => Went::Declined,
     }
 }
 
@@ -170,11 +149,7 @@ pub fn tail_arm<'t, S: Sink>(
                         sink,
                     )
                 }
-                None => {
-                    let (rest, strict) = (spot.rest.bytes, limits.strict);
-                    let kept = keep_vector(machine, kind, optional, Operator::Tail, rest, strict);
-                    kept_or_declined(kept, spot)
-                }
+                None => Went::Declined,
             }
         }
     }

@@ -4,4 +4,4 @@ pub mod SentFields
 pub mod EntryTexts
 pub mod Heads
 pub mod Identifiers
-pub mod ScalarNodes
+pub mod FieldNodes

@@ -7,8 +7,5 @@ pub mod StartMaps
 pub mod Ahead
 pub mod KnownStarts
 pub mod SentItems
-pub mod PartTakes
-pub mod ScalarMachines
-pub mod ScalarSteps
+pub mod FieldTakes
 pub mod Gathers
-pub mod HeldTexts

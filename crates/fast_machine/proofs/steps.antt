@@ -4,7 +4,6 @@ pub mod FieldTurns
 pub mod SegmentTurns
 pub mod Begun
 pub mod Answered
-pub mod Awaiting
 pub mod TurnCounts
 pub mod Opened
 pub mod NextElements

@@ -4,7 +4,6 @@ pub mod Positions
 pub mod UnitTaken
 pub mod Moving
 pub mod Passing
-pub mod Scalars
 pub mod TurnsLeft
 pub mod Serving
 pub mod AtHand

@@ -33,7 +33,6 @@ use fast_program::Start;
 use fast_stream::{Event, FaultCode, Sink};
 use fast_template::{Template, Templates};
 use fast_units::fields::{unsent, value_at};
-use fast_units::numbers::take_integer;
 use fast_units::progress::Progress;
 use fast_units::source::ValueSource;
 use fast_value::{Code, Limits, Scalar};
@@ -175,12 +174,13 @@ impl<'t> Machine<'t> {
             return Err(FaultCode::Stream(Code::R7));
         }
         if self.cursor.bit() {
+            self.carry.begin(&self.identifier);
             self.waiting = Waiting::Identifier;
             return Ok(Turn::Waits);
         }
         match unsent(&mut self.slots, &self.identifier, false) {
             Err(code) => Err(FaultCode::Stream(code)),
-            Ok(source) => self.identified(templates, limits, source, &[], sink),
+            Ok(source) => self.identified(templates, limits, source, sink),
         }
     }
 
@@ -190,20 +190,19 @@ impl<'t> Machine<'t> {
         templates: &'t Templates,
         limits: Limits,
         source: ValueSource,
-        piece: &[u8],
         sink: &mut S,
     ) -> Result<Turn, FaultCode>
         requires behind { IsBehindMap (set_of templates.now) limits self.old }
         ensures turn { IsTurn S.takes S.stops (set_of templates.now) limits
             (reader_of limits.strict
             (identified_then (set_of templates.now) (bounds limits)
-            (value_at source identifier (slots_dictionary self.old.slots) self.old.text.text piece.now)
+            (value_at source identifier (slots_dictionary self.old.slots) self.old.text.text [])
             (slots_dictionary self.old.slots) self.old.cursor))
             sink.old result sink.new self.new }
         ensures turns { PaysMessage (set_of templates.now) limits self.old result self.new }
     {
         let text = self.text.as_slice();
-        let value = value_at(&self.slots, &self.identifier, text, piece, source);
+        let value = value_at(&self.slots, &self.identifier, text, &[], source);
         let Some(start) = template_of(templates, id_of(value), self.latest) else {
             return Err(FaultCode::Stream(Code::D9));
         };
@@ -264,18 +263,17 @@ impl<'t> Machine<'t> {
             sink.new self.new }
         ensures turns { PaysMessage (set_of templates.now) limits self.old result.turn self.new }
     {
-        match take_integer(
+        match self.carry.read(
             &mut self.slots,
-            &mut self.entity,
+            &mut self.text,
             &self.identifier,
             rest,
-            limits.strict,
+            limits,
         ) {
             Progress::Cut => UnitTaken::cut(rest),
             Progress::Wrong(code, bytes) => UnitTaken::wrong(code, bytes),
-            Progress::Whole(source, bytes) => {
-                let piece = &rest[..bytes];
-                let turn = self.identified(templates, limits, source, piece, sink);
+            Progress::Whole(found, bytes) => {
+                let turn = self.identified(templates, limits, found.source, sink);
                 UnitTaken { bytes, turn }
             }
         }

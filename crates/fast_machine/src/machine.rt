@@ -1,16 +1,15 @@
 //! The machine that reads the units of a stream, one after the other.
 //!
-//! A unit is a presence map, an integer, an ASCII string or a run of bytes. Nothing changes before a unit is complete: if a piece splits a
-//! unit, its bytes are only buffered. So to go on with a message is to wait for the same unit again.
+//! A unit is a presence map or a field, such as the length of a sequence or a part of a decimal. Nothing changes before a unit is complete: if
+//! a piece splits a unit, its bytes are only kept. So to go on with a message is to wait for the same unit again.
 
 use crate::turns::Turns;
 use fast_cursor::cursor::Cursor;
 use fast_dict::Slots;
+use fast_fields::carry::Carry;
 use fast_program::Start;
 use fast_template::FieldInstruction;
-use fast_units::pending::Pending;
 use fast_units::scratch::Scratch;
-use fast_units::stages::Stage;
 
 /// The unit that a machine waits for.
 #[derive(Clone, Copy, Debug, PartialEq, Eq)]
@@ -21,14 +20,8 @@ pub enum Waiting {
     Identifier,
     /// The presence map of a group or an element, whose instructions use this number of bits.
     SegmentMap(usize),
-    /// The first unit of the next instruction: an integer.
+    /// The field of the next instruction: itself, its exponent or its length.
     Field,
-    /// The next instruction's ASCII string.
-    Text,
-    /// A later unit of the next instruction, which is an integer.
-    Number(Stage),
-    /// A later unit of the next instruction, which is an ASCII string or a run of bytes.
-    Bytes(Stage),
     /// The mantissa of the next instruction, a decimal by parts with this exponent.
     Mantissa(i32),
 }
@@ -53,12 +46,10 @@ pub struct Machine<'t> {
     pub waiting: Waiting,
     /// The position in the message.
     pub cursor: Cursor<'t>,
-    /// The buffered bytes of an integer that a piece has split.
-    pub entity: Pending,
-    /// The buffered bytes of a string that a piece has split, or the last string that was not borrowed from the piece.
+    /// The bytes of a field that a piece has split.
+    pub carry: Carry,
+    /// The last string that was not borrowed from its bytes.
     pub text: Scratch,
-    /// The last string that was joined from two parts.
-    pub joined: Scratch,
     /// The number of elements of the message's sequences so far.
     pub counted: u32,
     /// The template identifier, as a field.

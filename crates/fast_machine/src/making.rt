@@ -14,8 +14,8 @@ use crate::machine::{Machine, Waiting};
 use crate::turns::Turns;
 use fast_cursor::cursor::Cursor;
 use fast_dict::Store;
+use fast_fields::carry::Carry;
 use fast_template::{FieldInstruction, Operator, Templates};
-use fast_units::pending::Pending;
 use fast_units::scratch::Scratch;
 use fast_value::{Kind, Limits};
 use std::alloc::{AllocError, Global};
@@ -40,9 +40,8 @@ impl<'t> Machine<'t> {
             waiting: Waiting::Map,
             cursor: Cursor::new(alloc, templates.program(), templates.depth() as usize)?,
             slots: make_slots(alloc, templates, limits.max_text)?,
-            entity: Pending::new(),
+            carry: Carry::new(alloc, limits.max_text)?,
             text: Scratch::new(alloc, limits.max_text)?,
-            joined: Scratch::new(alloc, limits.max_text)?,
             counted: 0,
             identifier: FieldInstruction {
                 kind: Kind::UInt32,
@@ -64,7 +63,6 @@ impl<'t> Machine<'t> {
         self.waiting = Waiting::Map;
         self.cursor.reset();
         self.slots.reset_all();
-        self.entity.clear();
         self.counted = 0;
         self.turns = Turns::none();
     }
@@ -84,13 +82,8 @@ impl<'t> Machine<'t> {
     {
         match self.waiting {
             Waiting::Map => self.cursor.map_len() == 0,
-            Waiting::Identifier
-            | Waiting::SegmentMap(_)
-            | Waiting::Field
-            | Waiting::Text
-            | Waiting::Number(_)
-            | Waiting::Bytes(_)
-            | Waiting::Mantissa(_) => false,
+            Waiting::Identifier | Waiting::SegmentMap(_) | Waiting::Field | Waiting::Mantissa(_) =>
+                false,
         }
     }
 }

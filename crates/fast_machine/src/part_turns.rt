@@ -81,7 +81,7 @@ impl<'t> Machine<'t> {
     {
         let bit = self.presence(exponent);
         if needs_bytes(exponent, bit) {
-            self.waiting = Waiting::Field;
+            self.wait_first(exponent);
             return Ok(Turn::Waits);
         }
         match unsent(&mut self.slots, exponent, bit) {
@@ -165,6 +165,7 @@ impl<'t> Machine<'t> {
     {
         let bit = self.presence(mantissa);
         if needs_bytes(mantissa, bit) {
+            self.carry.begin(mantissa);
             self.waiting = Waiting::Mantissa(exponent);
             return Ok(Turn::Waits);
         }

@@ -90,7 +90,7 @@ impl<'t> Machine<'t> {
         ensures turns { (way : Way) (n : ℕ) → HasTurns way (set_of templates.now) limits 1 n self.old
             → IfSome result (λ q. HasTurnsBehind q.turn way (set_of templates.now) limits (1 + n) self.new) }
     {
-        if !self.entity.is_empty() {
+        if !self.carry.bytes.is_empty() {
             return None;
         }
         let number = self.cursor.next()?;

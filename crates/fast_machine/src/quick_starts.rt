@@ -85,7 +85,6 @@ impl<'t> Machine<'t> {
         rest: &[u8],
     ) -> Option<(usize, &'t Start)>
         requires supplied { IsSupplied (set_of templates.now) limits self.old }
-        requires unused { self.old.entity.bytes ≡ [] }
         requires some { 0 < length rest.now }
         requires first { 192 ≤ slice_index rest.now 0 }
         ensures none { IfNone result (self.new ≡ self.old) }
@@ -114,7 +113,6 @@ impl<'t> Machine<'t> {
         rest: &[u8],
     ) -> Option<&'t Start>
         requires supplied { IsSupplied (set_of templates.now) limits self.now }
-        requires unused { self.now.entity.bytes ≡ [] }
         ensures ahead { IfSome result (λ s. IsMessageAhead (set_of templates.now) limits
             (slots_dictionary self.now.slots) (slots_dictionary self.now.slots) rest.now s.now.number 1) }
         ensures start { IfSome result (λ s. IsStartIn (set_of templates.now) s.now) }
@@ -140,7 +138,6 @@ impl<'t> Machine<'t> {
         rest: &[u8],
     ) -> Option<(usize, &'t Start)>
         requires supplied { IsSupplied (set_of templates.now) limits self.old }
-        requires unused { self.old.entity.bytes ≡ [] }
         ensures none { IfNone result (self.new ≡ self.old) }
         ensures ahead { IfSome result (λ r. IsMessageAhead (set_of templates.now) limits
             (slots_dictionary self.old.slots) (slots_dictionary self.new.slots) rest.now r.1.now.number r.0) }

@@ -6,18 +6,15 @@ ghost use Rattle.fast_tree.specs.meaning.Tree.{FieldData, uses_bit};
 ghost use Rattle.fast_value.specs.declared.settings.Limits.{Limits};
 ghost use Rattle.fast_machine.specs.declared.machine.Machine.{Machine};
 ghost use Rattle.fast_machine.specs.device.UnitTaken.{IsTakenTo, IsSentItem};
-ghost use Rattle.fast_machine.specs.device.Positions.{Set, set_of, tree_in, IsReady, meaning};
+ghost use Rattle.fast_stream.specs.device.Machine.{after_bytes};
+ghost use Rattle.fast_machine.specs.device.Positions.{Set, set_of, tree_in, IsReady, meaning, turning};
 ghost use Rattle.fast_machine.specs.device.TurnsLeft.{Way, HasTurns, HasTurnsBehind, HasTurnsWaiting, turns_begun_at};
 
 use crate::machine::{Machine, Turn, Waiting};
 use crate::turns::Turns;
 use fast_stream::{FaultCode, Sink};
-use fast_template::{Shape, Templates};
+use fast_template::Templates;
 use fast_units::fields::Number;
-use fast_units::held_texts::{held_ascii, held_vector};
-use fast_units::progress::Progress;
-use fast_units::source::ValueSource;
-use fast_units::stages::{FieldStep, Stage};
 use fast_value::Limits;
 
 /// A unit, or the part of it that is there, and the turn after it.
@@ -53,14 +50,14 @@ impl<'t> Machine<'t> {
         sink: &mut S,
     ) -> UnitTaken
         requires left { 0 < length self.old.cursor.left }
-        ensures taken { (set : Set) (l : Limits) (m : Machine) (rest : List ℕ) (f : FieldData) → has_bit ≡ uses_bit f
-            → IsSentItem set l m self.old number f rest item bytes
-            → IsTakenTo S.takes S.stops set l (meaning set l m) rest sink.old result.bytes result.turn sink.new
-            self.new }
+        ensures taken { (set : Set) (l : Limits) (m : Machine) (front rest : List ℕ) (f : FieldData) → has_bit ≡ uses_bit f
+            → IsSentItem set l m self.old number f front rest item bytes
+            → IsTakenTo S.takes S.stops set l (after_bytes (turning set l m) front) rest sink.old result.bytes result.turn
+            sink.new self.new }
         ensures on { result.turn ≢ Ok Turn.Waits }
         ensures waits { self.new.waiting ≡ self.old.waiting }
-        ensures turns { (set : Set) (l : Limits) (m : Machine) (rest : List ℕ) (f : FieldData)
-            → IsSentItem set l m self.old number f rest item bytes
+        ensures turns { (set : Set) (l : Limits) (m : Machine) (front rest : List ℕ) (f : FieldData)
+            → IsSentItem set l m self.old number f front rest item bytes
             → (way : Way) (n : ℕ) → HasTurns way set l 1 n m → HasTurnsBehind result.turn way set l (1 + n) self.new }
     {
         self.turns = Turns::after(&self.turns);
@@ -94,77 +91,13 @@ impl<'t> Machine<'t> {
             }
             Waiting::SegmentMap(_) => self.open_quickly(templates, limits, rest, sink),
             Waiting::Field => {
-                if self.entity.is_empty() {
+                if self.carry.bytes.is_empty() {
                     self.take_short_number(templates, limits, rest, sink)
                 } else {
                     self.take_held_number(templates, limits, rest, sink)
                 }
             }
-            Waiting::Text => self.take_held_ascii(templates, limits, rest, sink),
-            Waiting::Bytes(Stage::Vector(size)) => {
-                self.take_held_vector(templates, limits, size, rest, sink)
-            }
-            _ => None,
+            Waiting::Map | Waiting::Identifier => None,
         }
-    }
-
-    /// Completes a vector without operator of which some bytes are buffered, if all others are there.
-    #[inline(always)]
-    fn take_held_vector<S: Sink>(
-        &mut self,
-        templates: &'t Templates,
-        limits: Limits,
-        size: usize,
-        rest: &[u8],
-        sink: &mut S,
-    ) -> Option<UnitTaken>
-        requires waits { self.old.waiting ≡ Waiting.Bytes (Stage.Vector size) }
-        requires ready { IsReady (set_of templates.now) limits self.old }
-        ensures none { IfNone result ((self.new ≡ self.old) × (sink.new ≡ sink.old)) }
-        ensures taken { IfSome result
-            (λ q. IsTakenTo S.takes S.stops (set_of templates.now) limits
-            (meaning (set_of templates.now) limits self.old) rest.now sink.old q.bytes q.turn sink.new self.new) }
-        ensures on { IfSome result (λ q. q.turn ≢ Ok Turn.Waits) }
-        ensures turns { (way : Way) (n : ℕ) → HasTurns way (set_of templates.now) limits 1 n self.old
-            → IfSome result (λ q. HasTurnsBehind q.turn way (set_of templates.now) limits (1 + n) self.new) }
-    {
-        let number = self.cursor.next()?;
-        let Shape::Field(field) = &templates.node(number).shape else {
-            return None;
-        };
-        let bytes = held_vector(&mut self.text, field, size, rest)?;
-        self.turns = Turns::after(&self.turns);
-        let progress = Progress::Whole(FieldStep::Settled(ValueSource::Scratch), bytes);
-        Some(self.scalar_taken(templates, limits, number, field, progress, rest, sink))
-    }
-
-    /// Completes an ASCII string of which some characters are buffered, if the last one is there, and the string is neither kept nor joined
-    /// to another.
-    #[inline(never)]
-    fn take_held_ascii<S: Sink>(
-        &mut self,
-        templates: &'t Templates,
-        limits: Limits,
-        rest: &[u8],
-        sink: &mut S,
-    ) -> Option<UnitTaken>
-        requires waits { self.old.waiting ≡ Waiting.Text }
-        requires ready { IsReady (set_of templates.now) limits self.old }
-        ensures none { IfNone result ((self.new ≡ self.old) × (sink.new ≡ sink.old)) }
-        ensures taken { IfSome result
-            (λ q. IsTakenTo S.takes S.stops (set_of templates.now) limits
-            (meaning (set_of templates.now) limits self.old) rest.now sink.old q.bytes q.turn sink.new self.new) }
-        ensures on { IfSome result (λ q. q.turn ≢ Ok Turn.Waits) }
-        ensures turns { (way : Way) (n : ℕ) → HasTurns way (set_of templates.now) limits 1 n self.old
-            → IfSome result (λ q. HasTurnsBehind q.turn way (set_of templates.now) limits (1 + n) self.new) }
-    {
-        let number = self.cursor.next()?;
-        let Shape::Field(field) = &templates.node(number).shape else {
-            return None;
-        };
-        let bytes = held_ascii(&mut self.text, field, rest, limits.max_text)?;
-        self.turns = Turns::after(&self.turns);
-        let progress = Progress::Whole(FieldStep::Settled(ValueSource::Scratch), bytes);
-        Some(self.scalar_taken(templates, limits, number, field, progress, rest, sink))
     }
 }

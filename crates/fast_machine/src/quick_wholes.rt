@@ -1,5 +1,5 @@
 //! The fast path of fields that are numbers, at the start of a piece, or after the last bit of the map's word, where the loop's arms decline:
-//! integers, of which some bytes may be buffered, decimals under delta, both units at once, and lengths of sequences under any operator.
+//! integers, of which some bytes may be carried, decimals under delta, both units at once, and lengths of sequences under any operator.
 
 ghost use Rattle.std.specs.Prelude.{◌≡◌, ◌≢◌, ◌⊎◌, ◌+◌, ◌<◌, true, false, ℕ, List, [], Ok, IfSome, IfNone};
 ghost use Rattle.fast_wire.specs.meaning.Maps.{first_bit};
@@ -12,7 +12,7 @@ ghost use Rattle.fast_cursor.specs.device.Cursors.{bits_left};
 ghost use Rattle.fast_units.specs.device.Deciding.{source_of};
 ghost use Rattle.fast_units.specs.device.Words.{ServesField, sent_reader, IsLastUnitOf};
 ghost use Rattle.fast_machine.specs.device.UnitTaken.{IsTakenTo};
-ghost use Rattle.fast_machine.specs.device.Positions.{set_of, CanTurn, IsReady, meaning};
+ghost use Rattle.fast_machine.specs.device.Positions.{set_of, CanTurn, IsReady, turning, meaning};
 ghost use Rattle.fast_machine.specs.device.Steps.{IsStep};
 ghost use Rattle.fast_machine.specs.device.TurnsLeft.{Way, HasTurns, HasTurnsBehind};
 
@@ -149,7 +149,7 @@ impl<'t> Machine<'t> {
         ensures some { IfSome result (λ q. 0 < q.bytes) }
         ensures taken { IfSome result
             (λ q. IsTakenTo S.takes S.stops (set_of templates.now) limits
-            (meaning (set_of templates.now) limits self.old) rest.now sink.old q.bytes q.turn sink.new self.new) }
+            (turning (set_of templates.now) limits self.old) rest.now sink.old q.bytes q.turn sink.new self.new) }
         ensures on { IfSome result (λ q. q.turn ≢ Ok Turn.Waits) }
         ensures waits { self.new.waiting ≡ Waiting.Field }
         ensures turns { (way : Way) (n : ℕ) → HasTurns way (set_of templates.now) limits 1 n self.old
@@ -207,8 +207,8 @@ impl<'t> Machine<'t> {
         })
     }
 
-    /// Reads the next instruction, an integer of which some bytes are buffered, if it ends within eight bytes. The buffered bytes and those
-    /// after them are joined outside the machine, so that nothing has changed if it is not read.
+    /// Reads the next instruction, an integer of which some bytes are carried, if it ends within eight bytes. The bytes are put together
+    /// outside the machine, so that nothing has changed if it is not read.
     #[inline(never)]
     pub fn take_held_number<S: Sink>(
         &mut self,
@@ -231,14 +231,13 @@ impl<'t> Machine<'t> {
         let Shape::Field(field) = &templates.node(number).shape else {
             return None;
         };
-        let held = self.entity.len();
-        let (bytes, count) = self.entity.joined(rest)?;
+        let held = self.carry.bytes.len();
+        let (bytes, count) = self.carry.joined(rest)?;
         let entity = short_entity(&bytes)?;
         if entity.len <= held || entity.len > held + count {
             return None;
         }
         let item = integer_item(&mut self.slots, field, &bytes, entity, limits.strict)?;
-        self.entity.clear();
         Some(self.sent(number, field.uses_bit(), item, entity.len - held, sink))
     }
 }

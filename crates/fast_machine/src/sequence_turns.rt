@@ -16,7 +16,7 @@ ghost use Rattle.fast_machine.specs.device.TurnsLeft.{Way, HasTurns, HasTurnsFro
 ghost use Rattle.fast_machine.specs.device.Passing.{length_then, elements_from};
 ghost use Rattle.fast_machine.specs.device.Positions.{set_of, run_in, IsBodyOf, body_in, IsAtSequence, CanTurn, IsTurn, turning};
 
-use crate::machine::{Machine, Turn, Waiting};
+use crate::machine::{Machine, Turn};
 use crate::settling::hand;
 use fast_stream::{Event, FaultCode, Sink};
 use fast_template::{FieldInstruction, Templates};
@@ -69,7 +69,7 @@ impl<'t> Machine<'t> {
     {
         let bit = self.presence(length);
         if needs_bytes(length, bit) {
-            self.waiting = Waiting::Field;
+            self.wait_first(length);
             return Ok(Turn::Waits);
         }
         match unsent(&mut self.slots, length, bit) {

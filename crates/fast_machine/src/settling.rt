@@ -1,6 +1,6 @@
 //! Emits the value of a field that is decided, if it has one.
 
-ghost use Rattle.std.specs.Prelude.{◌≡◌, ◌≢◌, ◌<◌, ℕ, [], Bool, Ok, length, OnOk, MatchResult, Some, None, option_map, if◌then◌else◌};
+ghost use Rattle.std.specs.Prelude.{◌≡◌, ◌≢◌, ◌<◌, ◌≤◌, ℕ, [], Bool, Ok, drop, length, take, OnOk, MatchResult, Some, None, option_map, if◌then◌else◌};
 ghost use Rattle.fast_wire.specs.meaning.Maps.{later_bits};
 ghost use Rattle.fast_value.specs.meaning.Kinds.{integer_of};
 ghost use Rattle.fast_value.specs.meaning.Values.{scalar_data};
@@ -21,7 +21,9 @@ ghost use Rattle.fast_machine.specs.device.Passing.{IsPast, value_then};
 ghost use Rattle.fast_machine.specs.device.Positions.{Set, IsMapWhole, bit_of, state_in, going_on};
 
 use crate::machine::{Machine, Turn};
+use fast_cursor::cursor::Cursor;
 use fast_dict::operators::integers::integer_of;
+use fast_fields::reading::WholeField;
 use fast_stream::{Event, FaultCode, Sink};
 use fast_template::FieldInstruction;
 use fast_units::fields::{Number, value_at};
@@ -50,6 +52,39 @@ pub fn hand_end<S: Sink>(sink: &mut S, left: usize) -> Result<(), FaultCode>
         Ok(()) => Ok(()),
         Err(_) => Err(FaultCode::SinkStopped),
     }
+}
+
+/// Emits the value of the next instruction, a field, if it has one, and moves past it. Of the field only the use of a presence bit has to
+/// be known.
+#[inline(always)]
+fn emit_value<S: Sink>(
+    cursor: &mut Cursor<'_>,
+    node: u32,
+    has_bit: bool,
+    value: Option<Scalar<'_>>,
+    sink: &mut S,
+) -> Result<Turn, FaultCode>
+    requires left { 0 < length cursor.old.left }
+    ensures moves { (set : Set) (l : Bounds) (strict : Bool) (waits : Reader Dictionary) (f : FieldData) (d : Dictionary)
+        (counted : ℕ) → has_bit ≡ uses_bit f → Moves S.takes S.stops
+        (reader_of strict (value_then set l node (option_map scalar_data value.entry) f d counted cursor.old))
+        sink.old result sink.new (reader_of strict (going_on set l d counted cursor.new)) waits }
+    ensures past { OnOk result (IsPast cursor.old cursor.new) }
+    ensures rests { resting cursor.new ≡ resting cursor.old }
+    ensures on { result ≢ Ok Turn.Waits }
+{
+    let turn = match value {
+        Some(value) => {
+            hand(sink, Event::Field { node, value })?;
+            Turn::Handed
+        }
+        None => Turn::Silent,
+    };
+    if has_bit {
+        cursor.use_bit();
+    }
+    cursor.advance();
+    Ok(turn)
 }
 
 impl<'t> Machine<'t> {
@@ -88,18 +123,45 @@ impl<'t> Machine<'t> {
         ensures on { result ≢ Ok Turn.Waits }
     {
         let value = value_at(&self.slots, field, self.text.as_slice(), piece, source);
-        let turn = match value {
-            Some(value) => {
-                hand(sink, Event::Field { node, value })?;
-                Turn::Handed
-            }
-            None => Turn::Silent,
-        };
-        if field.uses_bit() {
-            self.cursor.use_bit();
-        }
-        self.cursor.advance();
-        Ok(turn)
+        emit_value(&mut self.cursor, node, field.uses_bit(), value, sink)
+    }
+
+    /// Moves past the next instruction as [`Machine::finish`] does. All bytes of the field are carried, and its value may be among them.
+    #[inline(never)]
+    pub fn finish_carried<S: Sink>(
+        &mut self,
+        node: u32,
+        field: &FieldInstruction,
+        found: WholeField,
+        sink: &mut S,
+    ) -> Result<Turn, FaultCode>
+        requires left { 0 < length self.old.cursor.left }
+        requires entry { (e : ℕ) → (field_data field.now).entry ≡ Some e
+            → e < length (slots_dictionary self.old.slots) }
+        requires from { found.from ≤ found.bytes }
+        requires within { found.bytes ≤ length self.old.carry.bytes.text }
+        ensures moves { (set : Set) (l : Bounds) (strict : Bool) (waits : Reader Dictionary) → Moves S.takes S.stops
+            (reader_of strict (value_then set l node
+            (value_at found.source (field_data field.now) (slots_dictionary self.old.slots) self.old.text.text
+            (drop found.from (take found.bytes self.old.carry.bytes.text)))
+            (field_data field.now) (slots_dictionary self.old.slots) self.old.counted self.old.cursor))
+            sink.old result sink.new
+            (reader_of strict (going_on set l (slots_dictionary self.new.slots) self.new.counted self.new.cursor))
+            waits }
+        ensures past { OnOk result (IsPast self.old.cursor self.new.cursor) }
+        ensures same { self.new ≡ record self.old { cursor = self.new.cursor } }
+        ensures rests { resting self.new.cursor ≡ resting self.old.cursor }
+        ensures on { result ≢ Ok Turn.Waits }
+    {
+        let piece = &self.carry.bytes.as_slice()[found.from..found.bytes];
+        let value = value_at(
+            &self.slots,
+            field,
+            self.text.as_slice(),
+            piece,
+            found.source,
+        );
+        emit_value(&mut self.cursor, node, field.uses_bit(), value, sink)
     }
 
     /// Moves past the next instruction, an integer field whose number or NULL is known, and emits the number. Of the field only the use of
@@ -125,19 +187,11 @@ impl<'t> Machine<'t> {
         ensures rests { resting self.new.cursor ≡ resting self.old.cursor }
         ensures on { result ≢ Ok Turn.Waits }
     {
-        let turn = match item {
-            Some(number) => {
-                let value = number.as_scalar();
-                hand(sink, Event::Field { node, value })?;
-                Turn::Handed
-            }
-            None => Turn::Silent,
+        let value = match item {
+            Some(number) => Some(number.as_scalar()),
+            None => None,
         };
-        if has_bit {
-            self.cursor.use_bit();
-        }
-        self.cursor.advance();
-        Ok(turn)
+        emit_value(&mut self.cursor, node, has_bit, value, sink)
     }
 
     /// Borrows the value of a field.

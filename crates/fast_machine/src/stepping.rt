@@ -30,18 +30,6 @@ impl UnitTaken {
         }
     }
 
-    /// Returns whether the machine waits for a byte.
-    #[inline(always)]
-    pub fn waits(&self) -> bool
-        ensures yes { result ≡ true → self.now.turn ≡ Ok Turn.Waits }
-        ensures no { result ≡ false → self.now.turn ≢ Ok Turn.Waits }
-    {
-        match self.turn {
-            Ok(turn) => turn == Turn::Waits,
-            Err(_) => false,
-        }
-    }
-
     /// Returns whether the machine goes on without a byte.
     #[inline(always)]
     pub fn goes_on(&self) -> bool
@@ -203,13 +191,6 @@ impl<'t> Machine<'t> {
         let unit = self.take_unit(templates, limits, rest, sink);
         if unit.goes_on() {
             self.wait_for_field();
-            return unit;
-        }
-        if unit.waits() && unit.bytes < rest.len() {
-            // the next unit of the same field, most often the bytes of a vector after their number
-            if self.gathers(templates, limits, &rest[unit.bytes..]) {
-                return UnitTaken::cut(rest);
-            }
         }
         unit
     }

@@ -1,4 +1,4 @@
-//! Reads the units of a machine: buffers the bytes of each until they are all there, and then makes the changes that it decides.
+//! Reads the units of a machine: keeps the bytes of each until they are all there, and then makes the changes that it decides.
 
 ghost use Rattle.std.specs.Prelude.{◌≡◌, ◌+◌, ◌<◌, true, false, ℕ, length, Err, Some, None, Ok};
 ghost use Rattle.fast_value.specs.declared.settings.Limits.{Limits};
@@ -12,9 +12,7 @@ use crate::machine::{Machine, Turn, Waiting};
 use crate::quick_units::UnitTaken;
 use crate::turns::Turns;
 use fast_stream::{FaultCode, Sink};
-use fast_template::Templates;
-use fast_units::stages::Stage;
-use fast_units::units::{keeps_characters, keeps_run};
+use fast_template::{Shape, Templates};
 use fast_value::{Code, Limits};
 
 impl UnitTaken {
@@ -53,19 +51,32 @@ impl<'t> Machine<'t> {
         ensures same { result ≡ false → self.new ≡ self.old }
     {
         let _ = templates;
+        let _ = limits;
         match self.waiting {
-            Waiting::Identifier | Waiting::Field | Waiting::Number(_) | Waiting::Mantissa(_) => {
-                self.entity.keeps(rest)
-            }
-            Waiting::Text => keeps_characters(&mut self.text, rest, limits.max_text),
-            Waiting::Bytes(stage) => match stage {
-                Stage::Vector(size) | Stage::PartVector(_, size) => {
-                    keeps_run(&mut self.text, rest, size as usize)
-                }
-                _ => false,
-            },
+            Waiting::Identifier | Waiting::Field | Waiting::Mantissa(_) => self.carry.keeps(rest),
             Waiting::Map | Waiting::SegmentMap(_) => false,
         }
+    }
+
+    /// Buffers all of the rest, if the machine waits for a string, and a look at its first bytes shows that it goes on after the rest. If the
+    /// result is `false`, nothing has changed.
+    #[inline(always)]
+    fn begins_string(&mut self, templates: &'t Templates, limits: Limits, rest: &[u8]) -> bool
+        requires ready { IsReady (set_of templates.now) limits self.old }
+        ensures gathered { result ≡ true → IsGatheredBy (set_of templates.now) limits self.old self.new rest.now }
+        ensures same { result ≡ false → self.new ≡ self.old }
+    {
+        match self.waiting {
+            Waiting::Field if self.carry.bytes.is_empty() => {}
+            _ => return false,
+        }
+        let Some(number) = self.cursor.next() else {
+            return false;
+        };
+        let Shape::Field(field) = &templates.node(number).shape else {
+            return false;
+        };
+        self.carry.begins_string(&self.slots, field, rest, limits)
     }
 
     /// Returns the number of bytes of the rest that are buffered: all of them, if they are known to be bytes of the unit that the machine
@@ -128,6 +139,9 @@ impl<'t> Machine<'t> {
             (1 + n + turns_begun_at self.old.waiting self.old.cursor.map way (tree_in (set_of templates.now)) limits)
             self.new }
     {
+        if self.begins_string(templates, limits, rest) {
+            return UnitTaken::cut(rest);
+        }
         self.turns = Turns::after(&self.turns);
         self.take_awaited(templates, limits, rest, sink)
     }
@@ -151,15 +165,12 @@ impl<'t> Machine<'t> {
             self.new }
     {
         match self.waiting {
-            Waiting::Field => self.take_first_integer(templates, limits, rest, sink),
+            Waiting::Field => self.take_instruction(templates, limits, rest, sink),
             Waiting::Map => self.take_map(templates, limits, rest, sink),
             Waiting::Identifier => self.take_identifier(templates, limits, rest, sink),
             Waiting::SegmentMap(width) => self.take_segment_map(
                 templates, limits, width, rest, sink,
             ),
-            Waiting::Text | Waiting::Number(_) | Waiting::Bytes(_) => {
-                self.take_later_unit(templates, limits, rest, sink)
-            }
             Waiting::Mantissa(exponent) => self.take_mantissa(
                 templates, limits, exponent, rest, sink,
             ),

@@ -1,14 +1,18 @@
 //! The turns of a machine, which read no byte: fields that are not sent, starts and ends of segments.
 
-ghost use Rattle.std.specs.Prelude.{◌≡◌, ◌≢◌, ◌<◌, ℕ, [], Ok, drop, length, Some};
+ghost use Rattle.std.specs.Prelude.{◌≡◌, ◌≢◌, ◌<◌, ℕ, [], Ok, drop, length, Some, true};
 ghost use Rattle.fast_tree.specs.meaning.Nodes.{field_data};
 ghost use Rattle.fast_tree.specs.meaning.Numbers.{AreBelow};
+ghost use Rattle.fast_value.specs.meaning.Limits.{bounds};
+ghost use Rattle.fast_dict.specs.meaning.Dictionary.{PreviousData};
 ghost use Rattle.fast_dict.specs.meaning.Slots.{slots_terms};
+ghost use Rattle.fast_stream.specs.meaning.Fields.{field_term};
+ghost use Rattle.fast_stream.specs.device.GrammarReaders.{reader_of};
 ghost use Rattle.fast_cursor.specs.device.Runs.{IsRun};
 ghost use Rattle.fast_units.specs.device.Settling.{Serves};
 ghost use Rattle.fast_units.specs.device.Deciding.{needs_bytes};
 ghost use Rattle.fast_machine.specs.device.TurnsLeft.{Way, HasTurns, HasTurnsBehind};
-ghost use Rattle.fast_units.specs.device.UnitFronts.{IsAsciiFirst};
+ghost use Rattle.fast_fields.specs.device.Carries.{IsCarried};
 ghost use Rattle.fast_machine.specs.device.Opening.{opened_result, opened_by};
 ghost use Rattle.fast_machine.specs.device.Positions.{set_of, run_in, IsBodyOf, IsAtField, IsAtGroup, CanTurn, IsTurn, turning};
 
@@ -18,7 +22,7 @@ use crate::turns::Turns;
 use fast_stream::{FaultCode, Sink};
 use fast_template::{FieldInstruction, Operator, Shape, Templates};
 use fast_units::fields::{needs_bytes, unsent};
-use fast_value::{Kind, Limits};
+use fast_value::Limits;
 
 impl<'t> Machine<'t> {
     /// Begins a field: the machine waits for its first unit, or nothing is sent of it.
@@ -51,21 +55,18 @@ impl<'t> Machine<'t> {
         }
     }
 
-    /// Waits for the first unit of a field.
-    #[inline]
+    /// Waits for a field that is in the stream.
+    #[inline(always)]
     pub fn wait_first(&mut self, field: &FieldInstruction)
-        ensures text { IsAsciiFirst (field_data field.now)
-            → (self.new.waiting ≡ Waiting.Text) × (self.new.text.text ≡ []) }
-        ensures number { ¬ (IsAsciiFirst (field_data field.now)) → self.new.waiting ≡ Waiting.Field }
-        ensures same { self.new ≡ record self.old { waiting = self.new.waiting; text = self.new.text } }
-        ensures capacity { self.new.text.capacity ≡ self.old.text.capacity }
+        requires varies { field.now.operator ≢ Operator.Constant }
+        ensures none { self.new.carry.bytes.text ≡ [] }
+        ensures carried { (l : Limits) (p : PreviousData)
+            → IsCarried l (reader_of l.strict (field_term (bounds l) (field_data field.now) p true)) self.new.carry }
+        ensures same { self.new ≡ record self.old { waiting = Waiting.Field; carry = self.new.carry } }
+        ensures capacity { self.new.carry.bytes.capacity ≡ self.old.carry.bytes.capacity }
     {
-        if field.kind == Kind::Ascii && field.operator != Operator::Delta {
-            self.text.clear();
-            self.waiting = Waiting::Text;
-        } else {
-            self.waiting = Waiting::Field;
-        }
+        self.carry.begin(field);
+        self.waiting = Waiting::Field;
     }
 
     /// Begins a group, which may be optional.

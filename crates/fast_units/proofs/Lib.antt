@@ -1,6 +1,7 @@
 pub mod Turning
 pub mod Deciding
 pub mod NextUnits
+pub mod Prepending
 pub mod ShortIntegers
 pub mod NextTexts
 pub mod LastUnits

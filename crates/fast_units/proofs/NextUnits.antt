@@ -1,9 +1,10 @@
 -- What the bytes in hand and those behind them make of a unit is what the unit's reader makes of them.
 use Rattle.std.proofs.Common.{refl, sym, ap, subst, arith, inl, inr, length-append}
-use Rattle.std.specs.Prelude.{◌≡◌, ℕ, zero, suc, ◌==◌, ◌<◌, Bool, true, false, List, [], ◌∷◌, ◌++◌, length, take, ℤ, pos, IsTrue, Option}
+use Rattle.std.specs.Prelude.{◌≡◌, ℕ, zero, suc, ◌==◌, ◌<◌, ◌≤◌, Bool, true, false, List, [], ◌∷◌, ◌++◌, length, take, ℤ, pos, IsTrue, Option}
 use Rattle.std.specs.Prelude.{Result, Ok, Err, IfOk, IfErr}
 use Rattle.std.proofs.lemmas.Bool.Decides.{nat_tests}
 use Rattle.std.proofs.lemmas.Int.{ints}
+use Rattle.std.proofs.lemmas.List.{length-take-le}
 use Rattle.fast_wire.specs.meaning.Entities.{IsEntity, IsOverlong, number}
 use Rattle.fast_wire.specs.meaning.Integers.{Range, SpellsInt, IsInteger, IsOutside, unsigned_up_to, signed_between, value}
 use Rattle.fast_wire.specs.meaning.Faulty.{IsWrongInt}
@@ -151,3 +152,22 @@ run_whole strict size w e = runs_whole (raw_reader size []) (λ v. Done v) w w (
 
 pub run_cut : (strict : Bool) (size : ℕ) (w : List ℕ) → length w < size → Stays (reader_of strict (raw size give)) w
 run_cut strict size w l = runs_cut (raw_reader size []) (λ v. Done v) w ((reads-raw size).takes w [] cut (l, refl))
+
+-- An integer has at most ten bytes.
+pub spelled_short : (strict : Bool) (range : Range) (nullable : Bool) (x : Option ℤ) (front rest : List ℕ) (n : ℕ) → n ≤ length rest
+    → SpellsInt strict range nullable x (front ++ take n rest) → n ≤ 10
+spelled_short strict range nullable x front rest n within h =
+    let short = h.form.short in
+    let long = length-append front (take n rest) in
+    let all = length-take-le n rest within in
+    omega (arith, short, long, all)
+
+module _ {T : Type 0} (meant : T → Option ℤ) (strict : Bool) (range : Range) (nullable : Bool) where
+  pub first_short : (bytes : List ℕ) (x : T) (len : ℕ) → IsFirstInt meant strict range nullable (First.Whole x len) bytes → len ≤ 10
+  first_short bytes x len h = spelled_short strict range nullable (meant x) [] bytes len h.0 h.1
+
+  pub next_short : (outside : Code) (front rest after : List ℕ) (p : Progress T) → IsNextInteger meant strict range nullable outside front rest after p
+      → (x : T) (n : ℕ) → p ≡ Whole x n → n ≤ 10
+  next_short outside front rest after p h x n e =
+      let i = subst (λ q. IsNextInteger meant strict range nullable outside front rest after q) e h in
+      spelled_short strict range nullable (meant x) front rest n i.1 i.2

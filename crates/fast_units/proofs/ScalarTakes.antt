@@ -85,6 +85,9 @@ settles_settled (Whole x n) q e = subst (λ a. SettlesOnly a) (sym e) tt
 settles_settled (Wrong c n) q e = subst (λ a. SettlesOnly a) (sym e) tt
 settles_settled Cut q e = subst (λ a. SettlesOnly a) (sym e) tt
 
+pub not_next : (p : Progress ValueSource) (q : Progress FieldStep) → q ≡ settled p → (stage : Stage) (n : ℕ) → q ≡ Whole (Next stage) n → ⊥
+not_next p q e stage n i = subst (λ a. SettlesOnly a) i (settles_settled p q e)
+
 pub cut_settled : (p : Progress ValueSource) (q : Progress FieldStep) → q ≡ settled p → q ≡ Cut → p ≡ Cut
 cut_settled (Whole x n) q e i = absurd (let k = sym e ∙ i in cc k)
 cut_settled (Wrong c n) q e i = absurd (let k = sym e ∙ i in cc k)

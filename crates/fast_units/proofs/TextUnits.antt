@@ -26,8 +26,9 @@ use Rattle.fast_units.specs.device.Settling.{IsSettled, GivesField, IsLastUnit}
 use Rattle.fast_units.specs.device.Stages.{term_behind, IsFieldUnit}
 use Rattle.fast_units.specs.device.TextDecisions.{IsTextDecided, IsStepped, behind_size, behind_part_size, answered, settled}
 use Rattle.fast_units.specs.declared.progress.Progress.{Progress}
-use Rattle.fast_units.specs.declared.progress.Progress.TheVariants.{Whole, Cut}
+use Rattle.fast_units.specs.declared.progress.Progress.TheVariants.{Whole, Wrong, Cut}
 use Rattle.fast_units.specs.declared.source.ValueSource.{ValueSource}
+use Rattle.fast_units.specs.declared.stages.Stage.{Stage}
 use Rattle.fast_units.specs.declared.stages.Stage.TheVariants.{Vector, Part, PartVector}
 use Rattle.fast_units.specs.declared.stages.FieldStep.{FieldStep}
 use Rattle.fast_units.specs.declared.stages.FieldStep.TheVariants.{Settled, Next}
@@ -260,3 +261,9 @@ answered_whole (Err c) n e = cc e
 pub answered_more : {T : Type 0} (P : T → Type 0) (r : Result T Code) (m : ℕ) → IfOk r P → (x : T) (n : ℕ) → answered r m ≡ Whole x n → P x
 answered_more P (Ok y) m h x n e = let same : y ≡ x = cc e in subst P same h
 answered_more P (Err c) m h x n e = absurd (cc e)
+
+-- An answer behind a short unit is short.
+pub short_answer : (r : Result FieldStep Code) (result : Progress FieldStep) (m : ℕ) → result ≡ answered r m → m ≤ 10
+    → (stage : Stage) (n : ℕ) → result ≡ Whole (Next stage) n → n ≤ 10
+short_answer (Ok x) result m a h stage n e = let i : Whole x m ≡ Whole (Next stage) n = sym a ∙ e in let same : m ≡ n = cc i in subst (λ k. k ≤ 10) same h
+short_answer (Err c) result m a h stage n e = let i : Wrong c m ≡ Whole (Next stage) n = sym a ∙ e in absurd (cc i)

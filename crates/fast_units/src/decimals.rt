@@ -40,6 +40,7 @@ pub fn take_exponent(
     ensures unit { (scratch : List ℕ) → IsUnitOf limits (sent_reader limits.strict (bounds limits) slots.old field.now)
         field.now pending.old.bytes rest.now slots.old slots.new scratch result }
     ensures whole { (s : FieldStep) (n : ℕ) → result ≡ Progress.Whole s n → pending.new.bytes ≡ [] }
+    ensures short { (stage : Stage) (n : ℕ) → result ≡ Progress.Whole (FieldStep.Next stage) n → n ≤ 10 }
     ensures cut { IsKeptCut pending.old.bytes rest.now pending.new.bytes result }
     ensures terms { slots_terms slots.new ≡ slots_terms slots.old }
 {
@@ -64,6 +65,7 @@ fn take_exponent_item(
     ensures unit { (scratch : List ℕ) → IsUnitOf limits (sent_reader limits.strict (bounds limits) slots.old field.now)
         field.now pending.old.bytes rest.now slots.old slots.new scratch result }
     ensures whole { (s : FieldStep) (n : ℕ) → result ≡ Progress.Whole s n → pending.new.bytes ≡ [] }
+    ensures short { (stage : Stage) (n : ℕ) → result ≡ Progress.Whole (FieldStep.Next stage) n → n ≤ 10 }
     ensures cut { IsKeptCut pending.old.bytes rest.now pending.new.bytes result }
     ensures terms { slots_terms slots.new ≡ slots_terms slots.old }
 {
@@ -111,6 +113,7 @@ fn take_exponent_delta(
     ensures unit { (scratch : List ℕ) → IsUnitOf limits (sent_reader limits.strict (bounds limits) slots.old field.now)
         field.now pending.old.bytes rest.now slots.old slots.new scratch result }
     ensures whole { (s : FieldStep) (n : ℕ) → result ≡ Progress.Whole s n → pending.new.bytes ≡ [] }
+    ensures short { (stage : Stage) (n : ℕ) → result ≡ Progress.Whole (FieldStep.Next stage) n → n ≤ 10 }
     ensures cut { IsKeptCut pending.old.bytes rest.now pending.new.bytes result }
     ensures terms { slots_terms slots.new ≡ slots_terms slots.old }
 {

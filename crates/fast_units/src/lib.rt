@@ -6,7 +6,6 @@
 
 pub mod decimals;
 pub mod fields;
-pub mod held_texts;
 pub mod numbers;
 pub mod pending;
 pub mod progress;

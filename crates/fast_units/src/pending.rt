@@ -40,54 +40,12 @@ impl Pending {
         self.bytes.is_empty()
     }
 
-    /// Discards the bytes.
-    #[inline]
-    pub fn clear(&mut self)
-        ensures { self.new.bytes ≡ [] }
-    {
-        self.bytes.clear();
-    }
-
-    /// Buffers all of the rest, if none of its bytes is the integer's last one. Returns whether it did.
-    #[inline(always)]
-    pub fn keeps(&mut self, rest: &[u8]) -> bool
-        ensures kept { result ≡ true → self.new.bytes ≡ self.old.bytes ++ rest.now }
-        ensures same { result ≡ false → self.new ≡ self.old }
-    {
-        if self.bytes.len() + rest.len() >= 10 || has_stop(rest) {
-            return false;
-        }
-        let _ = gather(&mut self.bytes, rest);
-        true
-    }
-
     /// Returns the number of bytes buffered.
     #[inline]
     pub fn len(&self) -> usize
         ensures { result ≡ length self.now.bytes }
     {
         self.bytes.len()
-    }
-
-    /// Returns eight bytes, the buffered ones followed by as many of the rest as there is room for, and the number of the latter. The
-    /// buffer does not change.
-    #[inline(always)]
-    pub fn joined(&self, rest: &[u8]) -> Option<([u8; 8], usize)>
-        ensures within { IfSome result (λ r. r.1 ≤ length rest.now) }
-        ensures all { IfSome result (λ r. (r.1 ≡ length rest.now) ⊎ (length self.now.bytes + r.1 ≡ 8)) }
-        ensures none { IfNone result (8 < length self.now.bytes) }
-        ensures joined { IfSome result (λ r. take (length self.now.bytes + r.1) r.0
-            ≡ self.now.bytes ++ take r.1 rest.now) }
-    {
-        let held = self.bytes.len();
-        if held > 8 {
-            return None;
-        }
-        let mut cells = [0; 8];
-        cells[..held].copy_from_slice(self.bytes.as_slice());
-        let count = rest.len().min(8 - held);
-        cells[held..held + count].copy_from_slice(&rest[..count]);
-        Some((cells, count))
     }
 
     /// Completes the integer, or NULL if `nullable`, byte by byte.

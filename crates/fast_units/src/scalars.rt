@@ -1,6 +1,6 @@
 //! The units of fields that are neither lengths nor parts of decimals, chosen by the unit that is partial.
 
-ghost use Rattle.std.specs.Prelude.{◌≡◌, ◌≢◌, ◌<◌, ℕ, List, [], ◌++◌};
+ghost use Rattle.std.specs.Prelude.{◌≡◌, ◌≢◌, ◌<◌, ◌≤◌, ℕ, List, [], ◌++◌};
 ghost use Rattle.fast_value.specs.meaning.Kinds.{family, integers};
 ghost use Rattle.fast_value.specs.meaning.Limits.{bounds};
 ghost use Rattle.fast_tree.specs.meaning.Nodes.{field_data};
@@ -10,7 +10,7 @@ ghost use Rattle.fast_stream.specs.device.GrammarReaders.{reader_of};
 ghost use Rattle.fast_units.specs.device.Stages.{term_behind, IsStageOf};
 ghost use Rattle.fast_stream.specs.meaning.Units.{ascii_text};
 ghost use Rattle.fast_stream.specs.meaning.Phrases.{cut};
-ghost use Rattle.fast_units.specs.device.UnitFronts.{IsAsciiFirst, IsNumberStage, IsBytesStage, IsEntityKept, IsNextOf, settled, SettlesOnly};
+ghost use Rattle.fast_units.specs.device.UnitFronts.{IsAsciiFirst, IsNumberStage, IsRunStage, IsBytesStage, IsEntityKept, IsNextOf, settled, SettlesOnly};
 ghost use Rattle.fast_units.specs.device.Words.{HasTextLimit, HasRoomFor, ServesField, previous_of, sent_reader, IsUnitOf};
 
 use crate::decimals::{take_exponent, take_mantissa, take_mantissa_delta};
@@ -42,6 +42,7 @@ pub fn take_only(
         field.now pending.old.bytes rest.now slots.old slots.new scratch result }
     ensures next { IsNextOf (bounds limits) (field_data field.now) (previous_of slots.old field.now) result }
     ensures pending { IsEntityKept pending.old.bytes rest.now pending.new.bytes result }
+    ensures short { (stage : Stage) (n : ℕ) → result ≡ Progress.Whole (FieldStep.Next stage) n → n ≤ 10 }
     ensures terms { slots_terms slots.new ≡ slots_terms slots.old }
 {
     settled(take_integer(slots, pending, field, rest, limits.strict))
@@ -53,22 +54,22 @@ pub fn take_first(
     slots: &mut Slots,
     pending: &mut Pending,
     scratch: &mut Scratch,
-    joined: &mut Scratch,
     field: &FieldInstruction,
     rest: &[u8],
     limits: Limits,
 ) -> Progress<FieldStep>
     requires serves { ServesField slots.old field.now }
     requires limit { HasTextLimit slots.old limits }
-    requires joined { HasRoomFor slots.old joined.old }
+    requires room { HasRoomFor slots.old scratch.old }
     requires number { ¬ (IsAsciiFirst (field_data field.now)) }
     requires varies { field.now.operator ≢ Operator.Constant }
     ensures unit { IsUnitOf limits (sent_reader limits.strict (bounds limits) slots.old field.now) field.now
         pending.old.bytes rest.now slots.old slots.new scratch.new.text result }
     ensures next { IsNextOf (bounds limits) (field_data field.now) (previous_of slots.old field.now) result }
     ensures pending { IsEntityKept pending.old.bytes rest.now pending.new.bytes result }
+    ensures short { (stage : Stage) (n : ℕ) → result ≡ Progress.Whole (FieldStep.Next stage) n → n ≤ 10 }
     ensures terms { slots_terms slots.new ≡ slots_terms slots.old }
-    ensures capacity { (scratch.new.capacity ≡ scratch.old.capacity) × (joined.new.capacity ≡ joined.old.capacity) }
+    ensures capacity { scratch.new.capacity ≡ scratch.old.capacity }
 {
     match field.kind {
         Kind::UInt32 | Kind::Int32 | Kind::UInt64 | Kind::Int64 => {
@@ -79,7 +80,7 @@ pub fn take_first(
             Operator::Delta => take_subtraction(slots, pending, field, rest, limits),
             _ => {
                 scratch.clear();
-                take_size(slots, pending, joined, field, rest, limits)
+                take_size(slots, pending, scratch, field, rest, limits)
             }
         },
     }
@@ -90,7 +91,6 @@ pub fn take_first(
 pub fn take_first_text(
     slots: &mut Slots,
     scratch: &mut Scratch,
-    joined: &mut Scratch,
     field: &FieldInstruction,
     rest: &[u8],
     limits: Limits,
@@ -98,7 +98,6 @@ pub fn take_first_text(
     requires serves { ServesField slots.old field.now }
     requires limit { HasTextLimit slots.old limits }
     requires room { HasRoomFor slots.old scratch.old }
-    requires joined { HasRoomFor slots.old joined.old }
     requires text { IsAsciiFirst (field_data field.now) }
     requires varies { field.now.operator ≢ Operator.Constant }
     requires open { ascii_text field.now.optional limits.max_text scratch.old.text [] cut }
@@ -109,9 +108,9 @@ pub fn take_first_text(
         → (scratch.new.text ≡ scratch.old.text ++ rest.now)
         × ascii_text field.now.optional limits.max_text scratch.new.text [] cut }
     ensures terms { slots_terms slots.new ≡ slots_terms slots.old }
-    ensures capacity { (scratch.new.capacity ≡ scratch.old.capacity) × (joined.new.capacity ≡ joined.old.capacity) }
+    ensures capacity { scratch.new.capacity ≡ scratch.old.capacity }
 {
-    settled(take_text(slots, scratch, joined, field, rest, limits))
+    settled(take_text(slots, scratch, field, rest, limits))
 }
 
 /// Reads a later unit, which is an integer.
@@ -119,7 +118,7 @@ pub fn take_first_text(
 pub fn take_number(
     slots: &mut Slots,
     pending: &mut Pending,
-    joined: &mut Scratch,
+    scratch: &mut Scratch,
     field: &FieldInstruction,
     stage: Stage,
     rest: &[u8],
@@ -127,7 +126,7 @@ pub fn take_number(
 ) -> Progress<FieldStep>
     requires serves { ServesField slots.old field.now }
     requires limit { HasTextLimit slots.old limits }
-    requires joined { HasRoomFor slots.old joined.old }
+    requires room { HasRoomFor slots.old scratch.old }
     requires stage { IsStageOf (bounds limits) (field_data field.now) (previous_of slots.old field.now) stage }
     requires number { IsNumberStage (field_data field.now) stage }
     ensures unit { (text : List ℕ) → IsUnitOf limits (reader_of limits.strict
@@ -135,8 +134,11 @@ pub fn take_number(
         pending.old.bytes rest.now slots.old slots.new text result }
     ensures next { IsNextOf (bounds limits) (field_data field.now) (previous_of slots.old field.now) result }
     ensures pending { IsEntityKept pending.old.bytes rest.now pending.new.bytes result }
+    ensures short { (stage : Stage) (n : ℕ) → result ≡ Progress.Whole (FieldStep.Next stage) n → n ≤ 10 }
+    ensures run { (stage : Stage) (n : ℕ) → result ≡ Progress.Whole (FieldStep.Next stage) n
+        → IsRunStage (field_data field.now) stage }
     ensures terms { slots_terms slots.new ≡ slots_terms slots.old }
-    ensures capacity { joined.new.capacity ≡ joined.old.capacity }
+    ensures capacity { scratch.new.capacity ≡ scratch.old.capacity }
 {
     match stage {
         Stage::Mantissa(exponent) => settled(take_mantissa(
@@ -148,7 +150,7 @@ pub fn take_number(
         Stage::Part(subtraction) => take_part_size(
             slots,
             pending,
-            joined,
+            scratch,
             field,
             subtraction,
             rest,
@@ -163,7 +165,6 @@ pub fn take_number(
 pub fn take_bytes(
     slots: &mut Slots,
     scratch: &mut Scratch,
-    joined: &mut Scratch,
     field: &FieldInstruction,
     stage: Stage,
     rest: &[u8],
@@ -172,7 +173,6 @@ pub fn take_bytes(
     requires serves { ServesField slots.old field.now }
     requires limit { HasTextLimit slots.old limits }
     requires room { HasRoomFor slots.old scratch.old }
-    requires joined { HasRoomFor slots.old joined.old }
     requires stage { IsStageOf (bounds limits) (field_data field.now) (previous_of slots.old field.now) stage }
     requires bytes { IsBytesStage (bounds limits) (field_data field.now) (previous_of slots.old field.now) stage
         scratch.old.text }
@@ -183,16 +183,13 @@ pub fn take_bytes(
     ensures kept { result ≡ Progress.Cut → (scratch.new.text ≡ scratch.old.text ++ rest.now)
         × IsBytesStage (bounds limits) (field_data field.now) (previous_of slots.old field.now) stage scratch.new.text }
     ensures terms { slots_terms slots.new ≡ slots_terms slots.old }
-    ensures capacity { (scratch.new.capacity ≡ scratch.old.capacity) × (joined.new.capacity ≡ joined.old.capacity) }
+    ensures capacity { scratch.new.capacity ≡ scratch.old.capacity }
 {
     match stage {
-        Stage::Vector(size) => settled(take_vector(
-            slots, scratch, joined, field, size, rest, limits,
-        )),
+        Stage::Vector(size) => settled(take_vector(slots, scratch, field, size, rest, limits)),
         Stage::Part(subtraction) => settled(take_part(
             slots,
             scratch,
-            joined,
             field,
             subtraction,
             rest,
@@ -201,7 +198,6 @@ pub fn take_bytes(
         Stage::PartVector(subtraction, size) => settled(take_part_vector(
             slots,
             scratch,
-            joined,
             field,
             subtraction,
             size,

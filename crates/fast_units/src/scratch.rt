@@ -62,6 +62,14 @@ impl Scratch {
         self.len == 0
     }
 
+    /// Returns the number of bytes that there is room for after these.
+    #[inline]
+    pub fn room(&self) -> usize
+        ensures { length self.now.text + result ≡ self.now.capacity }
+    {
+        self.cells.len() - self.len
+    }
+
     /// Discards the bytes.
     #[inline]
     pub fn clear(&mut self)
@@ -83,9 +91,33 @@ impl Scratch {
         self.len = end;
     }
 
+    /// Inserts bytes before the others.
+    #[inline]
+    pub(crate) fn prepend(&mut self, bytes: &[u8])
+        requires { length self.old.text + length bytes.now ≤ self.old.capacity }
+        ensures text { self.new.text ≡ bytes.now ++ self.old.text }
+        ensures capacity { self.new.capacity ≡ self.old.capacity }
+    {
+        let count = bytes.len();
+        self.cells.copy_within(..self.len, count);
+        self.cells[0..count].copy_from_slice(bytes);
+        self.len += count;
+    }
+
+    /// Replaces the bytes by others.
+    #[inline]
+    pub(crate) fn set(&mut self, bytes: &[u8])
+        requires { length bytes.now ≤ self.old.capacity }
+        ensures text { self.new.text ≡ bytes.now }
+        ensures capacity { self.new.capacity ≡ self.old.capacity }
+    {
+        self.clear();
+        self.append(bytes);
+    }
+
     /// Appends bytes, often a single one, which is written in place.
     #[inline(always)]
-    pub(crate) fn keep(&mut self, bytes: &[u8])
+    pub fn keep(&mut self, bytes: &[u8])
         requires { length self.old.text + length bytes.now ≤ self.old.capacity }
         ensures text { self.new.text ≡ self.old.text ++ bytes.now }
         ensures capacity { self.new.capacity ≡ self.old.capacity }

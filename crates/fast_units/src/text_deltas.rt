@@ -1,6 +1,6 @@
 //! Deltas of strings: the subtraction length, and then the part, an ASCII string or a vector's size and its bytes.
 
-ghost use Rattle.std.specs.Prelude.{◌≡◌, ◌≢◌, ◌-◌, ◌<◌, ◌++◌, ℕ, List, [], length, false, Ok, Some, pos, IfOk};
+ghost use Rattle.std.specs.Prelude.{◌≡◌, ◌≢◌, ◌-◌, ◌<◌, ◌≤◌, ◌++◌, ℕ, List, [], length, false, Ok, Some, pos, IfOk};
 ghost use Rattle.fast_wire.specs.meaning.Integers.{IsWithin, signed_range};
 ghost use Rattle.fast_value.specs.meaning.Kinds.{texts, family};
 ghost use Rattle.fast_value.specs.meaning.Limits.{bounds};
@@ -13,6 +13,7 @@ ghost use Rattle.fast_stream.specs.meaning.Units.{ascii_text as ascii_phrase};
 ghost use Rattle.fast_stream.specs.device.GrammarReaders.{reader_of};
 ghost use Rattle.fast_units.specs.device.Stages.{IsStageOf};
 ghost use Rattle.fast_units.specs.device.TextDecisions.{IsStepped, first_reader, reader_behind, behind_part_size, answered, settled, HasBytes};
+ghost use Rattle.fast_units.specs.device.UnitFronts.{IsRunStage};
 ghost use Rattle.fast_units.specs.device.Words.{HasTextLimit, HasRoomFor, ServesField, previous_of, IsLastUnitOf, IsUnitOf, IsKeptCut};
 
 use crate::pending::Pending;
@@ -44,6 +45,7 @@ pub fn take_subtraction(
         (slots_dictionary slots.old)) field.now pending.old.bytes rest.now slots.old slots.new scratch result }
     ensures more { (step : FieldStep) (n : ℕ) → result ≡ Progress.Whole step n → HasBytes step }
     ensures whole { (step : FieldStep) (n : ℕ) → result ≡ Progress.Whole step n → pending.new.bytes ≡ [] }
+    ensures short { (stage : Stage) (n : ℕ) → result ≡ Progress.Whole (FieldStep.Next stage) n → n ≤ 10 }
     ensures cut { IsKeptCut pending.old.bytes rest.now pending.new.bytes result }
     ensures terms { slots_terms slots.new ≡ slots_terms slots.old }
 {
@@ -95,7 +97,6 @@ fn part_next(slots: &Slots, field: &FieldInstruction, subtraction: i32) -> Resul
 pub fn take_part(
     slots: &mut Slots,
     scratch: &mut Scratch,
-    joined: &mut Scratch,
     field: &FieldInstruction,
     subtraction: i32,
     rest: &[u8],
@@ -109,7 +110,6 @@ pub fn take_part(
     requires open { (kept : KeptData) → subtraction_step (field_data field.now) (previous_of slots.old field.now)
         subtraction ≡ Ok kept → ascii_phrase false (limits.max_text - kept_length kept) scratch.old.text [] cut }
     requires scratch { HasRoomFor slots.old scratch.old }
-    requires joined { HasRoomFor slots.old joined.old }
     ensures unit { IsLastUnitOf (reader_behind limits (field_data field.now) (slots_dictionary slots.old)
         (Stage.Part subtraction)) field.now scratch.old.text rest.now slots.old slots.new scratch.new.text result }
     ensures cut { result ≡ Progress.Cut → (scratch.new.text ≡ scratch.old.text ++ rest.now)
@@ -117,13 +117,11 @@ pub fn take_part(
         ≡ Ok kept → ascii_phrase false (limits.max_text - kept_length kept) scratch.new.text [] cut) }
     ensures terms { slots_terms slots.new ≡ slots_terms slots.old }
     ensures scratch { scratch.new.capacity ≡ scratch.old.capacity }
-    ensures joined { joined.new.capacity ≡ joined.old.capacity }
 {
     let room = part_room(slots, field, subtraction, limits.max_text);
     match next_ascii(scratch, rest, room, false) {
         Progress::Whole(true, bytes) => {
-            let part = scratch.as_slice();
-            answered(finish_part(slots, joined, field, subtraction, part), bytes)
+            answered(finish_part(slots, scratch, field, subtraction), bytes)
         }
         Progress::Whole(false, bytes) => Progress::Whole(finish_absent(slots, field), bytes),
         Progress::Wrong(code, bytes) => Progress::Wrong(code, bytes),
@@ -131,11 +129,12 @@ pub fn take_part(
     }
 }
 
-/// Reads bytes of the size of a vector delta's part, after the subtraction length. An empty part has no bytes after it.
+/// Reads bytes of the size of a vector delta's part, after the subtraction length. An empty part has no bytes after it: it is joined at
+/// once, in the scratch.
 pub fn take_part_size(
     slots: &mut Slots,
     pending: &mut Pending,
-    joined: &mut Scratch,
+    scratch: &mut Scratch,
     field: &FieldInstruction,
     subtraction: i32,
     rest: &[u8],
@@ -146,21 +145,24 @@ pub fn take_part_size(
     requires stage { IsStageOf (bounds limits) (field_data field.now) (previous_of slots.old field.now)
         (Stage.Part subtraction) }
     requires kind { field.now.kind ≢ Kind.Ascii }
-    requires joined { HasRoomFor slots.old joined.old }
-    ensures unit { (scratch : List ℕ) → IsUnitOf limits (reader_behind limits (field_data field.now)
+    requires scratch { HasRoomFor slots.old scratch.old }
+    ensures unit { (text : List ℕ) → IsUnitOf limits (reader_behind limits (field_data field.now)
         (slots_dictionary slots.old) (Stage.Part subtraction)) field.now pending.old.bytes rest.now slots.old slots.new
-        scratch result }
+        text result }
     ensures more { (step : FieldStep) (n : ℕ) → result ≡ Progress.Whole step n → HasBytes step }
     ensures whole { (step : FieldStep) (n : ℕ) → result ≡ Progress.Whole step n → pending.new.bytes ≡ [] }
+    ensures short { (stage : Stage) (n : ℕ) → result ≡ Progress.Whole (FieldStep.Next stage) n → n ≤ 10 }
+    ensures run { (stage : Stage) (n : ℕ) → result ≡ Progress.Whole (FieldStep.Next stage) n
+        → IsRunStage (field_data field.now) stage }
     ensures cut { IsKeptCut pending.old.bytes rest.now pending.new.bytes result }
     ensures terms { slots_terms slots.new ≡ slots_terms slots.old }
-    ensures joined { joined.new.capacity ≡ joined.old.capacity }
+    ensures scratch { scratch.new.capacity ≡ scratch.old.capacity }
 {
     match next_unsigned(pending, rest, limits.strict, TOP_SIZE) {
         Progress::Whole(size, bytes) => {
             let size = size_of(i128::from(size));
             answered(
-                part_vector_next(slots, joined, field, subtraction, size, limits),
+                part_vector_next(slots, scratch, field, subtraction, size, limits),
                 bytes,
             )
         }
@@ -172,7 +174,7 @@ pub fn take_part_size(
 /// Returns the step after the size of a vector delta's part.
 fn part_vector_next(
     slots: &mut Slots,
-    joined: &mut Scratch,
+    scratch: &mut Scratch,
     field: &FieldInstruction,
     subtraction: i32,
     size: u32,
@@ -183,29 +185,31 @@ fn part_vector_next(
     requires stage { IsStageOf (bounds limits) (field_data field.now) (previous_of slots.old field.now)
         (Stage.Part subtraction) }
     requires kind { field.now.kind ≢ Kind.Ascii }
-    requires joined { HasRoomFor slots.old joined.old }
+    requires scratch { HasRoomFor slots.old scratch.old }
     ensures step { (kept : KeptData) → subtraction_step (field_data field.now) (previous_of slots.old field.now)
-        subtraction ≡ Ok kept → (scratch piece : List ℕ)
+        subtraction ≡ Ok kept → (text piece : List ℕ)
         → IsStepped limits (reader_of limits.strict (behind_part_size (bounds limits) (field_data field.now)
         (previous_of slots.old field.now) kept (Some (pos size)))) (field_data field.now) (slots_dictionary slots.old)
-        (slots_dictionary slots.new) scratch piece result }
+        (slots_dictionary slots.new) text piece result }
     ensures more { IfOk result HasBytes }
+    ensures run { (stage : Stage) → result ≡ Ok (FieldStep.Next stage)
+        → IsRunStage (field_data field.now) stage }
     ensures terms { slots_terms slots.new ≡ slots_terms slots.old }
-    ensures joined { joined.new.capacity ≡ joined.old.capacity }
+    ensures scratch { scratch.new.capacity ≡ scratch.old.capacity }
 {
     let room = part_room(slots, field, subtraction, limits.max_text);
     let size = sized(size, room)?;
     if size > 0 {
         return Ok(FieldStep::Next(Stage::PartVector(subtraction, size)));
     }
-    settled(finish_part(slots, joined, field, subtraction, &[]))
+    scratch.clear();
+    settled(finish_part(slots, scratch, field, subtraction))
 }
 
 /// Reads bytes of a vector delta's part, after its size.
 pub fn take_part_vector(
     slots: &mut Slots,
     scratch: &mut Scratch,
-    joined: &mut Scratch,
     field: &FieldInstruction,
     subtraction: i32,
     size: usize,
@@ -218,7 +222,6 @@ pub fn take_part_vector(
         (Stage.PartVector subtraction size) }
     requires more { length scratch.old.text < size }
     requires scratch { HasRoomFor slots.old scratch.old }
-    requires joined { HasRoomFor slots.old joined.old }
     ensures unit { IsLastUnitOf (reader_behind limits (field_data field.now) (slots_dictionary slots.old)
         (Stage.PartVector subtraction size)) field.now scratch.old.text rest.now slots.old slots.new scratch.new.text
         result }
@@ -226,16 +229,14 @@ pub fn take_part_vector(
         → (scratch.new.text ≡ scratch.old.text ++ rest.now) × (length scratch.new.text < size) }
     ensures terms { slots_terms slots.new ≡ slots_terms slots.old }
     ensures scratch { scratch.new.capacity ≡ scratch.old.capacity }
-    ensures joined { joined.new.capacity ≡ joined.old.capacity }
 {
     match next_raw(scratch, rest, size) {
         Progress::Whole(Run::Piece, bytes) => {
-            let part = &rest[..bytes];
-            answered(finish_part(slots, joined, field, subtraction, part), bytes)
+            scratch.set(&rest[..bytes]);
+            answered(finish_part(slots, scratch, field, subtraction), bytes)
         }
         Progress::Whole(Run::Scratch, bytes) => {
-            let part = scratch.as_slice();
-            answered(finish_part(slots, joined, field, subtraction, part), bytes)
+            answered(finish_part(slots, scratch, field, subtraction), bytes)
         }
         Progress::Wrong(code, bytes) => Progress::Wrong(code, bytes),
         Progress::Cut => Progress::Cut,

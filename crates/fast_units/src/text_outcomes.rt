@@ -1,6 +1,7 @@
 //! The result of a string field once its string or NULL is complete: its value, and the entry that may keep it.
 //!
-//! Two parts are joined in a separate buffer first: bytes that are borrowed from an entry cannot be written back while they are borrowed.
+//! A string of two parts is joined in the scratch, which holds the part that was sent: the bytes kept of the base are copied to its front,
+//! or to its end. The entry then takes the whole.
 
 ghost use Rattle.std.specs.Prelude.{◌≡◌, ◌≢◌, ◌+◌, ◌-◌, ◌<◌, ◌≤◌, ◌++◌, ℕ, List, length, true, Ok, Err, Some, MatchResult};
 ghost use Rattle.fast_value.specs.meaning.Kinds.{ScalarData, texts, family, text_of, value_of_text};
@@ -55,29 +56,23 @@ fn keep(slots: &mut Slots, field: &FieldInstruction, text: &[u8]) -> Result<Valu
     Ok(ValueSource::Entry)
 }
 
-/// Joins a tail to the bytes that it keeps of its base.
-fn join_tail(
-    slots: &Slots,
-    joined: &mut Scratch,
-    field: &FieldInstruction,
-    part: &[u8],
-) -> Result<(), Code>
+/// Joins the tail in the scratch to the bytes that it keeps of its base.
+fn join_tail(slots: &Slots, scratch: &mut Scratch, field: &FieldInstruction) -> Result<(), Code>
     requires serves { ServesField slots.now field.now }
     requires text { family field.now.kind ≡ texts }
     requires keeps { keeps_value field.now.operator ≡ true }
-    requires fits { length part.now ≤ (slots_terms slots.now).max_text }
-    requires room { HasRoomFor slots.now joined.old }
+    requires fits { length scratch.old.text ≤ (slots_terms slots.now).max_text }
+    requires room { HasRoomFor slots.now scratch.old }
     ensures joined { MatchResult result (λ _. (base : ScalarData)
         × (tail_base (field_data field.now) (previous_of slots.now field.now) ≡ Ok base)
-        × (joined.new.text ≡ with_tail (text_of base) part.now))
+        × (scratch.new.text ≡ with_tail (text_of base) scratch.old.text))
         (λ code. tail_base (field_data field.now) (previous_of slots.now field.now) ≡ Err code) }
-    ensures fits { result ≡ Ok tt → length joined.new.text ≤ (slots_terms slots.now).max_text }
-    ensures capacity { joined.new.capacity ≡ joined.old.capacity }
+    ensures fits { result ≡ Ok tt → length scratch.new.text ≤ (slots_terms slots.now).max_text }
+    ensures capacity { scratch.new.capacity ≡ scratch.old.capacity }
 {
     let base = text_of(tail_base(field, previous(slots, field))?);
-    joined.clear();
-    joined.append(tail_keeps(base, part.len()));
-    joined.append(part);
+    let kept = tail_keeps(base, scratch.len());
+    scratch.prepend(kept);
     Ok(())
 }
 
@@ -94,74 +89,70 @@ pub fn kept<'a>(
     subtract(field, previous(slots, field), i128::from(subtraction))
 }
 
-/// Returns the bytes kept and the part, in their order.
-fn sides<'a>(kept: Kept<'a>, part: &'a [u8]) -> (&'a [u8], &'a [u8])
-    ensures text { result.0.now ++ result.1.now ≡ joined_text (kept_data kept.entry) part.now }
-    ensures size { length result.0.now + length result.1.now ≡ kept_length (kept_data kept.entry) + length part.now }
-{
-    match kept {
-        Kept::AppendTo(kept) => (kept, part),
-        Kept::PrependTo(kept) => (part, kept),
-    }
-}
-
-/// Joins the part of a delta to the bytes that its subtraction length keeps.
+/// Joins the part of a delta, which is in the scratch, to the bytes that its subtraction length keeps.
 fn join_part(
     slots: &Slots,
-    joined: &mut Scratch,
+    scratch: &mut Scratch,
     field: &FieldInstruction,
     subtraction: i32,
-    part: &[u8],
 ) -> Result<(), Code>
     requires serves { ServesField slots.now field.now }
     requires text { family field.now.kind ≡ texts }
     requires keeps { keeps_value field.now.operator ≡ true }
     requires fits { (kept : KeptData) → subtraction_step (field_data field.now) (previous_of slots.now field.now)
-        subtraction ≡ Ok kept → length part.now ≤ (slots_terms slots.now).max_text - kept_length kept }
-    requires room { HasRoomFor slots.now joined.old }
+        subtraction ≡ Ok kept → length scratch.old.text ≤ (slots_terms slots.now).max_text - kept_length kept }
+    requires room { HasRoomFor slots.now scratch.old }
     ensures joined { MatchResult result (λ _. (kept : KeptData)
         × (subtraction_step (field_data field.now) (previous_of slots.now field.now) subtraction ≡ Ok kept)
-        × (joined.new.text ≡ joined_text kept part.now))
+        × (scratch.new.text ≡ joined_text kept scratch.old.text))
         (λ code. subtraction_step (field_data field.now) (previous_of slots.now field.now) subtraction ≡ Err code) }
-    ensures fits { result ≡ Ok tt → length joined.new.text ≤ (slots_terms slots.now).max_text }
-    ensures capacity { joined.new.capacity ≡ joined.old.capacity }
+    ensures fits { result ≡ Ok tt → length scratch.new.text ≤ (slots_terms slots.now).max_text }
+    ensures capacity { scratch.new.capacity ≡ scratch.old.capacity }
 {
     let kept = kept(slots, field, subtraction)?;
-    let (front, back) = sides(kept, part);
-    joined.clear();
-    joined.append(front);
-    joined.append(back);
+    join_kept(scratch, kept);
     Ok(())
 }
 
-/// Decodes a tail: the joined string is the field's value, which its entry then holds.
+/// Joins the bytes in the scratch to the bytes kept, before or after which they go.
+fn join_kept(scratch: &mut Scratch, kept: Kept<'_>)
+    requires { kept_length (kept_data kept) + length scratch.old.text ≤ scratch.old.capacity }
+    ensures text { scratch.new.text ≡ joined_text (kept_data kept.entry) scratch.old.text }
+    ensures size { length scratch.new.text ≡ kept_length (kept_data kept.entry) + length scratch.old.text }
+    ensures capacity { scratch.new.capacity ≡ scratch.old.capacity }
+{
+    match kept {
+        Kept::AppendTo(kept) => scratch.prepend(kept),
+        Kept::PrependTo(kept) => scratch.append(kept),
+    }
+}
+
+/// Decodes the tail in the scratch: the joined string is the field's value, which its entry then holds.
 #[inline(never)]
 fn finish_tail(
     slots: &mut Slots,
-    joined: &mut Scratch,
+    scratch: &mut Scratch,
     field: &FieldInstruction,
-    part: &[u8],
 ) -> Result<ValueSource, Code>
     requires serves { ServesField slots.old field.now }
     requires text { family field.now.kind ≡ texts }
     requires tail { field.now.operator ≡ Operator.Tail }
-    requires fits { length part.now ≤ (slots_terms slots.old).max_text }
-    requires room { HasRoomFor slots.old joined.old }
-    ensures field { (scratch piece : List ℕ) → IsTextDecided
+    requires fits { length scratch.old.text ≤ (slots_terms slots.old).max_text }
+    requires room { HasRoomFor slots.old scratch.old }
+    ensures field { (text piece : List ℕ) → IsTextDecided
         (decide (field_data field.now) (previous_of slots.old field.now) true
-        (sent_text field.now.kind (Some part.now))) (field_data field.now) (slots_dictionary slots.old)
-        (slots_dictionary slots.new) scratch piece result }
+        (sent_text field.now.kind (Some scratch.old.text))) (field_data field.now) (slots_dictionary slots.old)
+        (slots_dictionary slots.new) text piece result }
     ensures terms { slots_terms slots.new ≡ slots_terms slots.old }
-    ensures capacity { joined.new.capacity ≡ joined.old.capacity }
+    ensures capacity { scratch.new.capacity ≡ scratch.old.capacity }
 {
-    join_tail(slots, joined, field, part)?;
-    keep(slots, field, joined.as_slice())
+    join_tail(slots, scratch, field)?;
+    keep(slots, field, scratch.as_slice())
 }
 
-/// Decodes a vector, whose value has the source `place` unless the entry keeps it.
-pub fn finish_text(
+/// Decodes a vector that is no tail, whose value has the source `place` unless the entry keeps it.
+fn finish_text(
     slots: &mut Slots,
-    joined: &mut Scratch,
     field: &FieldInstruction,
     text: &[u8],
     place: ValueSource,
@@ -170,19 +161,17 @@ pub fn finish_text(
     requires text { family field.now.kind ≡ texts }
     requires sent { field.now.operator ≢ Operator.Constant }
     requires whole { field.now.operator ≢ Operator.Delta }
+    requires no_tail { field.now.operator ≢ Operator.Tail }
     requires fits { length text.now ≤ (slots_terms slots.old).max_text }
-    requires room { HasRoomFor slots.old joined.old }
     ensures field { (scratch piece : List ℕ) → value_at place (field_data field.now) (slots_dictionary slots.new)
         scratch piece ≡ Some (value_of_text field.now.kind text.now)
         → IsTextDecided (decide (field_data field.now) (previous_of slots.old field.now) true
         (sent_text field.now.kind (Some text.now))) (field_data field.now) (slots_dictionary slots.old)
         (slots_dictionary slots.new) scratch piece result }
     ensures terms { slots_terms slots.new ≡ slots_terms slots.old }
-    ensures capacity { joined.new.capacity ≡ joined.old.capacity }
 {
     match field.operator {
         Operator::Copy | Operator::Increment => keep(slots, field, text),
-        Operator::Tail => finish_tail(slots, joined, field, text),
         _ => {
             checked_text(field.kind, text)?;
             Ok(place)
@@ -190,63 +179,113 @@ pub fn finish_text(
     }
 }
 
-/// Decodes an ASCII string, whose value has the source `place` unless it is a tail. Nothing has to be checked, and a string that the entry
-/// keeps need not be read from it.
+/// Decodes a vector that is in the scratch.
+pub fn finish_held(
+    slots: &mut Slots,
+    scratch: &mut Scratch,
+    field: &FieldInstruction,
+) -> Result<ValueSource, Code>
+    requires serves { ServesField slots.old field.now }
+    requires text { family field.now.kind ≡ texts }
+    requires sent { field.now.operator ≢ Operator.Constant }
+    requires whole { field.now.operator ≢ Operator.Delta }
+    requires fits { length scratch.old.text ≤ (slots_terms slots.old).max_text }
+    requires room { HasRoomFor slots.old scratch.old }
+    ensures field { (piece : List ℕ) → IsTextDecided
+        (decide (field_data field.now) (previous_of slots.old field.now) true
+        (sent_text field.now.kind (Some scratch.old.text))) (field_data field.now) (slots_dictionary slots.old)
+        (slots_dictionary slots.new) scratch.new.text piece result }
+    ensures terms { slots_terms slots.new ≡ slots_terms slots.old }
+    ensures capacity { scratch.new.capacity ≡ scratch.old.capacity }
+{
+    match field.operator {
+        Operator::Tail => finish_tail(slots, scratch, field),
+        _ => finish_text(slots, field, scratch.as_slice(), ValueSource::Scratch),
+    }
+}
+
+/// Decodes a vector that is in the piece. A tail is joined in the scratch.
+pub fn finish_here(
+    slots: &mut Slots,
+    scratch: &mut Scratch,
+    field: &FieldInstruction,
+    text: &[u8],
+) -> Result<ValueSource, Code>
+    requires serves { ServesField slots.old field.now }
+    requires text { family field.now.kind ≡ texts }
+    requires sent { field.now.operator ≢ Operator.Constant }
+    requires whole { field.now.operator ≢ Operator.Delta }
+    requires fits { length text.now ≤ (slots_terms slots.old).max_text }
+    requires room { HasRoomFor slots.old scratch.old }
+    ensures field { (held : List ℕ) → IsTextDecided
+        (decide (field_data field.now) (previous_of slots.old field.now) true
+        (sent_text field.now.kind (Some text.now))) (field_data field.now) (slots_dictionary slots.old)
+        (slots_dictionary slots.new) held text.now result }
+    ensures terms { slots_terms slots.new ≡ slots_terms slots.old }
+    ensures capacity { scratch.new.capacity ≡ scratch.old.capacity }
+{
+    match field.operator {
+        Operator::Tail => {
+            scratch.set(text);
+            finish_tail(slots, scratch, field)
+        }
+        _ => finish_text(slots, field, text, ValueSource::Piece),
+    }
+}
+
+/// Decodes the ASCII string in the scratch, where its value then is unless it is a tail. Nothing has to be checked, and a string that the
+/// entry keeps need not be read from it.
 #[inline(always)]
 pub fn finish_ascii(
     slots: &mut Slots,
-    joined: &mut Scratch,
+    scratch: &mut Scratch,
     field: &FieldInstruction,
-    text: &[u8],
-    place: ValueSource,
 ) -> Result<ValueSource, Code>
     requires serves { ServesField slots.old field.now }
     requires kind { field.now.kind ≡ Kind.Ascii }
     requires sent { field.now.operator ≢ Operator.Constant }
     requires whole { field.now.operator ≢ Operator.Delta }
-    requires fits { length text.now ≤ (slots_terms slots.old).max_text }
-    requires room { HasRoomFor slots.old joined.old }
-    ensures field { (scratch piece : List ℕ) → value_at place (field_data field.now) (slots_dictionary slots.new)
-        scratch piece ≡ Some (value_of_text field.now.kind text.now)
-        → IsTextDecided (decide (field_data field.now) (previous_of slots.old field.now) true
-        (sent_text field.now.kind (Some text.now))) (field_data field.now) (slots_dictionary slots.old)
-        (slots_dictionary slots.new) scratch piece result }
+    requires fits { length scratch.old.text ≤ (slots_terms slots.old).max_text }
+    requires room { HasRoomFor slots.old scratch.old }
+    ensures field { (piece : List ℕ) → IsTextDecided
+        (decide (field_data field.now) (previous_of slots.old field.now) true
+        (sent_text field.now.kind (Some scratch.old.text))) (field_data field.now) (slots_dictionary slots.old)
+        (slots_dictionary slots.new) scratch.new.text piece result }
     ensures terms { slots_terms slots.new ≡ slots_terms slots.old }
-    ensures capacity { joined.new.capacity ≡ joined.old.capacity }
+    ensures capacity { scratch.new.capacity ≡ scratch.old.capacity }
 {
     match field.operator {
         Operator::Copy | Operator::Increment => {
-            assign(slots, field, Scalar::Ascii(text));
-            Ok(place)
+            assign(slots, field, Scalar::Ascii(scratch.as_slice()));
+            Ok(ValueSource::Scratch)
         }
-        Operator::Tail => finish_tail(slots, joined, field, text),
-        _ => Ok(place),
+        Operator::Tail => finish_tail(slots, scratch, field),
+        _ => Ok(ValueSource::Scratch),
     }
 }
 
-/// Decodes the part of a delta.
+/// Decodes the part of a delta, which is in the scratch.
 pub fn finish_part(
     slots: &mut Slots,
-    joined: &mut Scratch,
+    scratch: &mut Scratch,
     field: &FieldInstruction,
     subtraction: i32,
-    part: &[u8],
 ) -> Result<ValueSource, Code>
     requires serves { ServesField slots.old field.now }
     requires text { family field.now.kind ≡ texts }
     requires delta { field.now.operator ≡ Operator.Delta }
     requires fits { (kept : KeptData) → subtraction_step (field_data field.now) (previous_of slots.old field.now)
-        subtraction ≡ Ok kept → length part.now ≤ (slots_terms slots.old).max_text - kept_length kept }
-    requires room { HasRoomFor slots.old joined.old }
+        subtraction ≡ Ok kept → length scratch.old.text ≤ (slots_terms slots.old).max_text - kept_length kept }
+    requires room { HasRoomFor slots.old scratch.old }
     ensures field { (kept : KeptData) → subtraction_step (field_data field.now) (previous_of slots.old field.now)
-        subtraction ≡ Ok kept → (scratch piece : List ℕ)
-        → IsTextDecided (text_step (field_data field.now) kept part.now) (field_data field.now)
-        (slots_dictionary slots.old) (slots_dictionary slots.new) scratch piece result }
+        subtraction ≡ Ok kept → (text piece : List ℕ)
+        → IsTextDecided (text_step (field_data field.now) kept scratch.old.text) (field_data field.now)
+        (slots_dictionary slots.old) (slots_dictionary slots.new) text piece result }
     ensures terms { slots_terms slots.new ≡ slots_terms slots.old }
-    ensures capacity { joined.new.capacity ≡ joined.old.capacity }
+    ensures capacity { scratch.new.capacity ≡ scratch.old.capacity }
 {
-    join_part(slots, joined, field, subtraction, part)?;
-    keep(slots, field, joined.as_slice())
+    join_part(slots, scratch, field, subtraction)?;
+    keep(slots, field, scratch.as_slice())
 }
 
 /// Returns the most bytes that the part of a delta may have.

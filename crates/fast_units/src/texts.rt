@@ -3,7 +3,7 @@
 //! A unit at a time: an ASCII string, or the size of a vector and then its bytes. If a piece splits a unit, its bytes are buffered in the
 //! pending integer or in the scratch, and nothing else changes.
 
-ghost use Rattle.std.specs.Prelude.{◌≡◌, ◌≢◌, ◌<◌, ◌++◌, ℕ, List, [], length, false, true, Ok, Some, pos, IfOk};
+ghost use Rattle.std.specs.Prelude.{◌≡◌, ◌≢◌, ◌<◌, ◌≤◌, ◌++◌, ℕ, List, [], length, false, true, Ok, Some, pos, IfOk};
 ghost use Rattle.fast_wire.specs.meaning.Integers.{IsWithin, unsigned_range};
 ghost use Rattle.fast_value.specs.meaning.Kinds.{texts, family, value_of_text};
 ghost use Rattle.fast_value.specs.meaning.Limits.{bounds};
@@ -22,7 +22,7 @@ use crate::progress::Progress;
 use crate::scratch::Scratch;
 use crate::source::ValueSource;
 use crate::stages::{FieldStep, Stage};
-use crate::text_outcomes::{finish_absent, finish_ascii, finish_text};
+use crate::text_outcomes::{finish_absent, finish_ascii, finish_held, finish_here};
 use crate::units::{IntegerRange, Run, next_ascii, next_integer, next_raw};
 use fast_dict::Slots;
 use fast_dict::operators::{is_utf8, sized};
@@ -75,7 +75,6 @@ pub fn is_text_of(kind: Kind, text: &[u8]) -> bool
 pub fn take_text(
     slots: &mut Slots,
     scratch: &mut Scratch,
-    joined: &mut Scratch,
     field: &FieldInstruction,
     rest: &[u8],
     limits: Limits,
@@ -87,7 +86,6 @@ pub fn take_text(
     requires whole { field.now.operator ≢ Operator.Delta }
     requires open { ascii_phrase field.now.optional limits.max_text scratch.old.text [] cut }
     requires scratch { HasRoomFor slots.old scratch.old }
-    requires joined { HasRoomFor slots.old joined.old }
     ensures unit { IsLastUnitOf (first_reader limits (field_data field.now) (slots_dictionary slots.old)) field.now
         scratch.old.text rest.now slots.old slots.new scratch.new.text result }
     ensures cut { result ≡ Progress.Cut
@@ -95,16 +93,9 @@ pub fn take_text(
         × ascii_phrase field.now.optional limits.max_text scratch.new.text [] cut }
     ensures terms { slots_terms slots.new ≡ slots_terms slots.old }
     ensures scratch { scratch.new.capacity ≡ scratch.old.capacity }
-    ensures joined { joined.new.capacity ≡ joined.old.capacity }
 {
     match next_ascii(scratch, rest, limits.max_text, field.optional) {
-        Progress::Whole(true, bytes) => {
-            let text = scratch.as_slice();
-            answered(
-                finish_ascii(slots, joined, field, text, ValueSource::Scratch),
-                bytes,
-            )
-        }
+        Progress::Whole(true, bytes) => { answered(finish_ascii(slots, scratch, field), bytes) }
         Progress::Whole(false, bytes) => Progress::Whole(finish_absent(slots, field), bytes),
         Progress::Wrong(code, bytes) => Progress::Wrong(code, bytes),
         Progress::Cut => Progress::Cut,
@@ -115,7 +106,7 @@ pub fn take_text(
 pub fn take_size(
     slots: &mut Slots,
     pending: &mut Pending,
-    joined: &mut Scratch,
+    scratch: &mut Scratch,
     field: &FieldInstruction,
     rest: &[u8],
     limits: Limits,
@@ -126,14 +117,16 @@ pub fn take_size(
     requires kind { field.now.kind ≢ Kind.Ascii }
     requires sent { field.now.operator ≢ Operator.Constant }
     requires whole { field.now.operator ≢ Operator.Delta }
-    requires joined { HasRoomFor slots.old joined.old }
+    requires none { scratch.old.text ≡ [] }
+    requires scratch { HasRoomFor slots.old scratch.old }
     ensures unit { IsUnitOf limits (first_reader limits (field_data field.now) (slots_dictionary slots.old)) field.now
-        pending.old.bytes rest.now slots.old slots.new [] result }
+        pending.old.bytes rest.now slots.old slots.new scratch.new.text result }
     ensures more { (step : FieldStep) (n : ℕ) → result ≡ Progress.Whole step n → HasBytes step }
     ensures whole { (step : FieldStep) (n : ℕ) → result ≡ Progress.Whole step n → pending.new.bytes ≡ [] }
+    ensures short { (stage : Stage) (n : ℕ) → result ≡ Progress.Whole (FieldStep.Next stage) n → n ≤ 10 }
     ensures cut { IsKeptCut pending.old.bytes rest.now pending.new.bytes result }
     ensures terms { slots_terms slots.new ≡ slots_terms slots.old }
-    ensures joined { joined.new.capacity ≡ joined.old.capacity }
+    ensures scratch { scratch.new.capacity ≡ scratch.old.capacity }
 {
     let range = IntegerRange::Unsigned(TOP_SIZE);
     match next_integer(
@@ -146,7 +139,7 @@ pub fn take_size(
     ) {
         Progress::Whole(Some(size), bytes) => {
             answered(
-                vector_next(slots, joined, field, size_of(size), limits),
+                vector_next(slots, scratch, field, size_of(size), limits),
                 bytes,
             )
         }
@@ -161,7 +154,7 @@ pub fn take_size(
 /// Returns the step after the size of a vector.
 fn vector_next(
     slots: &mut Slots,
-    joined: &mut Scratch,
+    scratch: &mut Scratch,
     field: &FieldInstruction,
     size: u32,
     limits: Limits,
@@ -172,26 +165,26 @@ fn vector_next(
     requires kind { field.now.kind ≢ Kind.Ascii }
     requires sent { field.now.operator ≢ Operator.Constant }
     requires whole { field.now.operator ≢ Operator.Delta }
-    requires joined { HasRoomFor slots.old joined.old }
+    requires none { scratch.old.text ≡ [] }
+    requires scratch { HasRoomFor slots.old scratch.old }
     ensures step { (piece : List ℕ) → IsStepped limits (reader_of limits.strict
         (behind_size (bounds limits) (field_data field.now) (previous_of slots.old field.now) (Some (pos size))))
-        (field_data field.now) (slots_dictionary slots.old) (slots_dictionary slots.new) [] piece result }
+        (field_data field.now) (slots_dictionary slots.old) (slots_dictionary slots.new) scratch.new.text piece result }
     ensures more { IfOk result HasBytes }
     ensures terms { slots_terms slots.new ≡ slots_terms slots.old }
-    ensures joined { joined.new.capacity ≡ joined.old.capacity }
+    ensures scratch { scratch.new.capacity ≡ scratch.old.capacity }
 {
     let size = sized(size, limits.max_text)?;
     if size > 0 {
         return Ok(FieldStep::Next(Stage::Vector(size)));
     }
-    settled(finish_text(slots, joined, field, &[], ValueSource::Scratch))
+    settled(finish_held(slots, scratch, field))
 }
 
 /// Reads bytes of a vector that is not a delta, after its size.
 pub fn take_vector(
     slots: &mut Slots,
     scratch: &mut Scratch,
-    joined: &mut Scratch,
     field: &FieldInstruction,
     size: usize,
     rest: &[u8],
@@ -203,29 +196,20 @@ pub fn take_vector(
         (Stage.Vector size) }
     requires more { length scratch.old.text < size }
     requires scratch { HasRoomFor slots.old scratch.old }
-    requires joined { HasRoomFor slots.old joined.old }
     ensures unit { IsLastUnitOf (reader_behind limits (field_data field.now) (slots_dictionary slots.old)
         (Stage.Vector size)) field.now scratch.old.text rest.now slots.old slots.new scratch.new.text result }
     ensures cut { result ≡ Progress.Cut
         → (scratch.new.text ≡ scratch.old.text ++ rest.now) × (length scratch.new.text < size) }
     ensures terms { slots_terms slots.new ≡ slots_terms slots.old }
     ensures scratch { scratch.new.capacity ≡ scratch.old.capacity }
-    ensures joined { joined.new.capacity ≡ joined.old.capacity }
 {
     match next_raw(scratch, rest, size) {
         Progress::Whole(Run::Piece, bytes) => {
             let text = &rest[..bytes];
-            answered(
-                finish_text(slots, joined, field, text, ValueSource::Piece),
-                bytes,
-            )
+            answered(finish_here(slots, scratch, field, text), bytes)
         }
         Progress::Whole(Run::Scratch, bytes) => {
-            let text = scratch.as_slice();
-            answered(
-                finish_text(slots, joined, field, text, ValueSource::Scratch),
-                bytes,
-            )
+            answered(finish_held(slots, scratch, field), bytes)
         }
         Progress::Wrong(code, bytes) => Progress::Wrong(code, bytes),
         Progress::Cut => Progress::Cut,

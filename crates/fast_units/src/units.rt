@@ -46,6 +46,7 @@ pub fn next_integer(
     ensures unit { IsUnit (reader_of strict (integer (range_data range) nullable outside give)) (λ x. x)
         pending.old.bytes rest.now result }
     ensures whole { (x : Option ℤ) (n : ℕ) → result ≡ Progress.Whole x n → pending.new.bytes ≡ [] }
+    ensures short { (x : Option ℤ) (n : ℕ) → result ≡ Progress.Whole x n → n ≤ 10 }
     ensures cut { IsKeptCut pending.old.bytes rest.now pending.new.bytes result }
 {
     if pending.is_empty() {
@@ -66,6 +67,7 @@ pub fn next_unsigned(pending: &mut Pending, rest: &[u8], strict: bool, top: u64)
     ensures unit { IsUnit (reader_of strict (integer (unsigned_up_to top) false Code.D2 give)) (λ x. Some (pos x))
         pending.old.bytes rest.now result }
     ensures whole { (x n : ℕ) → result ≡ Progress.Whole x n → pending.new.bytes ≡ [] }
+    ensures short { (x n : ℕ) → result ≡ Progress.Whole x n → n ≤ 10 }
     ensures cut { IsKeptCut pending.old.bytes rest.now pending.new.bytes result }
 {
     if pending.is_empty() {
@@ -113,48 +115,6 @@ pub fn has_stop(bytes: &[u8]) -> bool
         return bytes[0] >= 0x80;
     }
     find_stop(bytes).is_some()
-}
-
-/// Buffers all of the rest of a string of at most `room` characters, if it begins with a character and goes on after the rest. Returns
-/// whether it did.
-#[inline(always)]
-pub fn keeps_characters(scratch: &mut Scratch, rest: &[u8], room: usize) -> bool
-    requires fits { room ≤ scratch.old.capacity }
-    ensures kept { result ≡ true → scratch.new.text ≡ scratch.old.text ++ rest.now }
-    ensures open { result ≡ true → (nullable : Bool) → ascii_phrase nullable room scratch.old.text [] cut
-        → ascii_phrase nullable room scratch.new.text [] cut }
-    ensures same { result ≡ false → scratch.new ≡ scratch.old }
-    ensures capacity { scratch.new.capacity ≡ scratch.old.capacity }
-{
-    let first = match scratch.as_slice().first() {
-        Some(byte) => *byte,
-        None => match rest.first() {
-            Some(byte) => *byte,
-            None => return false,
-        },
-    };
-    if first == 0x00 || scratch.len() + rest.len() > room || has_stop(rest) {
-        return false;
-    }
-    scratch.keep(rest);
-    true
-}
-
-/// Buffers all of the rest of a run of `size` bytes, if the run goes on after it. Returns whether it did.
-#[inline(always)]
-pub fn keeps_run(scratch: &mut Scratch, rest: &[u8], size: usize) -> bool
-    requires more { length scratch.old.text < size }
-    requires fits { size ≤ scratch.old.capacity }
-    ensures kept { result ≡ true → (scratch.new.text ≡ scratch.old.text ++ rest.now)
-        × (length scratch.new.text < size) }
-    ensures same { result ≡ false → scratch.new ≡ scratch.old }
-    ensures capacity { scratch.new.capacity ≡ scratch.old.capacity }
-{
-    if rest.len() >= size - scratch.len() {
-        return false;
-    }
-    scratch.keep(rest);
-    true
 }
 
 /// The location of the bytes of a complete run.

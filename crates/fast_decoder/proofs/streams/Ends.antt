@@ -14,7 +14,7 @@ use Rattle.fast_stream.specs.declared.faults.FaultCode.{FaultCode}
 use Rattle.fast_stream.specs.declared.faults.FaultCode.TheVariants as Why
 use Rattle.fast_machine.specs.declared.machine.Machine.{Machine}
 use Rattle.fast_machine.specs.declared.machine.Waiting.{Waiting}
-use Rattle.fast_machine.specs.declared.machine.Waiting.TheVariants.{Map, Identifier, SegmentMap, Field, Text, Number, Bytes, Mantissa}
+use Rattle.fast_machine.specs.declared.machine.Waiting.TheVariants.{Map, Identifier, SegmentMap, Field, Mantissa}
 use Rattle.fast_stream.specs.meaning.Events.{EventData}
 use Rattle.fast_stream.specs.meaning.Streams.{End, between, inside, Stream}
 use Rattle.fast_stream.specs.meaning.Account.{Account, account_at, TellsStream}
@@ -44,19 +44,16 @@ map_end set l d (b ∷ w) h short =
     [ inl t ↦ absurd (let none : length (b ∷ w) ≡ 0 = t.1 in omega arith) | inr t ↦ t.0 ] in
     waits_inside (map_reader set l d (b ∷ w)) (subst Waits (sym e) (open_waits L3 map_limit (mapped_reader set l d) (b ∷ w) h short)) ∙ ap end_if (sym some)
 
-module _ (set : Set) (l : Limits) (m : Machine) (later : NameLaterNodes set.nodes) (ready : IsReady set l m) where
+module _ (set : Set) (l : Limits) (m : Machine) (ready : IsReady set l m) where
   busy : (w : Waiting) → m.waiting ≡ w → w ≢ Map → end_of (waiting_at (meaning_at w set l m)) ≡ inside
   busy w e other = waits_inside (meaning_at w set l m) (subst (λ (u : Waiting). Waits (meaning_at u set l m)) e
-      (machine_waits set l m later ready (λ i. other (sym e ∙ i))))
+      (machine_waits set l m ready (λ i. other (sym e ∙ i))))
 
   by_waiting : (w : Waiting) → m.waiting ≡ w → end_of (waiting_at (meaning_at w set l m)) ≡ end_if (is_idle_at w m.cursor.map)
   by_waiting Map e = let c = subst (λ (u : Waiting). CanTake u set l m) e ready.takes in map_end set l (slots_dictionary m.slots) m.cursor.map c.0 c.1
   by_waiting Identifier e = busy Identifier e (λ i. absurd (cc i))
   by_waiting (SegmentMap width) e = busy (SegmentMap width) e (λ i. absurd (cc i))
   by_waiting Field e = busy Field e (λ i. absurd (cc i))
-  by_waiting Text e = busy Text e (λ i. absurd (cc i))
-  by_waiting (Number stage) e = busy (Number stage) e (λ i. absurd (cc i))
-  by_waiting (Bytes stage) e = busy (Bytes stage) e (λ i. absurd (cc i))
   by_waiting (Mantissa x) e = busy (Mantissa x) e (λ i. absurd (cc i))
 
   pub machine_end : end_of (waiting_at (meaning set l m)) ≡ end_if (is_idle m)
@@ -84,7 +81,7 @@ by_fault : (o : Option Fault) (d : DecoderData) (w : List ℕ) (s : Position Dic
     → (let t : Account = record { is_between = is_none o && is_idle d.machine; fault = o; consumed = d.consumed } in t) ≡ account_at w (end_of s)
 by_fault None d w s later ready at =
     account_if w (is_idle d.machine) d.consumed at.1
-    ∙ ap (account_at w) (sym (machine_end d.set d.limits d.machine later ready)) ∙ ap (λ x. account_at w (end_of x)) (sym at.0)
+    ∙ ap (account_at w) (sym (machine_end d.set d.limits d.machine ready)) ∙ ap (λ x. account_at w (end_of x)) (sym at.0)
 by_fault (Some f) d w s later placed at =
     ap (λ n. let t : Account = record { is_between = false; fault = Some f; consumed = n } in t) (sym placed) ∙ by_code f.code f.place w s at
 

@@ -1,8 +1,5 @@
 -- The bytes of a call pay for its turns.
-use Rattle.fast_machine.specs.declared.machine.Waiting.TheVariants.{Map, Identifier, SegmentMap, Field, Text, Number, Bytes, Mantissa}
-use Rattle.fast_machine.specs.declared.machine.Waiting.{Waiting}
-use Rattle.fast_machine.specs.declared.turns.Turns.{Turns}
-use Rattle.fast_machine.proofs.steps.Recounted.{supplied-turns}
+use Rattle.fast_machine.proofs.steps.Recounted.{supplied-turns, takes-turns}
 use Rattle.fast_stream.specs.declared.faults.FaultCode.TheVariants as Why
 use Rattle.fast_stream.specs.device.Running.{Position}
 use Rattle.fast_dict.specs.meaning.Dictionary.{Dictionary}
@@ -18,7 +15,7 @@ use Rattle.fast_stream.specs.declared.faults.Fault.{Fault}
 use Rattle.fast_stream.specs.declared.faults.FaultCode.{FaultCode}
 use Rattle.fast_machine.specs.declared.machine.Machine.{Machine}
 use Rattle.fast_tree.specs.meaning.Numbers.{NameLaterNodes}
-use Rattle.fast_machine.specs.device.Positions.{Set, tree_in, IsSupplied, IsReady, is_idle, CanTake}
+use Rattle.fast_machine.specs.device.Positions.{Set, tree_in, IsSupplied, IsReady, is_idle}
 use Rattle.fast_machine.specs.device.TurnsLeft.{Way, most_by, HasTurnsWaiting, IsWithinMessage}
 use Rattle.fast_decoder.specs.meaning.Decoding.{DecoderData, tree, IsSoundAt, IsPaidAt, IsSound, account}
 use Rattle.fast_machine.proofs.steps.TurnCounts.{counted_anew, turns_bounded}
@@ -89,22 +86,12 @@ no_l4 takes stops t l from to w s s' r c is fed e = absurd
     (subst (λ (k : FaultCode). Fed takes stops t l from w s (Err k) s' to) e
     (subst (λ (q : Result Unit FaultCode). Fed takes stops t l from w s q s' to) is fed))
 
--- A machine whose turns are counted anew takes what it took.
-takes_begun : (w : Waiting) (set : Set) (l : Limits) (m : Machine) (n : Turns) → CanTake w set l m → CanTake w set l (record m { turns = n })
-takes_begun Map set l m n h = h
-takes_begun Identifier set l m n h = h
-takes_begun (SegmentMap width) set l m n h = h
-takes_begun Field set l m n h = h
-takes_begun Text set l m n h = h
-takes_begun (Number stage) set l m n h = h
-takes_begun (Bytes stage) set l m n h = h
-takes_begun (Mantissa x) set l m n h = h
-
+-- A machine whose turns are counted anew is ready for what it was.
 pub ready_begun : (o : Option Fault) (set : Set) (l : Limits) (m m' : Machine) (k : ℕ) → o ≡ None → m' ≡ record m { turns = m'.turns }
     → IsSoundAt o set l m k → IsReady set l m'
 ready_begun o set l m m' k running same at =
     let ready : IsReady set l m = subst (λ (p : Option Fault). IsSoundAt p set l m k) running at in
     subst (λ (n : Machine). IsReady set l n) (sym same) (record {
       supplied = supplied-turns set l m m'.turns ready.supplied;
-      takes = takes_begun m.waiting set l m m'.turns ready.takes;
+      takes = takes-turns m.waiting set l m m'.turns ready.takes;
     })

@@ -34,7 +34,7 @@ ready_fresh set l m supplied f =
     record {
       supplied = supplied;
       takes = subst (λ (w : Waiting). CanTake w set l m) (sym f.waiting)
-          (none_open m.cursor.map map, none_short m.cursor.map map_limit map (omega arith), f.entity, rest);
+          (none_open m.cursor.map map, none_short m.cursor.map map_limit map (omega arith), rest);
     }
 
 fresh_meaning : (set : Set) (l : Limits) (m : Machine) → IsFresh set m → meaning set l m ≡ Done (fresh set.entries)

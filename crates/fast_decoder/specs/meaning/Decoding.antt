@@ -1,5 +1,5 @@
 -- The model of a decoder in contracts, and the bytes and events that it has read.
-use Rattle.std.specs.Prelude.{◌≡◌, ◌⊎◌, ℕ, ◌+◌, ◌*◌, ◌<◌, ◌≤◌, ◌^◌, ◌&&◌, is_none, List, ◌++◌, length, take, Option, Some, None, Result, Ok, Err, vec_len}
+use Rattle.std.specs.Prelude.{◌≡◌, ◌⊎◌, ℕ, ◌+◌, ◌-◌, ◌*◌, ◌<◌, ◌≤◌, ◌^◌, ◌&&◌, is_none, List, ◌++◌, length, take, Option, Some, None, Result, Ok, Err, vec_len}
 use Rattle.fast_wire.specs.meaning.Maps.{map_limit}
 use Rattle.fast_value.specs.declared.settings.Limits.{Limits}
 use Rattle.fast_tree.specs.meaning.Tree.{Tree}
@@ -79,14 +79,14 @@ IsUncounted (Err f) = f.code ≡ Why.L4
 abbrev pub turns : DecoderData → ℕ
 turns d = d.machine.turns.count
 
--- The memory of a decoder's machine for a stream: all cells of both scratches, the whole block of the dictionary's strings, the entries, a
--- frame for each level of nesting, and the cells of one map for the message and for each level: a cursor's model has only the maps that
--- have been read, and `IsCursor` counts the cells. It includes neither memory whose size does not depend on the set, such as the few
--- buffered bytes of an integer, nor memory that is written once: a number for each entry, the offset of its string in the block
--- (`slots.places`).
+-- The memory of a decoder's machine for a stream: all cells of the scratch, those of the carry for the bytes of a string, the whole block
+-- of the dictionary's strings, the entries, a frame for each level of nesting, and the cells of one map for the message and for each level:
+-- a cursor's model has only the maps that have been read, and `IsCursor` counts the cells. It includes neither memory whose size depends
+-- on neither the set nor the limits, such as the 22 cells of the carry for the integers of a field, nor memory that is written once: a
+-- number for each entry, the offset of its string in the block (`slots.places`).
 abbrev pub stored_by : Machine → Stored
 stored_by m = record {
-  scratch = m.text.capacity + m.joined.capacity;
+  scratch = m.text.capacity + (m.carry.bytes.capacity - 22);
   texts = vec_len m.slots.block;
   entries = vec_len m.slots.entries;
   frames = m.cursor.depth;

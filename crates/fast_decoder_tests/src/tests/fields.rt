@@ -45,7 +45,8 @@ fields = [
 "#;
 
 /// Lines of a name | the field that is read before, with its bytes, if any | the field | its bytes | the results for none of the bytes, for
-/// the first, for two of them and so on. `+n` is that n bytes more are missing, and `=b:n` a field of n bytes whose last unit is after b of them.
+/// the first, for two of them and so on. `+n`: nothing more is decided before a stop bit, or n more bytes; `#n`: before n more bytes;
+/// `=b:n`: a field of n bytes, whose last unit begins at offset b; `D2@10`: this fault, after ten bytes.
 const READ: &str = "\
 an integer | | 0 | 01 82 | +10 +9 =0:2
 an integer of ten bytes without a stop bit | | 0 | 00*10 | +10 +9 +8 +7 +6 +5 +4 +3 +2 +1 D2@10
@@ -58,11 +59,11 @@ an empty text | | 1 | 80 | +1 =0:1
 a zero in front of a text | | 1 | 00 C1 | +1 R9@1 R9@1
 an empty text, optional | | 2 | 00 80 | +1 +1 =0:2
 a zero in front of a character, optional | | 2 | 00 C1 | +1 +1 R9@2
-a vector | | 3 | 83 41 FF | +10 +2 +1 =1:3
-no vector | | 3 | 80 | +10 =0:1
+a vector | | 3 | 83 41 FF | +10 #2 #1 =1:3
+no vector | | 3 | 80 | +10 =1:1
 an empty vector | | 3 | 81 | +10 =0:1
 a vector that is too long | | 3 | 92 41 | +10 L1@1 L1@1
-a string that is no UTF-8 | | 4 | 82 41 FF | +10 +2 +1 R2@3
+a string that is no UTF-8 | | 4 | 82 41 FF | +10 #2 #1 R2@3
 a decimal | | 5 | 82 01 83 | +10 +10 +9 =1:3
 a decimal whose exponent is too great | | 5 | 00 C0 81 | +10 +9 R1@2 R1@2
 a decimal whose exponent becomes too great | 6 BF 81 | 6 | 81 81 | +10 R1@1 R1@1
@@ -70,7 +71,7 @@ the value before is an integer | 0 81 | 7 | 81 81 | +10 D4@1 D4@1
 there is no value before | 8 80 | 9 | 81 81 | +10 D6@1 D6@1
 more is taken away than there is | | 10 | 81 C1 | +10 D7@1 D7@1
 a part in front of what is kept | 10 80 41 C2 | 10 | FE 43 C4 | +10 +1 +15 =1:3
-a part of a vector | | 11 | 81 82 44 45 | +10 +10 +2 +1 =2:4
+a part of a vector | | 11 | 81 82 44 45 | +10 +10 #2 #1 =2:4
 a part of no bytes | | 11 | 81 80 | +10 +10 =1:2
 a part that leaves no room | | 11 | 80 8E | +10 +10 L1@2
 a tail | | 12 | 44 C5 | +1 +16 =0:2
@@ -81,7 +82,6 @@ a tail | | 12 | 44 C5 | +1 +16 =0:2
 struct Values {
     slots: Slots,
     scratch: Scratch,
-    joined: Scratch,
 }
 
 /// Makes the buffers of a reader, without previous values.
@@ -89,19 +89,14 @@ fn values_of(alloc: Global, set: &Templates) -> Result<Values, Fail>
     ensures serves { IfOk result (λ v. ServesNodes (tree_of set.now).entries (slots_terms v.slots) (nodes_of set.now)) }
     ensures entries { IfOk result (λ v. (slots_terms v.slots).entries ≡ (tree_of set.now).entries) }
     ensures limit { IfOk result (λ v. (slots_terms v.slots).max_text ≡ 16) }
-    ensures room { IfOk result (λ v. (16 ≤ v.scratch.capacity) × (16 ≤ v.joined.capacity)) }
+    ensures room { IfOk result (λ v. 16 ≤ v.scratch.capacity) }
 {
     if has_long_initial(set, ROOM) {
         return Err(Fail::new("an initial value is too long"));
     }
     let slots = make_slots(alloc, set, ROOM)?;
     let scratch = Scratch::new(alloc, ROOM)?;
-    let joined = Scratch::new(alloc, ROOM)?;
-    Ok(Values {
-        slots,
-        scratch,
-        joined,
-    })
+    Ok(Values { slots, scratch })
 }
 
 /// Reads the field of a node.
@@ -109,9 +104,9 @@ fn read_node(set: &Templates, values: &mut Values, node: u32, bytes: &[u8]) -> O
     requires serves { ServesNodes (tree_of set.now).entries (slots_terms values.old.slots) (nodes_of set.now) }
     requires entries { (slots_terms values.old.slots).entries ≡ (tree_of set.now).entries }
     requires limit { (slots_terms values.old.slots).max_text ≡ 16 }
-    requires room { (16 ≤ values.old.scratch.capacity) × (16 ≤ values.old.joined.capacity) }
+    requires room { 16 ≤ values.old.scratch.capacity }
     ensures terms { slots_terms values.new.slots ≡ slots_terms values.old.slots }
-    ensures room { (16 ≤ values.new.scratch.capacity) × (16 ≤ values.new.joined.capacity) }
+    ensures room { 16 ≤ values.new.scratch.capacity }
 {
     if node >= set.nodes() {
         return None;
@@ -126,8 +121,7 @@ fn read_node(set: &Templates, values: &mut Values, node: u32, bytes: &[u8]) -> O
         max_text: ROOM,
         ..LENIENT
     };
-    let (scratch, joined) = (&mut values.scratch, &mut values.joined);
-    Some(read_field(&mut values.slots, scratch, joined, field, bytes, limits))
+    Some(read_field(&mut values.slots, &mut values.scratch, field, bytes, limits))
 }
 
 /// Writes the results for none of the bytes, for the first, for two of them and so on.
@@ -141,7 +135,7 @@ fn write_readings(
     requires serves { ServesNodes (tree_of set.now).entries (slots_terms values.old.slots) (nodes_of set.now) }
     requires entries { (slots_terms values.old.slots).entries ≡ (tree_of set.now).entries }
     requires limit { (slots_terms values.old.slots).max_text ≡ 16 }
-    requires room { (16 ≤ values.old.scratch.capacity) × (16 ≤ values.old.joined.capacity) }
+    requires room { 16 ≤ values.old.scratch.capacity }
 {
     write_reading(script, read_node(set, values, node, &[]));
     for count in 0..bytes.len() {
@@ -161,7 +155,8 @@ fn write_reading(script: &mut Script<'_>, reading: Option<Reading>) {
             script.write(stream_name_of(code));
             script.write_number(b"@", bytes);
         }
-        Some(Reading::More(missing)) => script.write_number(b"+", missing),
+        Some(Reading::More(missing)) if missing.stops => script.write_number(b"+", missing.bytes),
+        Some(Reading::More(missing)) => script.write_number(b"#", missing.bytes),
         None => script.write(b"no field"),
     }
 }

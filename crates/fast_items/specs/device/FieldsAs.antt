@@ -1,21 +1,21 @@
 -- Statements about all fields of a node's code: of this type, optional or mandatory, under this operator, with this entry.
-use Rattle.std.specs.Prelude.{◌≡◌, ℕ, ◌<◌, ◌≤◌, Bool, true, false, List, [], length, take, drop, Option, Some, Ok}
+use Rattle.std.specs.Prelude.{◌≡◌, ℕ, ◌<◌, Bool, true, false, List, [], length, Option, Some, Ok}
 use Rattle.fast_value.specs.declared.kinds.Kind.{Kind}
 use Rattle.fast_value.specs.meaning.Limits.{Bounds}
 use Rattle.fast_tree.specs.declared.operators.Operator.{Operator}
 use Rattle.fast_tree.specs.meaning.Tree.{FieldData}
 use Rattle.fast_tree.specs.meaning.Entries.{keeps_value}
 use Rattle.fast_dict.specs.declared.slots.Slots.{Slots}
-use Rattle.fast_dict.specs.meaning.Dictionary.{Dictionary, previous_at}
+use Rattle.fast_dict.specs.meaning.Dictionary.{previous_at}
 use Rattle.fast_dict.specs.meaning.Operators.{Outcome, decide, nothing}
 use Rattle.fast_dict.specs.meaning.Slots.{slots_dictionary, slots_terms}
 use Rattle.fast_stream.specs.meaning.Fields.{field_term}
 use Rattle.fast_stream.specs.device.Readers.{Reader}
 use Rattle.fast_stream.specs.device.GrammarReaders.{reader_of}
-use Rattle.fast_units.specs.device.Settling.{Serves, GivesField, IsLastUnit}
+use Rattle.fast_units.specs.device.Settling.{Serves, IsLastUnit}
+pub use Rattle.fast_units.specs.device.Settling.{GivesWhole}
 use Rattle.fast_units.specs.device.Deciding.{IsDecided, source_of}
 use Rattle.fast_units.specs.declared.fields.Number.{Number}
-use Rattle.fast_units.specs.declared.source.ValueSource.{ValueSource}
 use Rattle.fast_units.specs.declared.progress.Progress.TheVariants.{Whole}
 use Rattle.fast_items.specs.declared.taken.TakenItem.{TakenItem}
 
@@ -45,7 +45,3 @@ abbrev pub IsUnsentItem : Kind → Bool → Operator → ℕ → Slots → Slots
 IsUnsentItem kind optional operator entry old new item = (f : FieldData)
     → IsFieldAs f kind optional operator entry → Serves (length (slots_dictionary old)) (slots_terms old) f
     → IsDecided (decide f (previous_at f.entry (slots_dictionary old)) false nothing) f (slots_dictionary old) (slots_dictionary new) (Ok (source_of item))
-
--- The reader consumes n of the bytes, and gives the field; a value in the piece is in these bytes from the given offset on.
-abbrev pub GivesWhole : Reader Outcome → FieldData → List ℕ → Dictionary → Dictionary → List ℕ → ValueSource → ℕ → ℕ → Type 0
-GivesWhole r f rest old new scratch source from n = (0 < n) × (n ≤ length rest) × GivesField r (take n rest) f source old new scratch (drop from (take n rest))

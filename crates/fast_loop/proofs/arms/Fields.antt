@@ -34,7 +34,7 @@ use Rattle.fast_machine.specs.device.Positions.{placed, set_of, bit_of, IsAtFiel
 use Rattle.fast_loop.specs.device.Arms.{IsAtSpot, IsAtOp, IsFieldOp, IsFieldTaken, IsFieldUnsent}
 use Rattle.fast_machine.proofs.fields.Heads.{field_head}
 use Rattle.fast_machine.proofs.fields.QuickFields.{sent_by_bit, node_here}
-use Rattle.fast_machine.proofs.fields.ScalarNodes.{served_node}
+use Rattle.fast_machine.proofs.fields.FieldNodes.{served_node}
 use Rattle.fast_machine.proofs.steps.FieldTurns.{serves_here, state_of}
 
 -- One shape is one field.
@@ -113,7 +113,6 @@ item_taken t l m from op kind operator optional spot at coded x found slots r va
       kept = refl;
       terms = terms;
       room = refl;
-      joined_room = refl;
       at = at_field t l m from.place op kind operator optional spot at coded x found;
       sent = is_sent t l m from.place op kind operator optional spot at coded x found varies stands;
       some = some;

@@ -7,7 +7,7 @@ use Rattle.fast_dict.specs.meaning.Slots.{slots_dictionary}
 use Rattle.fast_stream.specs.device.Readers.{Done}
 use Rattle.fast_machine.specs.declared.machine.Machine.{Machine}
 use Rattle.fast_machine.specs.declared.machine.Waiting.{Waiting}
-use Rattle.fast_machine.specs.declared.machine.Waiting.TheVariants.{Map, Identifier, SegmentMap, Field, Text, Number, Bytes, Mantissa}
+use Rattle.fast_machine.specs.declared.machine.Waiting.TheVariants.{Map, Identifier, SegmentMap, Field, Mantissa}
 use Rattle.fast_machine.specs.device.Positions.{Set, tree_in, meaning, meaning_at, map_reader, CanTake, IsReady, is_idle_at}
 use Rattle.fast_machine.specs.device.TurnsLeft.{Way, most_by, HasTurnsAt, HasTurnsInMap, HasTurnsWaiting, turns_begun, turns_begun_at}
 
@@ -18,9 +18,6 @@ idle_at Map (b ∷ map) e = let none : length (b ∷ map) ≡ 0 = grind (arith, 
 idle_at Identifier map e = absurd (let k : false ≡ true = e in cc k)
 idle_at (SegmentMap width) map e = absurd (let k : false ≡ true = e in cc k)
 idle_at Field map e = absurd (let k : false ≡ true = e in cc k)
-idle_at Text map e = absurd (let k : false ≡ true = e in cc k)
-idle_at (Number stage) map e = absurd (let k : false ≡ true = e in cc k)
-idle_at (Bytes stage) map e = absurd (let k : false ≡ true = e in cc k)
 idle_at (Mantissa x) map e = absurd (let k : false ≡ true = e in cc k)
 
 module _ (set : Set) (l : Limits) (m : Machine) (waits : m.waiting ≡ Map) (none : m.cursor.map ≡ []) where

@@ -108,15 +108,14 @@ module _ {S : Type 0} (takes stops : S → EventData → S → Type 0) (set : Se
       let ready : CanTurn set l counting = record {
         supplied = supplied_like set l before counting can.supplied (record {
           terms = refl;
+          carry = refl;
           text = refl;
-          joined = refl;
           identifier = refl;
           rests = refl;
           latest = refl;
         }) can.supplied.counted;
         placed = can.placed;
         mapped = can.mapped;
-        unused = can.unused;
       } in
       turn_step takes stops set l before from.rest.bytes.now s (Ok Silent) s (placed (record m { turns = t }) p)
       (group_absent takes stops set l counting mid (at_place m.cursor p) node body s ready next first refl later past)

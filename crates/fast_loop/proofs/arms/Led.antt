@@ -29,7 +29,7 @@ use Rattle.fast_loop.specs.device.Parts.{IsLedTo}
 use Rattle.fast_machine.specs.device.Passing.{IsPast, value_then}
 use Rattle.fast_machine.specs.device.Steps.{IsStep}
 use Rattle.fast_loop.proofs.arms.Taken.{bytes_step, took_handed}
-use Rattle.fast_machine.proofs.machines.ScalarSteps.{goes_on_moved, supplied_moved}
+use Rattle.fast_machine.proofs.steps.FieldTurns.{goes_on_moved, supplied_moved}
 use Rattle.fast_machine.proofs.steps.FieldTurns.{supplied_like, turn_moved}
 use Rattle.fast_machine.proofs.steps.TurnCounts.{finished, one_turn}
 use Rattle.fast_machine.proofs.streams.Running.{turn_step}
@@ -59,15 +59,14 @@ module _ {S : Type 0} (takes stops : S → EventData → S → Type 0) (set : Se
   can_keep = record {
     supplied = supplied_like set l before keeping h.spot.can.supplied (record {
       terms = h.terms;
+      carry = refl;
       text = refl;
-      joined = refl;
       identifier = refl;
       rests = refl;
       latest = refl;
     }) h.spot.can.supplied.counted;
     placed = h.spot.can.placed;
     mapped = h.spot.can.mapped;
-    unused = h.spot.can.unused;
   }
 
   -- what is to be read behind the bytes

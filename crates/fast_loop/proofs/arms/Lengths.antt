@@ -59,7 +59,7 @@ use Rattle.fast_machine.specs.device.TurnsLeft.{Way, IsWithinTurns, HasTurns, Ha
 use Rattle.fast_loop.proofs.arms.Taken.{bytes_step}
 use Rattle.fast_machine.proofs.fields.Heads.{sequence_head}
 use Rattle.fast_machine.proofs.fields.QuickFields.{sent_by_bit}
-use Rattle.fast_machine.proofs.fields.ScalarNodes.{served_node}
+use Rattle.fast_machine.proofs.fields.FieldNodes.{served_node}
 use Rattle.fast_machine.proofs.fields.SentFields.{field_sent}
 use Rattle.fast_machine.proofs.steps.FieldTurns.{state_of, behind, serves_here, supplied_like, turn_silent}
 use Rattle.fast_machine.proofs.steps.Opened.{opened_not_silent}
@@ -170,15 +170,14 @@ module _ {S : Type 0} (takes stops : S → EventData → S → Type 0) (set : Se
   can = record {
     supplied = supplied_like set l before counting h.spot.can.supplied (record {
       terms = refl;
+      carry = refl;
       text = refl;
-      joined = refl;
       identifier = refl;
       rests = refl;
       latest = refl;
     }) h.spot.can.supplied.counted;
     placed = h.spot.can.placed;
     mapped = h.spot.can.mapped;
-    unused = h.spot.can.unused;
   }
 
   counted_turn : (way : Way) (k : ℕ) → HasTurns way set l 0 k before → IsWithinTurns way set l 1 k t.count m.counted before.cursor

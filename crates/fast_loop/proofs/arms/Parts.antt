@@ -50,7 +50,7 @@ use Rattle.fast_loop.specs.device.Arms.{IsAtSpot, IsAtOp}
 use Rattle.fast_loop.specs.device.Parts.{bit_at_place, IsAtDecimal, IsLedTo}
 use Rattle.fast_machine.specs.device.Passing.{value_then}
 use Rattle.fast_machine.proofs.fields.Heads.{parts_head}
-use Rattle.fast_machine.proofs.fields.ScalarNodes.{served_node}
+use Rattle.fast_machine.proofs.fields.FieldNodes.{served_node}
 use Rattle.fast_machine.proofs.fields.SentFields.{field_sent, field_unsent}
 use Rattle.fast_machine.proofs.steps.FieldTurns.{serves_here, serves_known, can_turn_slots, behind, parts_next}
 

@@ -33,10 +33,9 @@ use Rattle.fast_machine.specs.device.Moving.{Moves}
 use Rattle.fast_machine.specs.device.Passing.{IsPast, state_past, value_then}
 use Rattle.fast_machine.specs.device.Steps.{IsStep}
 use Rattle.fast_machine.specs.device.TurnsLeft.{Way, most_by, HasTurns, HasTurnsBehind}
-use Rattle.fast_machine.proofs.machines.ScalarMachines.{field_here, behind_field}
-use Rattle.fast_machine.proofs.machines.ScalarSteps.{goes_on_moved, supplied_moved}
+use Rattle.fast_machine.proofs.machines.FieldTakes.{field_here, behind_field}
 use Rattle.fast_machine.proofs.machines.UnitTaken.{taken_to}
-use Rattle.fast_machine.proofs.steps.FieldTurns.{supplied_like}
+use Rattle.fast_machine.proofs.steps.FieldTurns.{supplied_like, goes_on_moved, supplied_moved}
 use Rattle.fast_machine.proofs.steps.TurnCounts.{finished, one_turn, more_behind}
 use Rattle.fast_machine.proofs.streams.Running.{unit_runs}
 use Rattle.fast_machine.proofs.units.Hanging.{hands_waits}
@@ -80,42 +79,40 @@ module _ {S : Type 0} (takes stops : S → EventData → S → Type 0) (set : Se
   took_handed m m' rest s n Handed s' some on h = h
   took_handed m m' rest s n Waits s' some on h = absurd (on refl)
 
-  module _ (m : Machine) (slots : Slots) (text joined : Scratch) (t : Turns) (from : Spot) (p : Place) (node : ℕ) (f : FieldData)
+  module _ (m : Machine) (slots : Slots) (text : Scratch) (t : Turns) (from : Spot) (p : Place) (node : ℕ) (f : FieldData)
       (value : Option ScalarData) (n : ℕ) (h : IsFieldTaken set l m (record m {
         slots = slots;
         text = text;
-        joined = joined;
       }) from node f value n) (counts : t.count ≡ m.turns.count + 1) where
     -- the machine before the field, with what the field keeps, and behind it
     abbrev before : Machine
     before = placed m from.place
 
     abbrev keeping : Machine
-    keeping = record before { slots = slots; text = text; joined = joined; turns = t }
+    keeping = record before { slots = slots; text = text; turns = t }
 
     abbrev behind : Machine
-    behind = placed (record m { slots = slots; text = text; joined = joined; turns = t }) p
+    behind = placed (record m { slots = slots; text = text; turns = t }) p
 
     can_keep : CanTurn set l keeping
     can_keep = record {
       supplied = supplied_like set l before keeping h.spot.can.supplied (record {
         terms = h.terms;
+        carry = refl;
         text = h.room;
-        joined = h.joined_room;
         identifier = refl;
         rests = refl;
         latest = refl;
       }) h.spot.can.supplied.counted;
       placed = h.spot.can.placed;
       mapped = h.spot.can.mapped;
-      unused = h.spot.can.unused;
     }
 
     -- what is to be read behind the bytes
     abbrev read_on : Reader Dictionary
     read_on = reader_of l.strict (value_then set (bounds l) node value f (slots_dictionary slots) m.counted (at_place m.cursor from.place))
 
-    settled : behind_field set (bounds l) before f node h.outcome ≡ value_then set (bounds l) node value f
+    settled : behind_field set l before f node h.outcome ≡ value_then set (bounds l) node value f
         (slots_dictionary slots) m.counted (at_place m.cursor from.place)
     settled =
         let on = resume (bounds l) (frames_in set m.cursor.frames) (body_in set (drop 1 before.cursor.left)) in
@@ -126,7 +123,7 @@ module _ {S : Type 0} (takes stops : S → EventData → S → Type 0) (set : Se
     field_turns : TurnsTo (turning set l before) (take n from.rest.bytes.now) read_on
     field_turns =
         turns_as (field_here set l before f node h.sent h.at) (sym (ap (reader_of l.strict) settled))
-        (turns_done (λ o. reader_of l.strict (behind_field set (bounds l) before f node o)) h.turns)
+        (turns_done (λ o. reader_of l.strict (behind_field set l before f node o)) h.turns)
 
     -- What a turn behind the field moves makes a step of both.
     pub taken_step : (s : S) (result : Result Turn FaultCode) (s' : S) → Moves takes stops read_on s result s' (turning set l behind) (meaning set l behind)
@@ -147,7 +144,7 @@ module _ {S : Type 0} (takes stops : S → EventData → S → Type 0) (set : Se
     (h : IsFieldTaken set l m m1 from node f value n) (counts : t.count ≡ m.turns.count + 1) (place : IsPlaceOf m.cursor p) where
   -- the machine with what the field keeps
   abbrev kept : Machine
-  kept = record m { slots = m1.slots; text = m1.text; joined = m1.joined }
+  kept = record m { slots = m1.slots; text = m1.text }
 
   taken_kept : IsFieldTaken set l m kept from node f value n
   taken_kept = subst (λ (x : Machine). IsFieldTaken set l m x from node f value n) h.kept h
@@ -163,7 +160,7 @@ module _ {S : Type 0} (takes stops : S → EventData → S → Type 0) (set : Se
       → OnOk result (IsPast (at_place m.cursor from.place) (at_place m.cursor p)) → result ≢ Ok Waits
       → IsStep takes stops set l (placed m from.place) from.rest.bytes.now s (record { bytes = n; turn = result }) s' (placed (record kept { turns = t }) p)
   went_step s result s' moves past on =
-      taken_step takes stops set l m m1.slots m1.text m1.joined t from p node f value n taken_kept counts s result s'
+      taken_step takes stops set l m m1.slots m1.text t from p node f value n taken_kept counts s result s'
       (moves (meaning set l (placed (record kept { turns = t }) p))) past on
 
   -- The arm took the field.

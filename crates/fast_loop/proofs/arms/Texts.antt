@@ -1,7 +1,6 @@
 -- Values that are lent: from the node, from the entry that keeps them, from the scratch, or from the piece.
-use Rattle.std.proofs.Common.{refl, sym, ap, ◌∙◌, subst, inl, inr, arith}
-use Rattle.std.specs.Prelude.{◌≡◌, ◌≢◌, ◌⊎◌, ℕ, ◌-◌, ◌<◌, ◌≤◌, Bool, true, false, List, [], length, take, drop, slice_get, Option, Some, Ok, if◌then◌else◌}
-use Rattle.std.proofs.lemmas.List.{drop-take}
+use Rattle.std.proofs.Common.{refl, sym, ap, ◌∙◌, subst, inl, inr}
+use Rattle.std.specs.Prelude.{◌≡◌, ◌≢◌, ◌⊎◌, ℕ, ◌<◌, Bool, true, false, List, [], length, take, drop, slice_get, Option, Some, Ok, if◌then◌else◌}
 use Rattle.fast_wire.specs.meaning.Maps.{first_bit}
 use Rattle.fast_value.specs.declared.kinds.Kind.{Kind}
 use Rattle.fast_value.specs.declared.settings.Limits.{Limits}
@@ -38,12 +37,8 @@ use Rattle.fast_machine.specs.device.Positions.{placed, Set, set_of, state_in, b
 use Rattle.fast_loop.specs.device.Arms.{IsAtSpot, IsAtOp, IsFieldOp, IsFieldTaken, IsFieldUnsent}
 use Rattle.fast_loop.proofs.arms.Fields.{field_of, as_coded, at_field, is_sent, bit_clear, served}
 use Rattle.fast_machine.proofs.fields.Heads.{field_head}
-use Rattle.fast_machine.proofs.fields.ScalarNodes.{served_node}
+use Rattle.fast_machine.proofs.fields.FieldNodes.{served_node}
 use Rattle.fast_machine.proofs.steps.FieldTurns.{serves_here}
-
--- What stands between two places of the bytes.
-pub bytes_between : (a b : ℕ) (w : List ℕ) → a ≤ b → take (b - a) (drop a w) ≡ drop a (take b w)
-bytes_between a b w within = sym (drop-take a (b - a) w) ∙ ap (λ k. drop a (take k w)) (omega (arith, within))
 
 -- A dictionary keeps its entries.
 pub entry_kept : (e : ℕ) (old new : Slots) → slots_terms new ≡ slots_terms old → e < length (slots_dictionary old) → e < length (slots_dictionary new)
@@ -75,10 +70,10 @@ value_unsent set l m p node f bit slots source scratch piece value spot at is_bi
 pub text_taken : (t : Templates) (l : Limits) (m : Machine) (from : Spot) (op : Op) (kind : Kind) (operator : Operator) (optional : Bool)
     (spot : IsAtSpot (set_of t) l m from.place) (at : IsAtOp (set_of t) from.place op)
     (coded : IsFieldOp (set_of t) op kind operator optional) (x : Node) (found : slice_get t.nodes.items op.node ≡ Some x)
-    (slots : Slots) (text joined : Scratch) (source : ValueSource) (first n : ℕ) (scratch : List ℕ) (value : Option ScalarData)
+    (slots : Slots) (text : Scratch) (source : ValueSource) (first n : ℕ) (scratch : List ℕ) (value : Option ScalarData)
     → operator ≢ Constant → (operator_uses_bit operator optional ≡ false)
     ⊎ (first_bit (bits_left (at_place m.cursor from.place)) ≡ true)
-    → slots_terms slots ≡ slots_terms m.slots → text.capacity ≡ m.text.capacity → joined.capacity ≡ m.joined.capacity
+    → slots_terms slots ≡ slots_terms m.slots → text.capacity ≡ m.text.capacity
     → GivesWhole (reader_in m.slots l.strict (bounds l) (field_of t l m from.place op kind operator optional spot at coded x found))
     (field_of t l m from.place op kind operator optional spot at coded x found) from.rest.bytes.now (slots_dictionary m.slots)
     (slots_dictionary slots) scratch source first n
@@ -87,15 +82,13 @@ pub text_taken : (t : Templates) (l : Limits) (m : Machine) (from : Spot) (op : 
     → IsFieldTaken (set_of t) l m (record m {
       slots = slots;
       text = text;
-      joined = joined;
     }) from op.node (field_of t l m from.place op kind operator optional spot at coded x found) value n
-text_taken t l m from op kind operator optional spot at coded x found slots text joined source first n scratch value varies stands terms
-    room joined_room (some, within, gives) is_value = record {
+text_taken t l m from op kind operator optional spot at coded x found slots text source first n scratch value varies stands terms
+    room (some, within, gives) is_value = record {
       spot = spot;
       kept = refl;
       terms = terms;
       room = room;
-      joined_room = joined_room;
       at = at_field t l m from.place op kind operator optional spot at coded x found;
       sent = is_sent t l m from.place op kind operator optional spot at coded x found varies stands;
       some = some;

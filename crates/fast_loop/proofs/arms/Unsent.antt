@@ -57,15 +57,14 @@ module _ {S : Type 0} (takes stops : S → EventData → S → Type 0) (set : Se
     can_keep = record {
       supplied = supplied_like set l before keeping h.spot.can.supplied (record {
         terms = h.terms;
+        carry = refl;
         text = refl;
-        joined = refl;
         identifier = refl;
         rests = refl;
         latest = refl;
       }) h.spot.can.supplied.counted;
       placed = h.spot.can.placed;
       mapped = h.spot.can.mapped;
-      unused = h.spot.can.unused;
     }
 
     -- what is to be read behind the field

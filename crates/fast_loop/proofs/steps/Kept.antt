@@ -3,7 +3,6 @@ use Rattle.std.proofs.Common.{refl, sym, subst, arith}
 use Rattle.std.specs.Prelude.{◌≡◌, ℕ, zero, suc, ◌+◌, ◌-◌, ◌<◌, ◌≤◌, List, [], length, take, drop, Ok}
 use Rattle.std.proofs.Math.Nat.{le_refl}
 use Rattle.fast_value.specs.declared.settings.Limits.{Limits}
-use Rattle.fast_tree.specs.meaning.Numbers.{NameLaterNodes}
 use Rattle.fast_stream.specs.meaning.Events.{EventData}
 use Rattle.fast_machine.specs.declared.machine.Machine.{Machine}
 use Rattle.fast_machine.specs.declared.machine.Turn.TheVariants.{Waits}
@@ -22,7 +21,7 @@ pub record IsKeptOf (set : Set) (l : Limits) (b a : Machine) (rest : List ℕ) (
   pub kept : 0 < k → (k ≡ length rest) × IsGatheredBy set l b a rest
   pub none : k ≡ 0 → a ≡ b
 
-module _ {S : Type 0} (takes stops : S → EventData → S → Type 0) (set : Set) (l : Limits) (later : NameLaterNodes set.nodes) where
+module _ {S : Type 0} (takes stops : S → EventData → S → Type 0) (set : Set) (l : Limits) where
   -- What was kept was fed.
   pub kept_fed : (b a : Machine) (rest : List ℕ) (k : ℕ) (s : S) → IsKeptOf set l b a rest k
       → TookEvents takes (tree_in set) l (waiting_at (meaning set l b)) (take k rest) s s (waiting_at (meaning set l a))
@@ -32,7 +31,7 @@ module _ {S : Type 0} (takes stops : S → EventData → S → Type 0) (set : Se
   kept_fed b a rest (suc k) s h =
       let (size, got) = h.kept (omega arith) in
       unit_alone takes stops set l b rest s (suc k) (Ok Waits) (Ok tt) s a (λ t e. cc e) (λ t e. refl) (λ x e. absurd (cc e))
-      (gathered_to takes stops set l b a rest later got (omega (arith, size)) s (suc k) (Ok Waits) size refl)
+      (gathered_to takes stops set l b a rest got (omega (arith, size)) s (suc k) (Ok Waits) size refl)
 
   -- Behind a unit.
   pub both_fed : (m b a : Machine) (rest : List ℕ) (n k : ℕ) (s s' : S)

@@ -117,13 +117,12 @@ HasGone takes stops set l m from s (Gone.Ended outcome) s' m' to =
     }) s' m'
 
 -- The field at the next node is complete in this number of bytes, and has this value, or none: the second machine has stored the value if
--- the field does, and perhaps a string, or one that was joined, and is otherwise the first.
+-- the field does, and perhaps a string, and is otherwise the first.
 pub record IsFieldTaken (set : Set) (l : Limits) (m m' : Machine) (from : Spot) (node : ℕ) (f : FieldData) (value : Option ScalarData) (n : ℕ) : Type 0 where
   pub spot : IsAtSpot set l m from.place
-  pub kept : m' ≡ record m { slots = m'.slots; text = m'.text; joined = m'.joined }
+  pub kept : m' ≡ record m { slots = m'.slots; text = m'.text }
   pub terms : slots_terms m'.slots ≡ slots_terms m.slots
   pub room : m'.text.capacity ≡ m.text.capacity
-  pub joined_room : m'.joined.capacity ≡ m.joined.capacity
   pub at : IsAtField set (at_place m.cursor from.place) node f
   pub sent : IsSent f (bit_of f (state_in (slots_dictionary m.slots) m.counted (at_place m.cursor from.place)))
   pub some : 0 < n

@@ -39,23 +39,22 @@ abbrev waiting : Machine → Machine
 waiting m = record m { waiting = Map; cursor = resting m.cursor }
 
 -- Its map is whole then.
-pub behind_map : (set : Set) (l : Limits) (m : Machine) (rest : List ℕ) → IsSupplied set l m → m.entity.bytes ≡ [] → IsEntity (take 1 rest)
+pub behind_map : (set : Set) (l : Limits) (m : Machine) (rest : List ℕ) → IsSupplied set l m → IsEntity (take 1 rest)
     → IsBehindMap set l (mapped_by m rest)
-behind_map set l m rest h unused map = record {
+behind_map set l m rest h map = record {
   supplied = supplied_like set l m (mapped_by m rest) h (record {
     terms = refl;
+    carry = refl;
     text = refl;
-    joined = refl;
     identifier = refl;
     rests = refl;
     latest = refl;
   }) h.counted;
   map = map;
   outermost = refl;
-  unused = unused;
 }
 
-module _ (set : Set) (l : Limits) (m : Machine) (rest : List ℕ) (h : IsSupplied set l m) (unused : m.entity.bytes ≡ [])
+module _ (set : Set) (l : Limits) (m : Machine) (rest : List ℕ) (h : IsSupplied set l m)
     (some : 0 < length rest) (stop : 128 ≤ get_or rest 0 0)
     (id i : ℕ) (t : Template) (found : slice_get set.templates i ≡ Some t) (own : t.id ≡ Some id)
     (first : (j : ℕ) (u : Template) → j < i → slice_get set.templates j ≡ Some u → u.id ≢ Some id) where
@@ -63,13 +62,13 @@ module _ (set : Set) (l : Limits) (m : Machine) (rest : List ℕ) (h : IsSupplie
   ready = record {
     supplied = supplied_like set l m (waiting m) h (record {
       terms = refl;
+      carry = refl;
       text = refl;
-      joined = refl;
       identifier = refl;
       rests = refl;
       latest = refl;
     }) h.counted;
-    takes = (below-nil, omega arith, unused, refl);
+    takes = (below-nil, omega arith, refl);
   }
 
   abbrev behind : CursorData

@@ -11,7 +11,7 @@ use Rattle.fast_machine.specs.declared.machine.Machine.{Machine}
 use Rattle.fast_machine.specs.declared.machine.Waiting.{Waiting}
 use Rattle.fast_machine.specs.declared.machine.Waiting.TheVariants.{Map, SegmentMap}
 use Rattle.fast_machine.proofs.steps.FieldTurns.{ready_at}
-use Rattle.fast_machine.proofs.machines.ScalarSteps.{supplied_moved}
+use Rattle.fast_machine.proofs.steps.FieldTurns.{supplied_moved}
 
 module _ (set : Set) (l : Limits) (m : Machine) (c : CursorData) (ready : IsReady set l m) (same : c ≡ record m.cursor { map = c.map }) where
   -- It is still supplied.
@@ -22,22 +22,20 @@ module _ (set : Set) (l : Limits) (m : Machine) (c : CursorData) (ready : IsRead
     -- It is ready for more of a message's map.
     pub map_ready : m.waiting ≡ Map → IsReady set l (record m { cursor = c })
     map_ready waits =
-        let (no_stop_yet, room, unused, place) = subst (λ (v : Waiting). CanTake v set l m) waits ready.takes in
+        let (no_stop_yet, room, place) = subst (λ (v : Waiting). CanTake v set l m) waits ready.takes in
         ready_at set l (record m { cursor = c }) Map map_supplied waits (
           subst HaveNoStop (sym map) no_stop,
           subst (λ (v : List ℕ). length v < map_limit) (sym map) short,
-          unused,
           same ∙ ap (λ (x : CursorData). record x { map = c.map }) place ∙ ap (λ (x : CursorData). record x { map = c.map }) (sym (ap resting same)),
         )
 
     -- It is ready for more of a segment's map.
     pub segment_map_ready : (width : ℕ) → m.waiting ≡ SegmentMap width → IsReady set l (record m { cursor = c })
     segment_map_ready width waits =
-        let (no_stop_yet, room, unused, none, placed, wide) = subst (λ (v : Waiting). CanTake v set l m) waits ready.takes in
+        let (no_stop_yet, room, none, placed, wide) = subst (λ (v : Waiting). CanTake v set l m) waits ready.takes in
         ready_at set l (record m { cursor = c }) (SegmentMap width) map_supplied waits (
           subst HaveNoStop (sym map) no_stop,
           subst (λ (v : List ℕ). length v < map_limit) (sym map) short,
-          unused,
           ap (λ (x : CursorData). x.used) same ∙ none,
           subst (λ (x : CursorData). IsPlaced set x) (sym same) (record { below = placed.below; nested = placed.nested; frames = placed.frames }),
           subst (λ (x : CursorData). width ≡ bits_of (body_in set x.left)) (sym same) wide,

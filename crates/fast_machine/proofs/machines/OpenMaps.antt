@@ -49,7 +49,7 @@ module _ (set : Set) (l : Limits) (m : Machine) (width : ℕ) (c : CursorData) (
         becomes = whole_gives L3 map_limit k w taken.3 taken.2;
       } in
       turns_as (segment-reader set l d m.counted m.cursor width)
-      (sym (segment_same set l d m.counted m.cursor width (record m { cursor = c; turns = turns }) w same can.3 taken.4 refl refl
+      (sym (segment_same set l d m.counted m.cursor width (record m { cursor = c; turns = turns }) w same can.2 taken.4 refl refl
       ∙ map_judged l.strict c.map (λ v. reader_of l.strict (narrow width v (inside v))) fit.spared
       ∙ narrow-fits l.strict width c.map (inside c.map) fit.fits))
       whole
@@ -57,10 +57,9 @@ module _ (set : Set) (l : Limits) (m : Machine) (width : ℕ) (c : CursorData) (
   pub map_turns : CanTurn set l (record m { cursor = c; turns = turns })
   map_turns = record {
     supplied = supplied_like set l m (record m { cursor = c; turns = turns }) ready.supplied
-        (record { terms = refl; text = refl; joined = refl; identifier = refl; rests = ap resting same; latest = refl }) ready.supplied.counted;
-    placed = let p : IsPlaced set m.cursor = can.4 in subst (IsPlaced set) (sym same) (record { below = p.below; nested = p.nested; frames = p.frames });
+        (record { terms = refl; carry = refl; text = refl; identifier = refl; rests = ap resting same; latest = refl }) ready.supplied.counted;
+    placed = let p : IsPlaced set m.cursor = can.3 in subst (IsPlaced set) (sym same) (record { below = p.below; nested = p.nested; frames = p.frames });
     mapped = inr (rw taken.4 taken.3);
-    unused = can.2;
   }
 
   pub map_counted : (way : Way) (j : ℕ) → turns.count ≡ m.turns.count + 1 → HasTurns way set l 0 j m → HasTurns way set l 0 (1 + j) (record m {

@@ -78,7 +78,7 @@ module _ (set : Set) (l : Limits) (m : Machine) (c : CursorData) (rest : List �
   can = subst (λ (w : Waiting). CanTake w set l m) waits ready.takes
 
   outermost : c ≡ record (resting c) { map = c.map }
-  outermost = same ∙ ap (λ (x : CursorData). record x { map = c.map }) can.3 ∙ ap (λ (x : CursorData). record x { map = c.map }) (sym (ap resting same))
+  outermost = same ∙ ap (λ (x : CursorData). record x { map = c.map }) can.2 ∙ ap (λ (x : CursorData). record x { map = c.map }) (sym (ap resting same))
 
   bytes : c.map ≡ take 1 rest
   bytes = taken.4 ∙ ap (λ f. f ++ take 1 rest) none

@@ -86,8 +86,8 @@ begun_turns set l m n t c s turns latest known h found below terms frames left m
         some_entry = h.supplied.some_entry;
         max_text = ap (λ x. x.max_text) terms ∙ h.supplied.max_text;
         least_text = h.supplied.least_text;
+        carry_room = h.supplied.carry_room;
         text_room = h.supplied.text_room;
-        joined_room = h.supplied.joined_room;
         depth = depth ∙ room;
         program = ap (λ (x : CursorData). x.ops) rests ∙ h.supplied.program;
         identifier = h.supplied.identifier;
@@ -100,5 +100,4 @@ begun_turns set l m n t c s turns latest known h found below terms frames left m
         frames = subst (λ fs. AreFramesFit set c.depth fs) (sym frames) tt;
       };
       mapped = inr (subst IsEntity (sym map) h.map);
-      unused = h.unused;
     }

@@ -1,18 +1,15 @@
 -- What holds of a machine behind a turn: at the unit that it waits for, and past an instruction.
-use Rattle.std.proofs.Common.{refl, sym, ap, ◌∙◌, subst, inl, inr, arith}
-use Rattle.std.specs.Prelude.{◌≡◌, ◌≢◌, ◌⊎◌, ℕ, suc, ◌<◌, ◌≤◌, Bool, true, List, [], ◌∷◌, drop, length, ℤ, Option, Some, None, option_map}
+use Rattle.std.proofs.Common.{refl, sym, ap, ◌∙◌, subst, arith}
+use Rattle.std.specs.Prelude.{◌≡◌, ◌≢◌, ℕ, suc, ◌<◌, ◌≤◌, Bool, true, List, [], ◌∷◌, ◌++◌, drop, length, ℤ, Option, Some, None, option_map}
 use Rattle.std.specs.Prelude.{Result, Ok, Err, OnOk, if◌then◌else◌}
 use Rattle.std.proofs.Math.Nat.{le-max_right}
 use Rattle.fast_wire.specs.meaning.Maps.{later_bits}
 use Rattle.fast_value.specs.declared.settings.Limits.{Limits}
 use Rattle.fast_value.specs.declared.codes.Code.{Code}
-use Rattle.fast_value.specs.declared.kinds.Kind.{Kind}
-use Rattle.fast_value.specs.declared.kinds.Kind.TheVariants.{UInt32, Int32, UInt64, Int64, Decimal, Ascii, Unicode, Bytes}
 use Rattle.fast_value.specs.declared.codes.Code.TheVariants.{R1}
 use Rattle.fast_value.specs.meaning.Kinds.{ScalarData, integer_of, exponent_range}
 use Rattle.fast_value.specs.meaning.Limits.{Bounds, bounds}
-use Rattle.fast_tree.specs.declared.operators.Operator.{Operator}
-use Rattle.fast_tree.specs.declared.operators.Operator.TheVariants.{None as no_operator, Constant, Default, Copy, Increment, Delta, Tail}
+use Rattle.fast_tree.specs.declared.operators.Operator.TheVariants.{Constant}
 use Rattle.fast_tree.specs.meaning.Numbers.{AreBelow}
 use Rattle.fast_tree.specs.meaning.Sizes.{body_depth}
 use Rattle.fast_tree.specs.meaning.Tree.{FieldData, Body, uses_bit}
@@ -27,10 +24,8 @@ use Rattle.fast_machine.specs.declared.machine.Machine.{Machine}
 use Rattle.fast_machine.specs.declared.machine.Turn.{Turn}
 use Rattle.fast_machine.specs.declared.machine.Turn.TheVariants.{Silent, Handed, Waits as TurnWaits}
 use Rattle.fast_machine.specs.declared.machine.Waiting.{Waiting}
-use Rattle.fast_machine.specs.declared.machine.Waiting.TheVariants.{Field, Text, Mantissa}
+use Rattle.fast_machine.specs.declared.machine.Waiting.TheVariants.{Field, Mantissa}
 use Rattle.fast_stream.specs.meaning.Events.{EventData}
-use Rattle.fast_stream.specs.meaning.Phrases.{cut}
-use Rattle.fast_stream.specs.meaning.Units.{ascii_text}
 use Rattle.fast_stream.specs.meaning.Fields.{field_term}
 use Rattle.fast_stream.specs.meaning.Grammar.{Grammar, ◌>>=◌, of_result}
 use Rattle.fast_stream.specs.meaning.Messages.{State, Found, field_in, decimal_with}
@@ -38,30 +33,31 @@ use Rattle.fast_stream.specs.device.Continuations.{handed_then, mantissa_after_t
 use Rattle.fast_stream.specs.device.Frames.{resume}
 use Rattle.fast_units.specs.device.Deciding.{IsDecided}
 use Rattle.fast_units.specs.declared.source.ValueSource.{ValueSource}
-use Rattle.fast_units.specs.declared.pending.Pending.{Pending}
+use Rattle.fast_fields.specs.declared.carry.Carry.{Carry}
+use Rattle.fast_fields.specs.device.Carries.{IsCarried}
 use Rattle.fast_stream.specs.device.Readers.{Reader, Stop}
 use Rattle.fast_stream.specs.device.Machine.{after_bytes}
 use Rattle.fast_stream.specs.device.GrammarReaders.{reader_of}
-use Rattle.fast_units.specs.device.Taking.{Waits}
+use Rattle.fast_units.specs.device.Taking.{Waits, Stays}
 use Rattle.fast_machine.specs.device.Moving.{Moves}
 use Rattle.fast_units.specs.device.Settling.{Serves, value_at}
-use Rattle.fast_units.specs.device.UnitFronts.{IsAsciiFirst, IsSent}
-use Rattle.fast_units.specs.device.Scratches.{Held}
+use Rattle.fast_units.specs.device.TextDecisions.{first_reader}
+use Rattle.fast_units.specs.device.UnitFronts.{IsSent}
 use Rattle.fast_cursor.specs.device.Cursors.{CursorData, resting, bits_left, bits_behind}
 use Rattle.fast_machine.specs.device.Passing.{IsPast, state_past, exponent_then}
 use Rattle.fast_machine.specs.device.Positions.{Set, body_in, IsPlaced, IsSupplied, IsReady, CanTurn, CanTake, IsTurn, GoesOn, turning}
-use Rattle.fast_machine.specs.device.Positions.{meaning, meaning_at, state_in, frames_in, bit_of, term_at, mantissa_then, BeginsWithInteger}
-use Rattle.fast_machine.specs.device.Positions.{BeginsWithText, GoesOnWithMantissa, IsAtField, IsAtParts}
+use Rattle.fast_machine.specs.device.Positions.{meaning, meaning_at, state_in, frames_in, bit_of, term_at, mantissa_then, BeginsWithField}
+use Rattle.fast_machine.specs.device.Positions.{GoesOnWithMantissa, IsAtField, IsAtParts}
 use Rattle.fast_stream.proofs.streams.Frames.{at_field}
-use Rattle.fast_machine.proofs.fields.SentFields.{field_sent_waits, field_unsent, field_at_fault}
+use Rattle.fast_machine.proofs.fields.SentFields.{field_waits as field_waiting, field_sent_waits, field_unsent, field_at_fault}
 use Rattle.fast_units.proofs.Turning.{result_done}
 use Rattle.fast_machine.proofs.steps.Moves.{moves_waits, moves_fault, moves_as}
 
 -- A machine keeps what it was made with.
 pub record IsLike (m m' : Machine) : Type 0 where
   pub terms : slots_terms m'.slots ≡ slots_terms m.slots
+  pub carry : m'.carry.bytes.capacity ≡ m.carry.bytes.capacity
   pub text : m'.text.capacity ≡ m.text.capacity
-  pub joined : m'.joined.capacity ≡ m.joined.capacity
   pub identifier : m'.identifier ≡ m.identifier
   pub rests : resting m'.cursor ≡ resting m.cursor
   pub latest : m'.latest ≡ m.latest
@@ -74,8 +70,8 @@ supplied_like set l m m' h i counted = record {
   some_entry = h.some_entry;
   max_text = ap (λ t. t.max_text) i.terms ∙ h.max_text;
   least_text = h.least_text;
+  carry_room = i.carry ∙ h.carry_room;
   text_room = i.text ∙ h.text_room;
-  joined_room = i.joined ∙ h.joined_room;
   depth = ap (λ (c : CursorData). c.depth) i.rests ∙ h.depth;
   program = ap (λ (c : CursorData). c.ops) i.rests ∙ h.program;
   identifier = rw i.identifier h.identifier;
@@ -117,22 +113,21 @@ placed_past set c c' h i = rw i.same (record {
 
 -- Behind a turn that leaves the map and takes no byte the machine can take the next one.
 pub can_turn_past : (set : Set) (l : Limits) (m m' : Machine) → CanTurn set l m → IsLike m m' → m'.counted ≤ l.max_total
-    → m'.entity ≡ m.entity → IsPast m.cursor m'.cursor → CanTurn set l m'
-can_turn_past set l m m' h i counted entity past = record {
+    → IsPast m.cursor m'.cursor → CanTurn set l m'
+can_turn_past set l m m' h i counted past = record {
   supplied = supplied_like set l m m' h.supplied i counted;
   placed = placed_past set m.cursor m'.cursor h.placed past;
   mapped = rw past.same h.mapped;
-  unused = ap (λ (x : Pending). x.bytes) entity ∙ h.unused;
 }
 
 -- The machine goes on, where its turn is no end.
 pub goes_on_past : (set : Set) (l : Limits) (m m' : Machine) (result : Result Turn FaultCode) → CanTurn set l m → IsLike m m'
-    → m'.counted ≤ l.max_total → m'.entity ≡ m.entity
+    → m'.counted ≤ l.max_total
     → OnOk result (IsPast m.cursor m'.cursor) → result ≢ Ok TurnWaits → GoesOn set l m' result
-goes_on_past set l m m' (Ok Silent) h i counted entity past on = can_turn_past set l m m' h i counted entity past
-goes_on_past set l m m' (Ok Handed) h i counted entity past on = can_turn_past set l m m' h i counted entity past
-goes_on_past set l m m' (Ok TurnWaits) h i counted entity past on = absurd (on refl)
-goes_on_past set l m m' (Err c) h i counted entity past on = tt
+goes_on_past set l m m' (Ok Silent) h i counted past on = can_turn_past set l m m' h i counted past
+goes_on_past set l m m' (Ok Handed) h i counted past on = can_turn_past set l m m' h i counted past
+goes_on_past set l m m' (Ok TurnWaits) h i counted past on = absurd (on refl)
+goes_on_past set l m m' (Err c) h i counted past on = tt
 
 module _ {S : Type 0} (takes stops : S → EventData → S → Type 0) (set : Set) (l : Limits) where
   -- A turn at whose end the machine waits, and has the same to read.
@@ -155,24 +150,20 @@ module _ {S : Type 0} (takes stops : S → EventData → S → Type 0) (set : Se
 
   -- A turn past the next instruction.
   pub turn_past : (r p : Reader Dictionary) (s : S) (result : Result Turn FaultCode) (s' : S) (m m' : Machine) → r ≡ p
-      → Moves takes stops p s result s' (turning set l m') (meaning set l m') → CanTurn set l m → IsLike m m' → m'.counted ≤ l.max_total → m'.entity ≡ m.entity
+      → Moves takes stops p s result s' (turning set l m') (meaning set l m') → CanTurn set l m → IsLike m m' → m'.counted ≤ l.max_total
       → OnOk result (IsPast m.cursor m'.cursor) → result ≢ Ok TurnWaits → IsTurn takes stops set l r s result s' m'
-  turn_past r p s result s' m m' e moves h i counted entity past on = record {
+  turn_past r p s result s' m m' e moves h i counted past on = record {
     moves = moves_as takes stops (turning set l m') (meaning set l m') s result s' e moves;
     supplied = supplied_like set l m m' h.supplied i counted;
-    goes_on = goes_on_past set l m m' result h i counted entity past on;
+    goes_on = goes_on_past set l m m' result h i counted past on;
   }
 
--- A machine that waits for an integer, none of whose bytes is there, has all of the next instruction to read.
-pub meaning_field : (set : Set) (l : Limits) (m : Machine) → m.waiting ≡ Field → m.entity.bytes ≡ [] → meaning set l m ≡ turning set l m
+-- A machine that waits for a field, none of whose bytes is there, has all of the next instruction to read.
+pub meaning_field : (set : Set) (l : Limits) (m : Machine) → m.waiting ≡ Field → m.carry.bytes.text ≡ [] → meaning set l m ≡ turning set l m
 meaning_field set l m e i = ap (λ w. meaning_at w set l m) e ∙ ap (λ front. after_bytes (turning set l m) front) i
 
--- So has one that waits for a text.
-pub meaning_text : (set : Set) (l : Limits) (m : Machine) → m.waiting ≡ Text → m.text.text ≡ [] → meaning set l m ≡ turning set l m
-meaning_text set l m e i = ap (λ w. meaning_at w set l m) e ∙ ap (λ front. after_bytes (turning set l m) front) i
-
 -- So has one that waits for a mantissa, from there on.
-pub meaning_mantissa : (set : Set) (l : Limits) (m : Machine) (x : ℤ) → m.waiting ≡ Mantissa x → m.entity.bytes ≡ []
+pub meaning_mantissa : (set : Set) (l : Limits) (m : Machine) (x : ℤ) → m.waiting ≡ Mantissa x → m.carry.bytes.text ≡ []
     → meaning set l m ≡ reader_of l.strict (mantissa_then (bounds l) (frames_in set m.cursor.frames) (body_in set m.cursor.left)
     (state_in (slots_dictionary m.slots) m.counted m.cursor) x)
 meaning_mantissa set l m x e i = ap (λ w. meaning_at w set l m) e
@@ -184,38 +175,6 @@ ready_at set l m w supplied e h = record {
   supplied = supplied;
   takes = subst (λ (x : Waiting). CanTake x set l m) (sym e) h;
 }
-
--- no byte of a text has come
-nothing_cut : (nullable : Bool) (room : ℕ) → ascii_text nullable room [] [] cut
-nothing_cut nullable room = (inl ((λ k d below. absurd (omega (arith, below))), omega arith, (λ z. absurd (cc z.1))), refl)
-
--- A field begins with an ASCII text or not.
-text_first : (o : Operator) → (o ≢ Delta) ⊎ ¬ (o ≢ Delta)
-text_first no_operator = inl (λ e. absurd (cc e))
-text_first Constant = inl (λ e. absurd (cc e))
-text_first Default = inl (λ e. absurd (cc e))
-text_first Copy = inl (λ e. absurd (cc e))
-text_first Increment = inl (λ e. absurd (cc e))
-text_first Delta = inr (λ no. no refl)
-text_first Tail = inl (λ e. absurd (cc e))
-
-ascii_kind : (k : Kind) → (k ≡ Ascii) ⊎ ¬ (k ≡ Ascii)
-ascii_kind UInt32 = inr (λ e. absurd (cc e))
-ascii_kind Int32 = inr (λ e. absurd (cc e))
-ascii_kind UInt64 = inr (λ e. absurd (cc e))
-ascii_kind Int64 = inr (λ e. absurd (cc e))
-ascii_kind Decimal = inr (λ e. absurd (cc e))
-ascii_kind Ascii = inl refl
-ascii_kind Unicode = inr (λ e. absurd (cc e))
-ascii_kind Bytes = inr (λ e. absurd (cc e))
-
-ascii_first_by : {P Q : Type 0} → P ⊎ ¬ P → Q ⊎ ¬ Q → (P × Q) ⊎ ¬ (P × Q)
-ascii_first_by (inl p) (inl q) = inl (p, q)
-ascii_first_by (inl p) (inr never) = inr (λ both. never both.1)
-ascii_first_by (inr never) q = inr (λ both. never both.0)
-
-pub ascii_first : (f : FieldData) → IsAsciiFirst f ⊎ ¬ (IsAsciiFirst f)
-ascii_first f = ascii_first_by (ascii_kind f.kind) (text_first f.operator)
 
 -- the state of a machine
 abbrev pub state_of : Machine → State
@@ -345,20 +304,19 @@ field_wrong s l f bit st k c e unsent decided =
     (subst (λ (b : Bool). field_term l f p b ≡ of_result (decide f p b nothing)) e unsent)
     (subst (λ (b : Bool). decide f p b nothing ≡ Err c) e decided)
 
--- A machine that waits, or has another text in hand, has all that it had.
-pub can_turn_waits : (set : Set) (l : Limits) (m : Machine) (w : Waiting) (t : Held) → CanTurn set l m → t.capacity ≡ m.text.capacity
+-- A machine that waits, with other bytes carried, has all that it had.
+pub can_turn_waits : (set : Set) (l : Limits) (m : Machine) (w : Waiting) (c : Carry) → CanTurn set l m → c.bytes.capacity ≡ m.carry.bytes.capacity
     → CanTurn set l (record m {
       waiting = w;
-      text = t;
+      carry = c;
     })
-can_turn_waits set l m w t h room = record {
+can_turn_waits set l m w c h room = record {
   supplied = supplied_like set l m (record m {
     waiting = w;
-    text = t;
-  }) h.supplied (record { terms = refl; text = room; joined = refl; identifier = refl; rests = refl; latest = refl }) h.supplied.counted;
+    carry = c;
+  }) h.supplied (record { terms = refl; carry = room; text = refl; identifier = refl; rests = refl; latest = refl }) h.supplied.counted;
   placed = h.placed;
   mapped = h.mapped;
-  unused = h.unused;
 }
 
 -- So has one with other values in the slots.
@@ -366,10 +324,9 @@ pub can_turn_slots : (set : Set) (l : Limits) (m : Machine) (slots : Slots) → 
     → CanTurn set l (record m { slots = slots })
 can_turn_slots set l m slots h terms = record {
   supplied = supplied_like set l m (record m { slots = slots }) h.supplied
-      (record { terms = terms; text = refl; joined = refl; identifier = refl; rests = refl; latest = refl }) h.supplied.counted;
+      (record { terms = terms; carry = refl; text = refl; identifier = refl; rests = refl; latest = refl }) h.supplied.counted;
   placed = h.placed;
   mapped = h.mapped;
-  unused = h.unused;
 }
 
 -- So has one that has used a bit.
@@ -377,10 +334,9 @@ pub used_by : (set : Set) (l : Limits) (m : Machine) (u v : ℕ) → CanTurn set
 used_by set l m u v h = record {
   supplied = supplied_like set l m (record m {
     cursor = record m.cursor { used = u; ends = v };
-  }) h.supplied (record { terms = refl; text = refl; joined = refl; identifier = refl; rests = refl; latest = refl }) h.supplied.counted;
+  }) h.supplied (record { terms = refl; carry = refl; text = refl; identifier = refl; rests = refl; latest = refl }) h.supplied.counted;
   placed = record { below = h.placed.below; nested = h.placed.nested; frames = h.placed.frames };
   mapped = h.mapped;
-  unused = h.unused;
 }
 
 pub can_turn_used : (set : Set) (l : Limits) (m m' : Machine) → CanTurn set l m → m' ≡ record m {
@@ -404,8 +360,8 @@ entry_known set l m slots f h terms serves =
 pub like_moved : (m m' : Machine) → m' ≡ record m { cursor = m'.cursor } → resting m'.cursor ≡ resting m.cursor → IsLike m m'
 like_moved m m' same rests = record {
   terms = ap (λ x. slots_terms x.slots) same;
+  carry = ap (λ x. x.carry.bytes.capacity) same;
   text = ap (λ x. x.text.capacity) same;
-  joined = ap (λ x. x.joined.capacity) same;
   identifier = ap (λ x. x.identifier) same;
   rests = rests;
   latest = ap (λ x. x.latest) same;
@@ -419,83 +375,59 @@ module _ {S : Type 0} (takes stops : S → EventData → S → Type 0) (set : Se
       → OnOk result (IsPast m.cursor m'.cursor) → result ≢ Ok TurnWaits → IsTurn takes stops set l r s result s' m'
   turn_moved r p s result s' m m' e moves h same rests past on =
       turn_past takes stops set l r p s result s' m m' e moves h (like_moved m m' same rests)
-      (rw (ap (λ x. x.counted) same) h.supplied.counted) (ap (λ x. x.entity) same) past on
+      (rw (ap (λ x. x.counted) same) h.supplied.counted) past on
 
-  -- The machine waits for an integer, with which the next instruction begins.
-  pub turn_number : (s : S) (m : Machine) → CanTurn set l m → m.waiting ≡ Field
-      → BeginsWithInteger (body_in set m.cursor.left) (state_of m) → Waits (turning set l m)
+  -- The machine waits for a field, with which the next instruction begins.
+  pub turn_field : (s : S) (m : Machine) → CanTurn set l m → m.waiting ≡ Field → m.carry.bytes.text ≡ []
+      → BeginsWithField l (body_in set m.cursor.left) (state_of m) m.carry → Waits (turning set l m)
       → IsTurn takes stops set l (turning set l m) s (Ok TurnWaits) s m
-  turn_number s m h waiting begins waits = turn_waits takes stops set l (turning set l m) s m
-      (sym (meaning_field set l m waiting h.unused)) waits (ready_at set l m Field h.supplied waiting (h.placed, h.mapped, begins))
+  turn_field s m h waiting none begins waits = turn_waits takes stops set l (turning set l m) s m
+      (sym (meaning_field set l m waiting none)) waits (ready_at set l m Field h.supplied waiting (h.placed, h.mapped, begins))
 
   -- The machine waits for a mantissa.
   pub turn_mantissa : (s : S) (m : Machine) (x : ℤ) (r : Reader Dictionary) → CanTurn set l m → m.waiting ≡ Mantissa x
-      → GoesOnWithMantissa (body_in set m.cursor.left) (state_of m)
+      → m.carry.bytes.text ≡ [] → GoesOnWithMantissa l (body_in set m.cursor.left) (state_of m) m.carry
       → r ≡ reader_of l.strict (mantissa_then (bounds l) (frames_in set m.cursor.frames) (body_in set m.cursor.left) (state_of m) x)
       → Waits r → IsTurn takes stops set l r s (Ok TurnWaits) s m
-  turn_mantissa s m x r h waiting begins e waits = turn_waits takes stops set l r s m
-      (e ∙ sym (meaning_mantissa set l m x waiting h.unused)) waits
+  turn_mantissa s m x r h waiting none begins e waits = turn_waits takes stops set l r s m
+      (e ∙ sym (meaning_mantissa set l m x waiting none)) waits
       (ready_at set l m (Mantissa x) h.supplied waiting (h.placed, h.mapped, begins))
 
-  -- The machine waits for a text, which is the next instruction.
-  turn_text : (s : S) (m : Machine) → CanTurn set l m → m.waiting ≡ Text → m.text.text ≡ []
-      → BeginsWithText l (body_in set m.cursor.left) (state_of m) [] → Waits (turning set l m)
-      → IsTurn takes stops set l (turning set l m) s (Ok TurnWaits) s m
-  turn_text s m h waiting none begins waits = turn_waits takes stops set l (turning set l m) s m (sym (meaning_text set l m waiting none)) waits
-      (ready_at set l m Text h.supplied waiting (
-        h.placed,
-        h.mapped,
-        h.unused,
-        subst (λ w. BeginsWithText l (body_in set m.cursor.left) (state_of m) w) (sym none) begins,
-      ))
-
-  first_by : (s : S) (m : Machine) (n : ℕ) (f : FieldData) → CanTurn set l m → IsAtField set m.cursor n f
-      → IsSent f (bit_of f (state_of m)) → Waits (turning set l m)
-      → (IsAsciiFirst f → (m.waiting ≡ Text) × (m.text.text ≡ [])) → (¬ (IsAsciiFirst f) → m.waiting ≡ Field) → IsAsciiFirst f ⊎ ¬ (IsAsciiFirst f)
-      → IsTurn takes stops set l (turning set l m) s (Ok TurnWaits) s m
-  first_by s m n f h next sent waits as_text as_number (inl text) =
-      turn_text s m h (as_text text).0 (as_text text).1 (subst (λ b. BeginsWithText l b (state_of m) []) (sym next.3)
-      (sent, text, nothing_cut f.optional l.max_text)) waits
-  first_by s m n f h next sent waits as_text as_number (inr other) =
-      turn_number s m h (as_number other) (subst (λ b. BeginsWithInteger b (state_of m)) (sym next.3) (sent, other)) waits
-
-  -- A field is next that stands in the stream: the machine waits for its first unit.
-  field_first : (s : S) (m : Machine) (n : ℕ) (f : FieldData) → CanTurn set l m → IsAtField set m.cursor n f → IsSent f (bit_of f (state_of m))
-      → (IsAsciiFirst f → (m.waiting ≡ Text) × (m.text.text ≡ [])) → (¬ (IsAsciiFirst f) → m.waiting ≡ Field)
-      → IsTurn takes stops set l (turning set l m) s (Ok TurnWaits) s m
-  field_first s m n f h next sent as_text as_number =
-      first_by s m n f h next sent
-      (subst Waits (sym (field_next set l m n f next)) (field_sent_waits l.strict (bounds l) f (state_of m) (λ r. handed_then n (behind set l m) r.0 r.1) sent))
-      as_text as_number (ascii_first f)
-
-  -- The same, of the machine as it was before.
-  pub field_waits : (s : S) (m m' : Machine) (n : ℕ) (f : FieldData) → CanTurn set l m → IsAtField set m.cursor n f → IsSent f (bit_of f (state_of m))
-      → m' ≡ record m { waiting = m'.waiting; text = m'.text } → m'.text.capacity ≡ m.text.capacity
-      → (IsAsciiFirst f → (m'.waiting ≡ Text) × (m'.text.text ≡ [])) → (¬ (IsAsciiFirst f) → m'.waiting ≡ Field)
+  -- The machine begins to wait for a field, with which the next instruction begins.
+  pub field_begins : (s : S) (m m' : Machine) → CanTurn set l m → m' ≡ record m { waiting = Field; carry = m'.carry }
+      → m'.carry.bytes.capacity ≡ m.carry.bytes.capacity → m'.carry.bytes.text ≡ []
+      → BeginsWithField l (body_in set m.cursor.left) (state_of m) m'.carry → Waits (turning set l m)
       → IsTurn takes stops set l (turning set l m) s (Ok TurnWaits) s m'
-  field_waits s m m' n f h next sent same room as_text as_number =
-      let there : CanTurn set l m' × IsAtField set m'.cursor n f × IsSent f (bit_of f (state_of m')) =
-      subst (λ (x : Machine). CanTurn set l x × IsAtField set x.cursor n f × IsSent f (bit_of f (state_of x))) (sym same)
-      (can_turn_waits set l m m'.waiting m'.text h room, next, sent) in
-      subst (λ (r : Reader Dictionary). IsTurn takes stops set l r s (Ok TurnWaits) s m') (ap (turning set l) same)
-      (field_first s m' n f there.0 there.1 there.2 as_text as_number)
+  field_begins s m m' h same room none begins waits =
+      subst (λ (x : Machine). IsTurn takes stops set l (turning set l m) s (Ok TurnWaits) s x) (sym same)
+      (turn_field s (record m { waiting = Field; carry = m'.carry }) (can_turn_waits set l m Field m'.carry h room) refl none begins waits)
+
+  -- A field is next that stands in the stream.
+  pub field_waits : (s : S) (m m' : Machine) (n : ℕ) (f : FieldData) → CanTurn set l m → IsAtField set m.cursor n f → IsSent f (bit_of f (state_of m))
+      → m' ≡ record m { waiting = Field; carry = m'.carry } → m'.carry.bytes.capacity ≡ m.carry.bytes.capacity → m'.carry.bytes.text ≡ []
+      → IsCarried l (first_reader l f (slots_dictionary m.slots)) m'.carry → IsTurn takes stops set l (turning set l m) s (Ok TurnWaits) s m'
+  field_waits s m m' n f h next sent same room none carried =
+      field_begins s m m' h same room none (subst (λ (b : Body). BeginsWithField l b (state_of m) m'.carry) (sym next.3) (sent, carried))
+      (subst Waits (sym (field_next set l m n f next)) (field_sent_waits l.strict (bounds l) f (state_of m)
+      (λ r. handed_then n (behind set l m) r.0 r.1) sent))
 
   -- The mantissa of a decimal by parts stands in the stream: the machine waits for it.
-  pub mantissa_waits : (s : S) (m : Machine) (n : ℕ) (e f : FieldData) (x y : ℤ) → y ≡ x → CanTurn set l m → IsAtParts set m.cursor n e f
-      → IsSent f (bit_of f (state_of m))
-      → IsTurn takes stops set l (mantissa_from set l m x) s (Ok TurnWaits) s (record m { waiting = Mantissa y })
-  mantissa_waits s m n e f x y same h next sent =
-      turn_mantissa s (record m { waiting = Mantissa y }) y (mantissa_from set l m x) (can_turn_waits set l m (Mantissa y) m.text h refl) refl
-      (subst (λ (b : Body). GoesOnWithMantissa b (state_of m)) (sym next.3) sent) (ap (mantissa_from set l m) (sym same))
+  pub mantissa_waits : (s : S) (m : Machine) (n : ℕ) (e f : FieldData) (x y : ℤ) (c : Carry) → y ≡ x → CanTurn set l m → IsAtParts set m.cursor n e f
+      → IsSent f (bit_of f (state_of m)) → c.bytes.capacity ≡ m.carry.bytes.capacity → c.bytes.text ≡ []
+      → IsCarried l (first_reader l f (slots_dictionary m.slots)) c
+      → IsTurn takes stops set l (mantissa_from set l m x) s (Ok TurnWaits) s (record m { waiting = Mantissa y; carry = c })
+  mantissa_waits s m n e f x y c same h next sent room none carried =
+      turn_mantissa s (record m { waiting = Mantissa y; carry = c }) y (mantissa_from set l m x) (can_turn_waits set l m (Mantissa y) c h room) refl none
+      (subst (λ (b : Body). GoesOnWithMantissa l b (state_of m) c) (sym next.3) (sent, carried)) (ap (mantissa_from set l m) (sym same))
       (subst Waits (sym (mantissa_next set l m n e f x next))
       (field_sent_waits l.strict (bounds l) f (state_of m) (λ r. handed_then n (behind set l m) (decimal_with x r.0) r.1) sent))
 
   -- A decimal by parts is next, whose exponent stands in the stream: the machine waits for it.
-  pub exponent_waits : (s : S) (m : Machine) (n : ℕ) (e f : FieldData) → CanTurn set l m → IsAtParts set m.cursor n e f → IsSent e (bit_of e (state_of m))
-      → IsTurn takes stops set l (turning set l m) s (Ok TurnWaits) s (record m { waiting = Field })
-  exponent_waits s m n e f h next sent =
-      turn_number s (record m { waiting = Field }) (can_turn_waits set l m Field m.text h refl) refl
-      (subst (λ (b : Body). BeginsWithInteger b (state_of m)) (sym next.3) sent)
+  pub exponent_waits : (s : S) (m m' : Machine) (n : ℕ) (e f : FieldData) → CanTurn set l m → IsAtParts set m.cursor n e f → IsSent e (bit_of e (state_of m))
+      → m' ≡ record m { waiting = Field; carry = m'.carry } → m'.carry.bytes.capacity ≡ m.carry.bytes.capacity → m'.carry.bytes.text ≡ []
+      → IsCarried l (first_reader l e (slots_dictionary m.slots)) m'.carry → IsTurn takes stops set l (turning set l m) s (Ok TurnWaits) s m'
+  exponent_waits s m m' n e f h next sent same room none carried =
+      field_begins s m m' h same room none (subst (λ (b : Body). BeginsWithField l b (state_of m) m'.carry) (sym next.3) (sent, carried))
       (subst Waits (sym (parts_next set l m n e f next)) (field_sent_waits l.strict (bounds l) e (state_of m)
       (mantissa_after_then (bounds l) n f (behind set l m)) sent))
 
@@ -532,3 +464,29 @@ module _ {S : Type 0} (takes stops : S → EventData → S → Type 0) (set : Se
       ∙ ap (λ (x : Machine). record x { cursor = record x.cursor { left = drop 1 x.cursor.left } }) same in
       subst (λ (x : Machine). IsTurn takes stops set l r s (Ok Silent) s x) (sym all)
       (silent_by s m m1.cursor.used m1.cursor.ends f r h (sym (ap (λ (x : Machine). bits_left x.cursor) same) ∙ bits) e)
+
+-- A machine whose cursor alone has moved is still supplied.
+pub supplied_moved : (set : Set) (l : Limits) (m a : Machine) → IsSupplied set l m → a ≡ record m { cursor = a.cursor }
+    → resting a.cursor ≡ resting m.cursor → IsSupplied set l a
+supplied_moved set l m a h same depth = supplied_like set l m a h (like_moved m a same depth)
+    (subst (λ (x : Machine). x.counted ≤ l.max_total) (sym same) h.counted)
+
+-- It goes on, where its turn is no end.
+pub goes_on_moved : (set : Set) (l : Limits) (m a : Machine) (result : Result Turn FaultCode) → CanTurn set l m
+    → a ≡ record m { cursor = a.cursor } → resting a.cursor ≡ resting m.cursor
+    → OnOk result (IsPast m.cursor a.cursor) → result ≢ Ok TurnWaits → GoesOn set l a result
+goes_on_moved set l m a result h same depth past on =
+    goes_on_past set l m a result h (like_moved m a same depth)
+    (subst (λ (x : Machine). x.counted ≤ l.max_total) (sym same) h.supplied.counted) past on
+
+-- the carry of a field of which no byte is there
+abbrev pub nothing_carried : ℕ → Carry
+nothing_carried room = record { bytes = record { text = []; capacity = room }; missing = record { bytes = 1; stops = true } }
+
+pub carries_nothing : (l : Limits) (f : FieldData) (d : Dictionary) (room : ℕ) → f.operator ≢ Constant
+    → IsCarried l (first_reader l f d) (nothing_carried room)
+carries_nothing l f d room varies = ((omega arith, λ v none short. by v short), omega arith)
+  where
+    by : (v : List ℕ) → length v < 1 → Stays (first_reader l f d) ([] ++ v)
+    by [] short = record { quiet = tt; waits = field_waiting l.strict (bounds l) f (previous_at f.entry d) varies }
+    by (b ∷ v) short = absurd (omega (arith, short))

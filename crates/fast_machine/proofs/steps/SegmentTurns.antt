@@ -44,7 +44,7 @@ use Rattle.fast_cursor.specs.device.Segments.{elements_data}
 use Rattle.fast_cursor.specs.device.Cursors.{ElementsData, FrameData, CursorData, bits_behind, bits_left, resting, frame_here, entered, left_to}
 use Rattle.fast_machine.specs.device.Positions.{Set, run_in, body_in, IsBodyOf, frame_by, frames_in, state_in, IsMapWhole, AreElementsFit}
 use Rattle.fast_machine.specs.device.Positions.{AreFramesFit, IsPlaced, IsSupplied, CanTurn, IsTurn, IsAtGroup, IsAtSequence}
-use Rattle.fast_machine.specs.device.Positions.{BeginsWithInteger, bit_of, turning, meaning}
+use Rattle.fast_machine.specs.device.Positions.{BeginsWithField, bit_of, turning, meaning}
 use Rattle.fast_stream.proofs.streams.Frames.{sequence-same, counting, at_end, at_group, group_turn, at_optional_group, close_group}
 use Rattle.fast_stream.proofs.streams.Frames.{close_element, close_message}
 use Rattle.fast_units.proofs.Turning.{result_done}
@@ -52,8 +52,10 @@ use Rattle.fast_machine.proofs.units.Hanging.{hands_waits, hands_more, hands_las
 use Rattle.fast_machine.proofs.steps.Moves.{moves_one, moves_halt, moves_more, moves_as}
 use Rattle.fast_stream.proofs.readers.UnitReaders.{below-nil}
 use Rattle.fast_machine.proofs.fields.SentFields.{field_sent_waits}
+use Rattle.fast_units.specs.device.TextDecisions.{first_reader}
+use Rattle.fast_fields.specs.device.Carries.{IsCarried}
 use Rattle.fast_machine.proofs.steps.FieldTurns.{IsLike, supplied_like, can_turn_past, state_of, behind, field_known, field_wrong}
-use Rattle.fast_machine.proofs.steps.FieldTurns.{can_turn_waits, can_turn_slots, turn_fault, turn_number, used_by}
+use Rattle.fast_machine.proofs.steps.FieldTurns.{can_turn_slots, turn_fault, field_begins, used_by}
 
 -- A presence map waits for a byte.
 pub map_waits : {A : Type 0} (s : Bool) (g : List ℕ → Grammar A) → Waits (reader_of s (presence_map g))
@@ -62,7 +64,7 @@ map_waits s g = (_, refl)
 
 -- the machine with another cursor is like it, if there are as many frames
 pub like_at : (m : Machine) (c : CursorData) → resting c ≡ resting m.cursor → IsLike m (record m { cursor = c })
-like_at m c e = record { terms = refl; text = refl; joined = refl; identifier = refl; rests = e; latest = refl }
+like_at m c e = record { terms = refl; carry = refl; text = refl; identifier = refl; rests = e; latest = refl }
 
 -- The cursor stands in a segment that begins.
 pub placed_in : (set : Set) (c : CursorData) (elements : Option ElementsData) (body : List ℕ) → IsPlaced set c → IsMapWhole c.map
@@ -135,7 +137,6 @@ module _ {S : Type 0} (takes stops : S → EventData → S → Type 0) (set : Se
           supplied = supplied;
           placed = placed_in set m.cursor elements body h.placed h.mapped below nested fit;
           mapped = inl refl;
-          unused = h.unused;
         };
       })
   turn_in m m' c t (suc n) elements body r e s s' waits goes is h wide below nested fit same taken =
@@ -149,7 +150,7 @@ module _ {S : Type 0} (takes stops : S → EventData → S → Type 0) (set : Se
       let supplied = supplied_like set l m (record m {
         waiting = SegmentMap (suc n);
         cursor = entered m.cursor elements body;
-      }) h.supplied (record { terms = refl; text = refl; joined = refl; identifier = refl; rests = refl; latest = refl }) h.supplied.counted in
+      }) h.supplied (record { terms = refl; carry = refl; text = refl; identifier = refl; rests = refl; latest = refl }) h.supplied.counted in
       rw (
         turn,
         machine,
@@ -162,7 +163,7 @@ module _ {S : Type 0} (takes stops : S → EventData → S → Type 0) (set : Se
         supplied = supplied;
         goes_on = record {
           supplied = supplied;
-          takes = (below-nil, omega arith, h.unused, refl, placed_in set m.cursor elements body h.placed h.mapped below nested fit, wide);
+          takes = (below-nil, omega arith, refl, placed_in set m.cursor elements body h.placed h.mapped below nested fit, wide);
         };
       })
 
@@ -216,13 +217,13 @@ module _ {S : Type 0} (takes stops : S → EventData → S → Type 0) (set : Se
       let supplied = supplied_like set l m (record m {
         waiting = Map;
         cursor = resting m.cursor;
-      }) h.supplied (record { terms = refl; text = refl; joined = refl; identifier = refl; rests = refl; latest = refl }) h.supplied.counted in
+      }) h.supplied (record { terms = refl; carry = refl; text = refl; identifier = refl; rests = refl; latest = refl }) h.supplied.counted in
       rw (rest, same) (record {
         moves = hands_last takes stops MessageEnd (slots_dictionary m.slots) s s' (Ok tt) taken;
         supplied = supplied;
         goes_on = record {
           supplied = supplied;
-          takes = (below-nil, omega arith, h.unused, refl);
+          takes = (below-nil, omega arith, refl);
         };
       })
 
@@ -262,7 +263,7 @@ closed set l m c elements h end inner left =
     let context : Context = record { dictionary = slots_dictionary m.slots; counted = m.counted } in
     let supplied = supplied_like set l m (record m { cursor = left_to m.cursor f fs }) h.supplied (like_at m (left_to m.cursor f fs) refl) h.supplied.counted in
     rw (is, same) (record {
-      can = record { supplied = supplied; placed = placed_out set m.cursor f fs h.placed frames; mapped = fit.0.mapped; unused = h.unused };
+      can = record { supplied = supplied; placed = placed_out set m.cursor f fs h.placed frames; mapped = fit.0.mapped };
       elements_fit = λ e some. subst (AreElementsFit set m.cursor.depth (length fs)) some fit.0.elements;
       group = λ none. ending set l m (f ∷ fs) end frames
           ∙ ap (λ x. reader_of l.strict (unwind (bounds l) (frame_by set f x ∷ frames_in set fs) context)) none
@@ -400,7 +401,7 @@ module _ {S : Type 0} (takes stops : S → EventData → S → Type 0) (set : Se
         left = drop 1 m.cursor.left;
         used = mid.used;
         ends = mid.ends;
-      }) refl) h.supplied.counted refl (record { same = refl }) in
+      }) refl) h.supplied.counted (record { same = refl }) in
       rw past (record {
         moves = (group_by set l m node body false mid.used at first (used_behind m.cursor mid same later), refl);
         supplied = can.supplied;
@@ -448,7 +449,7 @@ can_turn_behind set l f m m' counted h behind few =
     (can_turn_past set l m (record m {
       cursor = past;
       counted = counted;
-    }) h (record { terms = refl; text = refl; joined = refl; identifier = refl; rests = refl; latest = refl }) few refl (record { same = refl }))
+    }) h (record { terms = refl; carry = refl; text = refl; identifier = refl; rests = refl; latest = refl }) few (record { same = refl }))
 
 -- what is to be read of the next instruction, a sequence, once its length is known
 abbrev pub length_from : Set → Limits → Machine → ℕ → Option ScalarData → FieldData → List ℕ → Reader Dictionary
@@ -510,12 +511,13 @@ sequence_next set l m n f body (at, number, some, i) =
 
 module _ {S : Type 0} (takes stops : S → EventData → S → Type 0) (set : Set) (l : Limits) where
   -- A sequence is next, whose length stands in the stream: the machine waits for it.
-  pub length_waits : (s : S) (m : Machine) (n : ℕ) (f : FieldData) (body : List ℕ) → CanTurn set l m → IsAtSequence set m.cursor n f body
-      → IsSent f (bit_of f (state_of m))
-      → IsTurn takes stops set l (turning set l m) s (Ok TurnWaits) s (record m { waiting = Field })
-  length_waits s m n f body h next sent =
-      turn_number takes stops set l s (record m { waiting = Field }) (can_turn_waits set l m Field m.text h refl) refl
-      (subst (λ (b : Body). BeginsWithInteger b (state_of m)) (sym next.3) sent)
+  pub length_waits : (s : S) (m m' : Machine) (n : ℕ) (f : FieldData) (body : List ℕ) → CanTurn set l m → IsAtSequence set m.cursor n f body
+      → IsSent f (bit_of f (state_of m)) → m' ≡ record m { waiting = Field; carry = m'.carry }
+      → m'.carry.bytes.capacity ≡ m.carry.bytes.capacity → m'.carry.bytes.text ≡ []
+      → IsCarried l (first_reader l f (slots_dictionary m.slots)) m'.carry → IsTurn takes stops set l (turning set l m) s (Ok TurnWaits) s m'
+  length_waits s m m' n f body h next sent same room none carried =
+      field_begins takes stops set l s m m' h same room none
+      (subst (λ (b : Body). BeginsWithField l b (state_of m) m'.carry) (sym next.3) (sent, carried))
       (subst Waits (sym (sequence_next set l m n f body next))
       (field_sent_waits l.strict (bounds l) f (state_of m) (sequence_from_then (bounds l) n
       (segment_then (body_in set body) (body_then (bounds l) (body_in set body))) (behind set l m)) sent))

@@ -3,7 +3,7 @@ use Rattle.std.proofs.Common.{refl, sym, ap, ◌∙◌, subst, arith, inl, inr}
 use Rattle.std.proofs.Math.Nat.{le_refl, le_trans, le-max_left, le-max_right, mul-le-mul_right, mul-le-mul_left, add-mul, suc-mul, mul-zero}
 use Rattle.std.proofs.Math.Nat.{min-eq_left, min_comm}
 use Rattle.std.proofs.lemmas.Bool.{leb-true, cases_lt}
-use Rattle.std.specs.Prelude.{◌≡◌, ◌≢◌, ◌⊎◌, ℕ, zero, suc, ◌+◌, ◌*◌, ◌-◌, ◌<◌, ◌≤◌, Bool, true, false, if◌then◌else◌, nat_le, List, [], ◌∷◌}
+use Rattle.std.specs.Prelude.{◌≡◌, ◌≢◌, ℕ, zero, suc, ◌+◌, ◌*◌, ◌-◌, ◌<◌, ◌≤◌, Bool, true, false, if◌then◌else◌, nat_le, List, [], ◌∷◌}
 use Rattle.std.specs.Prelude.{drop, map, slice_get, min, Option, Some, None, IfSome, Result, Ok, Err, OnOk, is_err}
 use Rattle.fast_value.specs.declared.settings.Limits.{Limits}
 use Rattle.fast_value.specs.meaning.Limits.{bounds}
@@ -21,8 +21,7 @@ use Rattle.fast_machine.specs.declared.turns.Turns.{Turns}
 use Rattle.fast_machine.specs.declared.quick_units.UnitTaken.{UnitTaken}
 use Rattle.fast_machine.specs.device.Passing.{IsPast}
 use Rattle.fast_machine.specs.declared.machine.Waiting.{Waiting}
-use Rattle.fast_machine.specs.declared.machine.Waiting.TheVariants.{Map, Identifier, SegmentMap, Field, Text, Number, Bytes, Mantissa}
-use Rattle.fast_units.specs.declared.stages.Stage.{Stage}
+use Rattle.fast_machine.specs.declared.machine.Waiting.TheVariants.{Map, Identifier, SegmentMap, Field, Mantissa}
 use Rattle.fast_cursor.specs.device.Cursors.{ElementsData, FrameData, CursorData, entered, left_to}
 use Rattle.fast_stream.specs.meaning.Messages.{within_limits}
 use Rattle.fast_machine.specs.device.Positions.{Set, tree_in, body_in, IsFresh}
@@ -479,9 +478,6 @@ anew_at Map way set l n m t none h = anew_map way set l t.count m.cursor.map non
 anew_at Identifier way set l n m t none h = omega (arith, none)
 anew_at (SegmentMap width) way set l n m t none h = anew way set l 0 n m.turns.count t.count m.counted m.cursor none h
 anew_at Field way set l n m t none h = anew way set l 1 n m.turns.count t.count m.counted m.cursor none h
-anew_at Text way set l n m t none h = anew way set l 1 n m.turns.count t.count m.counted m.cursor none h
-anew_at (Number stage) way set l n m t none h = anew way set l 1 n m.turns.count t.count m.counted m.cursor none h
-anew_at (Bytes stage) way set l n m t none h = anew way set l 1 n m.turns.count t.count m.counted m.cursor none h
 anew_at (Mantissa x) way set l n m t none h = anew way set l 1 n m.turns.count t.count m.counted m.cursor none h
 
 pub counted_anew : (way : Way) (set : Set) (l : Limits) (n : ℕ) (m : Machine) (t : Turns) → t.count ≡ 0 → HasTurnsWaiting way set l n m
@@ -498,9 +494,6 @@ taken_at Map way set l n m h = taken_map way set l n m.turns.count m.cursor.map 
 taken_at Identifier way set l n m h = omega (arith, h)
 taken_at (SegmentMap width) way set l n m h = none_taken way set l n m.turns.count m.counted m.cursor h
 taken_at Field way set l n m h = turns_taken way set l n m.turns.count m.counted m.cursor h
-taken_at Text way set l n m h = turns_taken way set l n m.turns.count m.counted m.cursor h
-taken_at (Number stage) way set l n m h = turns_taken way set l n m.turns.count m.counted m.cursor h
-taken_at (Bytes stage) way set l n m h = turns_taken way set l n m.turns.count m.counted m.cursor h
 taken_at (Mantissa x) way set l n m h = turns_taken way set l n m.turns.count m.counted m.cursor h
 
 pub waiting_taken : (way : Way) (set : Set) (l : Limits) (n : ℕ) (m : Machine) → HasTurnsWaiting way set l n m → m.turns.count ≤ n
@@ -529,9 +522,6 @@ more_at Map way set l n n' m more h = more_map way set l n n' m.turns.count m.cu
 more_at Identifier way set l n n' m more h = le_trans h more
 more_at (SegmentMap width) way set l n n' m more h = more_within way set l 0 n n' m.turns.count m.counted m.cursor more h
 more_at Field way set l n n' m more h = more_within way set l 1 n n' m.turns.count m.counted m.cursor more h
-more_at Text way set l n n' m more h = more_within way set l 1 n n' m.turns.count m.counted m.cursor more h
-more_at (Number stage) way set l n n' m more h = more_within way set l 1 n n' m.turns.count m.counted m.cursor more h
-more_at (Bytes stage) way set l n n' m more h = more_within way set l 1 n n' m.turns.count m.counted m.cursor more h
 more_at (Mantissa x) way set l n n' m more h = more_within way set l 1 n n' m.turns.count m.counted m.cursor more h
 
 -- So they are behind a turn, however it ends.
@@ -585,9 +575,6 @@ paid_at Map way set l n m t e h = paid_map way set l n m.turns.count t.count m.c
 paid_at Identifier way set l n m t e h = omega (arith, e, h)
 paid_at (SegmentMap width) way set l n m t e h = one_unit way set l 0 n m.turns.count t.count m.counted m.cursor e h
 paid_at Field way set l n m t e h = one_unit way set l 1 n m.turns.count t.count m.counted m.cursor e h
-paid_at Text way set l n m t e h = one_unit way set l 1 n m.turns.count t.count m.counted m.cursor e h
-paid_at (Number stage) way set l n m t e h = one_unit way set l 1 n m.turns.count t.count m.counted m.cursor e h
-paid_at (Bytes stage) way set l n m t e h = one_unit way set l 1 n m.turns.count t.count m.counted m.cursor e h
 paid_at (Mantissa x) way set l n m t e h = one_unit way set l 1 n m.turns.count t.count m.counted m.cursor e h
 
 pub unit_paid : (way : Way) (set : Set) (l : Limits) (n : ℕ) (m : Machine) (t : Turns) → t.count ≡ m.turns.count + 1
@@ -614,9 +601,6 @@ begun_within way t l Map map = begun_map way t l map
 begun_within way t l Identifier map = omega arith
 begun_within way t l (SegmentMap width) map = omega arith
 begun_within way t l Field map = omega arith
-begun_within way t l Text map = omega arith
-begun_within way t l (Number stage) map = omega arith
-begun_within way t l (Bytes stage) map = omega arith
 begun_within way t l (Mantissa x) map = omega arith
 
 -- Bytes of a unit pay for its own turn, and for those of a message that it begins.
@@ -650,9 +634,6 @@ first_at Map way set l m e h = first_map way set l m.turns.count m.cursor.map e
 first_at Identifier way set l m e h = (most_by way (tree_in set) l, h, omega arith)
 first_at (SegmentMap width) way set l m e h = (most_by way (tree_in set) l, h, omega arith)
 first_at Field way set l m e h = (most_by way (tree_in set) l, h, omega arith)
-first_at Text way set l m e h = (most_by way (tree_in set) l, h, omega arith)
-first_at (Number stage) way set l m e h = (most_by way (tree_in set) l, h, omega arith)
-first_at (Bytes stage) way set l m e h = (most_by way (tree_in set) l, h, omega arith)
 first_at (Mantissa x) way set l m e h = (most_by way (tree_in set) l, h, omega arith)
 
 can_spend : (way : Way) (set : Set) (l : Limits) (k : ℕ) (m : Machine) → IsSpent way set l k m → CanSpend way set l k m
@@ -757,11 +738,3 @@ paid_awaited way set l n m a turn w is none f h =
     (none_more n (turns_begun_at m.waiting m.cursor.map way (tree_in set) l)
     (ap (λ (v : Waiting). turns_begun_at v m.cursor.map way (tree_in set) l) is ∙ none))
     (f (subst (λ (v : Waiting). HasTurnsAt v way set l n m) is h))
-
-pub paid_later : (way : Way) (set : Set) (l : Limits) (n : ℕ) (m a : Machine) (turn : Result Turn FaultCode)
-    → (m.waiting ≡ Text) ⊎ (((stage : Stage) × (m.waiting ≡ Number stage)) ⊎ ((stage : Stage) × (m.waiting ≡ Bytes stage)))
-    → (HasTurns way set l 1 n m → HasTurnsBehind turn way set l n a) → HasTurnsWaiting way set l n m
-    → HasTurnsBehind turn way set l (n + turns_begun_at m.waiting m.cursor.map way (tree_in set) l) a
-paid_later way set l n m a turn (inl is) f h = paid_awaited way set l n m a turn Text is refl f h
-paid_later way set l n m a turn (inr (inl (stage, is))) f h = paid_awaited way set l n m a turn (Number stage) is refl f h
-paid_later way set l n m a turn (inr (inr (stage, is))) f h = paid_awaited way set l n m a turn (Bytes stage) is refl f h

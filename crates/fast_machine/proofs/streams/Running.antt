@@ -224,8 +224,8 @@ module _ {S : Type 0} (takes stops : S → EventData → S → Type 0) (set : Se
       by (Ok Silent) on h = record {
         within = h.within;
         runs = h.runs;
-        supplied = (can_turn_waits set l b w b.text h.goes_on refl).supplied;
-        goes_on = can_turn_waits set l b w b.text h.goes_on refl;
+        supplied = (can_turn_waits set l b w b.carry h.goes_on refl).supplied;
+        goes_on = can_turn_waits set l b w b.carry h.goes_on refl;
         silent = h.silent;
         handed = h.handed;
         turns = h.turns;
@@ -233,8 +233,8 @@ module _ {S : Type 0} (takes stops : S → EventData → S → Type 0) (set : Se
       by (Ok Handed) on h = record {
         within = h.within;
         runs = h.runs;
-        supplied = (can_turn_waits set l b w b.text h.goes_on refl).supplied;
-        goes_on = can_turn_waits set l b w b.text h.goes_on refl;
+        supplied = (can_turn_waits set l b w b.carry h.goes_on refl).supplied;
+        goes_on = can_turn_waits set l b w b.carry h.goes_on refl;
         silent = h.silent;
         handed = h.handed;
         turns = h.turns;
@@ -245,8 +245,8 @@ module _ {S : Type 0} (takes stops : S → EventData → S → Type 0) (set : Se
         runs = h.runs;
         supplied = supplied_like set l b a h.supplied (record {
           terms = refl;
+          carry = refl;
           text = refl;
-          joined = refl;
           identifier = refl;
           rests = refl;
           latest = refl;

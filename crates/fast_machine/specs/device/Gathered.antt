@@ -1,8 +1,7 @@
 -- Buffered bytes of a unit that goes on after them.
-use Rattle.std.specs.Prelude.{◌≡◌, ◌≢◌, ℕ, ◌+◌, List, ◌++◌}
+use Rattle.std.specs.Prelude.{◌≡◌, ◌≢◌, ℕ, List, ◌++◌}
 use Rattle.fast_value.specs.declared.settings.Limits.{Limits}
 use Rattle.fast_machine.specs.declared.machine.Machine.{Machine}
-use Rattle.fast_machine.specs.declared.machine.Waiting.{Waiting}
 use Rattle.fast_machine.specs.declared.machine.Waiting.TheVariants.{Map}
 use Rattle.fast_machine.specs.device.Positions.{Set, front_at, IsReady}
 
@@ -11,11 +10,4 @@ pub record IsGatheredBy (set : Set) (l : Limits) (before after : Machine) (rest 
   pub inside : before.waiting ≢ Map
   pub ready : IsReady set l after
   pub front : front_at before.waiting after ≡ front_at before.waiting before ++ rest
-  pub same : after ≡ record before { entity = after.entity; text = after.text }
-
--- These bytes alone are buffered, and the machine waits for more of their unit: one turn.
-pub record IsKeptAs (waits : Waiting) (m m' : Machine) (bytes : List ℕ) : Type 0 where
-  pub same : m' ≡ record m { waiting = waits; text = m'.text; turns = m'.turns }
-  pub text : m'.text.text ≡ bytes
-  pub room : m'.text.capacity ≡ m.text.capacity
-  pub turn : m'.turns.count ≡ m.turns.count + 1
+  pub same : after ≡ record before { carry = after.carry }

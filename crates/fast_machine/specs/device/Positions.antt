@@ -18,8 +18,6 @@ use Rattle.fast_dict.specs.meaning.Dictionary.{Dictionary, fresh, previous_at}
 use Rattle.fast_dict.specs.meaning.Slots.{slots_dictionary, slots_terms}
 use Rattle.fast_stream.specs.meaning.Events.{EventData}
 use Rattle.fast_machine.specs.device.Moving.{Moves}
-use Rattle.fast_stream.specs.meaning.Phrases.{cut}
-use Rattle.fast_stream.specs.meaning.Units.{ascii_text}
 use Rattle.fast_stream.specs.meaning.Grammar.{Grammar, presence_map, narrow, ◌>>=◌}
 use Rattle.fast_stream.specs.meaning.Messages.{State, begin, field_in, found, decimal_with}
 use Rattle.fast_stream.specs.device.Readers.{Reader, Done, bind}
@@ -36,15 +34,16 @@ use Rattle.fast_cursor.specs.declared.place.Place.{Place}
 use Rattle.fast_cursor.specs.device.Places.{at_place}
 use Rattle.fast_machine.specs.device.Serving.{ServesNodes}
 use Rattle.fast_tree.specs.meaning.Nodes.{body_among}
-use Rattle.fast_units.specs.device.Stages.{term_behind, IsStageOf}
-use Rattle.fast_units.specs.device.UnitFronts.{IsSent, IsAsciiFirst, IsNumberStage, IsBytesStage}
-use Rattle.fast_units.specs.declared.stages.Stage.{Stage}
+use Rattle.fast_units.specs.device.TextDecisions.{first_reader}
+use Rattle.fast_units.specs.device.UnitFronts.{IsSent}
+use Rattle.fast_fields.specs.declared.carry.Carry.{Carry}
+use Rattle.fast_fields.specs.device.Carries.{IsCarried}
 use Rattle.fast_machine.specs.declared.machine.Machine.{Machine}
 use Rattle.fast_stream.specs.declared.faults.FaultCode.{FaultCode}
 use Rattle.fast_machine.specs.declared.machine.Turn.{Turn}
 use Rattle.fast_machine.specs.declared.machine.Turn.TheVariants.{Silent, Handed, Waits}
 use Rattle.fast_machine.specs.declared.machine.Waiting.{Waiting}
-use Rattle.fast_machine.specs.declared.machine.Waiting.TheVariants.{Map, Identifier, SegmentMap, Field, Text, Number, Bytes, Mantissa}
+use Rattle.fast_machine.specs.declared.machine.Waiting.TheVariants.{Map, Identifier, SegmentMap, Field, Mantissa}
 
 -- A template set as its templates, its nodes, its program and the number of its entries.
 pub record Set : Type 0 where
@@ -95,12 +94,6 @@ going_on set l d counted c = resume l (frames_in set c.frames) (body_in set c.le
 abbrev pub bit_of : FieldData → State → Bool
 bit_of f s = if uses_bit f then first_bit s.bits else true
 
--- the rest of the message from a later unit of the next instruction's field on
-abbrev pub unit_then : Bounds → List Frame → Body → State → Stage → Grammar Dictionary
-unit_then l fs (step (field at f) is) s stage =
-    term_behind l f (previous_at f.entry s.context.dictionary) stage >>= (λ o. handed_then at.node (resume l fs is) (found f s o).0 (found f s o).1)
-unit_then l fs body s stage = resume l fs body s
-
 -- the rest of the message from the mantissa of the next decimal on
 abbrev pub mantissa_then : Bounds → List Frame → Body → State → ℤ → Grammar Dictionary
 mantissa_then l fs (step (parts at e m) is) s x = field_in l m s >>= (λ r. handed_then at.node (resume l fs is) (decimal_with x r.0) r.1)
@@ -124,24 +117,16 @@ term_at Map set l m = message_then (tree_in set) l (slots_dictionary m.slots)
 term_at Identifier set l m = behind_map set l (slots_dictionary m.slots) m.cursor.map
 term_at (SegmentMap width) set l m = segment_behind set l (slots_dictionary m.slots) m.counted m.cursor width
 term_at Field set l m = going_on set l (slots_dictionary m.slots) m.counted m.cursor
-term_at Text set l m = going_on set l (slots_dictionary m.slots) m.counted m.cursor
-term_at (Number stage) set l m = unit_then l (frames_in set m.cursor.frames) (body_in set m.cursor.left)
-    (state_in (slots_dictionary m.slots) m.counted m.cursor) stage
-term_at (Bytes stage) set l m = unit_then l (frames_in set m.cursor.frames) (body_in set m.cursor.left)
-    (state_in (slots_dictionary m.slots) m.counted m.cursor) stage
 term_at (Mantissa x) set l m = mantissa_then l (frames_in set m.cursor.frames) (body_in set m.cursor.left)
     (state_in (slots_dictionary m.slots) m.counted m.cursor) x
 
 -- the bytes of the partial unit that have been read
 abbrev pub front_at : Waiting → Machine → List ℕ
 front_at Map m = m.cursor.map
-front_at Identifier m = m.entity.bytes
+front_at Identifier m = m.carry.bytes.text
 front_at (SegmentMap width) m = m.cursor.map
-front_at Field m = m.entity.bytes
-front_at Text m = m.text.text
-front_at (Number stage) m = m.entity.bytes
-front_at (Bytes stage) m = m.text.text
-front_at (Mantissa x) m = m.entity.bytes
+front_at Field m = m.carry.bytes.text
+front_at (Mantissa x) m = m.carry.bytes.text
 
 -- the reader of a message whose map begins with these bytes; without any no message has begun
 abbrev pub map_reader : Set → Limits → Dictionary → List ℕ → Reader Dictionary
@@ -162,9 +147,6 @@ meaning_at Map set l m = map_reader set l (slots_dictionary m.slots) m.cursor.ma
 meaning_at Identifier set l m = unit_reader Identifier set l m
 meaning_at (SegmentMap width) set l m = unit_reader (SegmentMap width) set l m
 meaning_at Field set l m = unit_reader Field set l m
-meaning_at Text set l m = unit_reader Text set l m
-meaning_at (Number stage) set l m = unit_reader (Number stage) set l m
-meaning_at (Bytes stage) set l m = unit_reader (Bytes stage) set l m
 meaning_at (Mantissa x) set l m = unit_reader (Mantissa x) set l m
 
 -- the reader of a machine
@@ -210,60 +192,37 @@ pub record IsSupplied (set : Set) (l : Limits) (m : Machine) : Type 0 where
   pub some_entry : 1 ≤ set.entries
   pub max_text : (slots_terms m.slots).max_text ≡ l.max_text
   pub least_text : 16 ≤ l.max_text
+  pub carry_room : m.carry.bytes.capacity ≡ 22 + l.max_text
   pub text_room : m.text.capacity ≡ l.max_text
-  pub joined_room : m.joined.capacity ≡ l.max_text
   pub depth : m.cursor.depth ≡ set_depth (tree_in set)
   pub program : m.cursor.ops ≡ set.program
   pub identifier : field_data m.identifier ≡ identifier
   pub counted : m.counted ≤ l.max_total
   pub latest : IfSome m.latest (λ s. IsStartIn set s.now)
 
--- The next instruction begins with an integer.
-abbrev pub BeginsWithInteger : Body → State → Type 0
-BeginsWithInteger (step (field at f) is) s = IsSent f (bit_of f s) × ¬ (IsAsciiFirst f)
-BeginsWithInteger (step (parts at e m) is) s = IsSent e (bit_of e s)
-BeginsWithInteger (step (sequence at f body) is) s = IsSent f (bit_of f s)
-BeginsWithInteger body s = ⊥
+-- The next instruction begins with a field, of which these bytes are carried.
+abbrev pub BeginsWithField : Limits → Body → State → Carry → Type 0
+BeginsWithField l (step (field at f) is) s c = IsSent f (bit_of f s) × IsCarried l (first_reader l f s.context.dictionary) c
+BeginsWithField l (step (parts at e m) is) s c = IsSent e (bit_of e s) × IsCarried l (first_reader l e s.context.dictionary) c
+BeginsWithField l (step (sequence at f body) is) s c = IsSent f (bit_of f s) × IsCarried l (first_reader l f s.context.dictionary) c
+BeginsWithField l body s c = ⊥
 
--- The next instruction is an ASCII string, of which these bytes have been read.
-abbrev pub BeginsWithText : Limits → Body → State → List ℕ → Type 0
-BeginsWithText l (step (field at f) is) s front = IsSent f (bit_of f s) × IsAsciiFirst f × ascii_text f.optional l.max_text front [] cut
-BeginsWithText l body s front = ⊥
-
--- The next instruction is a decimal by parts, whose mantissa is in the stream.
-abbrev pub GoesOnWithMantissa : Body → State → Type 0
-GoesOnWithMantissa (step (parts at e m) is) s = IsSent m (bit_of m s)
-GoesOnWithMantissa body s = ⊥
-
--- The next instruction is a field that goes on with this stage.
-abbrev pub GoesOnWithNumber : Limits → Body → State → Stage → Type 0
-GoesOnWithNumber l (step (field at f) is) s stage = IsSent f (bit_of f s)
-    × IsStageOf (bounds l) f (previous_at f.entry s.context.dictionary) stage × IsNumberStage f stage
-GoesOnWithNumber l body s stage = ⊥
-
-abbrev pub GoesOnWithBytes : Limits → Body → State → Stage → List ℕ → Type 0
-GoesOnWithBytes l (step (field at f) is) s stage front =
-    IsSent f (bit_of f s) × IsStageOf (bounds l) f (previous_at f.entry s.context.dictionary) stage
-    × IsBytesStage (bounds l) f (previous_at f.entry s.context.dictionary) stage front
-GoesOnWithBytes l body s stage front = ⊥
+-- The next instruction is a decimal by parts, whose mantissa is in the stream, and of which these bytes are carried.
+abbrev pub GoesOnWithMantissa : Limits → Body → State → Carry → Type 0
+GoesOnWithMantissa l (step (parts at e m) is) s c = IsSent m (bit_of m s) × IsCarried l (first_reader l m s.context.dictionary) c
+GoesOnWithMantissa l body s c = ⊥
 
 -- The machine can read the unit that it waits for.
 abbrev pub CanTake : Waiting → Set → Limits → Machine → Type 0
-CanTake Map set l m = HaveNoStop m.cursor.map × (length m.cursor.map < map_limit) × (m.entity.bytes ≡ [])
-    × (m.cursor ≡ record (resting m.cursor) { map = m.cursor.map })
+CanTake Map set l m = HaveNoStop m.cursor.map × (length m.cursor.map < map_limit) × (m.cursor ≡ record (resting m.cursor) { map = m.cursor.map })
 CanTake Identifier set l m = IsEntity m.cursor.map × (first_bit (bits m.cursor.map) ≡ true) × (m.cursor ≡ record (resting m.cursor) { map = m.cursor.map })
-CanTake (SegmentMap width) set l m = HaveNoStop m.cursor.map × (length m.cursor.map < map_limit) × (m.entity.bytes ≡ [])
-    × (m.cursor.used ≡ 0) × IsPlaced set m.cursor × (width ≡ bits_of (body_in set m.cursor.left))
+    × IsCarried l (first_reader l identifier (slots_dictionary m.slots)) m.carry
+CanTake (SegmentMap width) set l m = HaveNoStop m.cursor.map × (length m.cursor.map < map_limit) × (m.cursor.used ≡ 0) × IsPlaced set m.cursor
+    × (width ≡ bits_of (body_in set m.cursor.left))
 CanTake Field set l m = IsPlaced set m.cursor × IsMapWhole m.cursor.map
-    × BeginsWithInteger (body_in set m.cursor.left) (state_in (slots_dictionary m.slots) m.counted m.cursor)
-CanTake Text set l m = IsPlaced set m.cursor × IsMapWhole m.cursor.map × (m.entity.bytes ≡ [])
-    × BeginsWithText l (body_in set m.cursor.left) (state_in (slots_dictionary m.slots) m.counted m.cursor) m.text.text
-CanTake (Number stage) set l m = IsPlaced set m.cursor × IsMapWhole m.cursor.map
-    × GoesOnWithNumber l (body_in set m.cursor.left) (state_in (slots_dictionary m.slots) m.counted m.cursor) stage
-CanTake (Bytes stage) set l m = IsPlaced set m.cursor × IsMapWhole m.cursor.map × (m.entity.bytes ≡ [])
-    × GoesOnWithBytes l (body_in set m.cursor.left) (state_in (slots_dictionary m.slots) m.counted m.cursor) stage m.text.text
+    × BeginsWithField l (body_in set m.cursor.left) (state_in (slots_dictionary m.slots) m.counted m.cursor) m.carry
 CanTake (Mantissa x) set l m = IsPlaced set m.cursor × IsMapWhole m.cursor.map
-    × GoesOnWithMantissa (body_in set m.cursor.left) (state_in (slots_dictionary m.slots) m.counted m.cursor)
+    × GoesOnWithMantissa l (body_in set m.cursor.left) (state_in (slots_dictionary m.slots) m.counted m.cursor) m.carry
 
 -- The machine can go on.
 pub record IsReady (set : Set) (l : Limits) (m : Machine) : Type 0 where
@@ -285,12 +244,11 @@ abbrev pub IsAtSequence : Set → CursorData → ℕ → FieldData → List ℕ 
 IsAtSequence set c n f body = (at : Label) × (at.node ≡ n) × (0 < length c.left)
     × (body_in set c.left ≡ step (sequence at f (body_in set body)) (body_in set (drop 1 c.left)))
 
--- The machine is between two units: no byte is buffered, and the next step may need none.
+-- The machine is between two units, and the next step may need no byte.
 pub record CanTurn (set : Set) (l : Limits) (m : Machine) : Type 0 where
   pub supplied : IsSupplied set l m
   pub placed : IsPlaced set m.cursor
   pub mapped : IsMapWhole m.cursor.map
-  pub unused : m.entity.bytes ≡ []
 
 -- the reader of a machine between two units
 abbrev pub turning : Set → Limits → Machine → Reader Dictionary
@@ -315,7 +273,6 @@ pub record IsBehindMap (set : Set) (l : Limits) (m : Machine) : Type 0 where
   pub supplied : IsSupplied set l m
   pub map : IsEntity m.cursor.map
   pub outermost : m.cursor ≡ record (resting m.cursor) { map = m.cursor.map }
-  pub unused : m.entity.bytes ≡ []
 
 -- the reader of a segment at its complete map
 abbrev pub segment_reader : Set → Limits → Machine → ℕ → Reader Dictionary
@@ -335,7 +292,6 @@ pub record IsFresh (set : Set) (m : Machine) : Type 0 where
   pub waiting : m.waiting ≡ Map
   pub cursor : m.cursor ≡ resting m.cursor
   pub dictionary : slots_dictionary m.slots ≡ fresh set.entries
-  pub entity : m.entity.bytes ≡ []
   pub turns : m.turns.count ≡ 0
 
 -- the machine, at the position

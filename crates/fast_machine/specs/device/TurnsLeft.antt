@@ -8,7 +8,7 @@ use Rattle.fast_machine.specs.declared.machine.Machine.{Machine}
 use Rattle.fast_machine.specs.declared.machine.Turn.{Turn}
 use Rattle.fast_machine.specs.declared.machine.Turn.TheVariants.{Silent, Handed, Waits}
 use Rattle.fast_machine.specs.declared.machine.Waiting.{Waiting}
-use Rattle.fast_machine.specs.declared.machine.Waiting.TheVariants.{Map, Identifier, SegmentMap, Field, Text, Number, Bytes, Mantissa}
+use Rattle.fast_machine.specs.declared.machine.Waiting.TheVariants.{Map, Identifier, SegmentMap, Field, Mantissa}
 use Rattle.fast_cursor.specs.device.Cursors.{ElementsData, FrameData, CursorData, entered}
 use Rattle.fast_machine.specs.device.Positions.{Set, tree_in, body_in}
 
@@ -82,9 +82,6 @@ HasTurnsAt Map way set l n m = HasTurnsInMap m.cursor.map way set l n m.turns.co
 HasTurnsAt Identifier way set l n m = m.turns.count + most_by way (tree_in set) l ≤ n
 HasTurnsAt (SegmentMap width) way set l n m = HasTurns way set l 0 n m
 HasTurnsAt Field way set l n m = HasTurns way set l 1 n m
-HasTurnsAt Text way set l n m = HasTurns way set l 1 n m
-HasTurnsAt (Number stage) way set l n m = HasTurns way set l 1 n m
-HasTurnsAt (Bytes stage) way set l n m = HasTurns way set l 1 n m
 HasTurnsAt (Mantissa x) way set l n m = HasTurns way set l 1 n m
 
 -- the turns are within n, by the unit that the machine waits for
@@ -112,9 +109,6 @@ turns_begun_at Map map way t l = turns_begun map way t l
 turns_begun_at Identifier map way t l = 0
 turns_begun_at (SegmentMap width) map way t l = 0
 turns_begun_at Field map way t l = 0
-turns_begun_at Text map way t l = 0
-turns_begun_at (Number stage) map way t l = 0
-turns_begun_at (Bytes stage) map way t l = 0
 turns_begun_at (Mantissa x) map way t l = 0
 
 -- For each bound on the elements, the rest of a message that has begun is within its most turns.

@@ -1,5 +1,5 @@
 -- The part of a unit that a machine reads, and the turn after it.
-use Rattle.std.specs.Prelude.{◌≡◌, ℕ, ◌<◌, ◌≤◌, true, List, [], length, take, Option, Result}
+use Rattle.std.specs.Prelude.{◌≡◌, ℕ, ◌<◌, ◌≤◌, true, List, length, take, Option, Result}
 use Rattle.fast_value.specs.declared.settings.Limits.{Limits}
 use Rattle.fast_value.specs.meaning.Limits.{bounds}
 use Rattle.fast_tree.specs.meaning.Tree.{FieldData}
@@ -14,11 +14,11 @@ use Rattle.fast_stream.specs.device.Readers.{Reader}
 use Rattle.fast_stream.specs.device.Machine.{after_bytes}
 use Rattle.fast_units.specs.device.Taking.{Quiet}
 use Rattle.fast_machine.specs.device.Handing.{due}
-use Rattle.fast_machine.specs.device.Positions.{Set, tree_in, IsAtField, IsReady, IsTurn}
+use Rattle.fast_units.specs.device.UnitFronts.{IsSent}
+use Rattle.fast_machine.specs.device.Positions.{Set, tree_in, state_in, bit_of, CanTurn, IsAtField, IsTurn}
 use Rattle.fast_stream.specs.declared.faults.FaultCode.{FaultCode}
 use Rattle.fast_machine.specs.declared.machine.Machine.{Machine}
 use Rattle.fast_machine.specs.declared.machine.Turn.{Turn}
-use Rattle.fast_machine.specs.declared.machine.Waiting.TheVariants.{Field}
 use Rattle.fast_units.specs.declared.fields.Number.{Number}
 use Rattle.fast_units.specs.declared.progress.Progress.TheVariants.{Whole}
 
@@ -30,15 +30,14 @@ pub record IsTakenTo {S : Type 0} (takes stops : S → EventData → S → Type 
   pub quiet : Quiet (due (tree_in set) l from) (take n rest)
   pub turn : IsTurn takes stops set l (after_bytes (due (tree_in set) l from) (take n rest)) s result s' m
 
--- A machine waited for a field, of which some bytes may be buffered, and the next ones end its last unit: this number, or NULL. The other
--- machine has stored it, has no byte buffered, and is otherwise unchanged.
-pub record IsSentItem (set : Set) (l : Limits) (m m' : Machine) (node : ℕ) (f : FieldData) (rest : List ℕ) (item : Option Number) (n : ℕ) : Type 0 where
-  pub kept : m' ≡ record m { slots = m'.slots; entity = m'.entity }
-  pub none : m'.entity.bytes ≡ []
+-- A machine is between two units, and these bytes begin a field that is in the stream, which the next ones end: this number, or NULL. The
+-- other machine has stored it, and is otherwise unchanged.
+pub record IsSentItem (set : Set) (l : Limits) (m m' : Machine) (node : ℕ) (f : FieldData) (front rest : List ℕ) (item : Option Number) (n : ℕ) : Type 0 where
+  pub kept : m' ≡ record m { slots = m'.slots }
   pub terms : slots_terms m'.slots ≡ slots_terms m.slots
-  pub waits : m.waiting ≡ Field
-  pub ready : IsReady set l m
+  pub turn : CanTurn set l m
+  pub sent : IsSent f (bit_of f (state_in (slots_dictionary m.slots) m.counted m.cursor))
   pub next : IsAtField set m.cursor node f
   pub unit : (scratch : List ℕ) → IsLastUnit (reader_of l.strict
-      (field_term (bounds l) f (previous_at f.entry (slots_dictionary m.slots)) true)) f m.entity.bytes rest (slots_dictionary m.slots)
+      (field_term (bounds l) f (previous_at f.entry (slots_dictionary m.slots)) true)) f front rest (slots_dictionary m.slots)
       (slots_dictionary m'.slots) scratch (Whole (source_of item) n)

@@ -34,6 +34,14 @@ IsNumberStage f (Vector n) = ⊥
 IsNumberStage f (Part k) = f.kind ≢ Ascii
 IsNumberStage f (PartVector k n) = ⊥
 
+-- The stage reads a string or a run of bytes.
+abbrev pub IsRunStage : FieldData → Stage → Type 0
+IsRunStage f (Mantissa e) = ⊥
+IsRunStage f (MantissaDelta e) = ⊥
+IsRunStage f (Vector n) = Unit {0}
+IsRunStage f (Part k) = f.kind ≡ Ascii
+IsRunStage f (PartVector k n) = Unit {0}
+
 -- These bytes of the part of a string delta have been read.
 abbrev pub IsPartFront : Bounds → FieldData → PreviousData → ℤ → List ℕ → Type 0
 IsPartFront l f p k front = (kept : Kept) × (subtraction_step f p k ≡ Ok kept) × ascii_text false (l.max_text - kept_length kept) front [] cut

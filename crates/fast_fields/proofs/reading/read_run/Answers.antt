@@ -17,10 +17,10 @@ returns-in-Cut-clause-reading c =
     let w = c.args.bytes.now in
     let same = c.in-Cut.ensures.unit.1 in (
       (
-        c.run_missing.ensures.0,
+        c.run_missing.ensures.keeps.0,
         λ v none short. bytes_open l.strict (bounds l) f (previous_at f.entry old) c.args.stage (w ++ v) c.requires.stage
             (subst (λ (d : Dictionary). IsBytesStage (bounds l) f (previous_at f.entry d) c.args.stage (w ++ v)) same
-            (c.run_missing.ensures.1 v none short)),
+            (c.run_missing.ensures.keeps.1 v none short)),
       ),
       same,
     )

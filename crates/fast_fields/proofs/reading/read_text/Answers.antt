@@ -1,4 +1,5 @@
 -- A string that is cut waits for more characters.
+use Rattle.std.proofs.Common.{refl}
 use Rattle.fast_value.specs.meaning.Limits.{bounds}
 use Rattle.fast_tree.specs.meaning.Nodes.{field_data}
 use Rattle.fast_dict.specs.meaning.Dictionary.{previous_at}
@@ -13,9 +14,9 @@ returns-in-Cut-clause-reading c =
     let f = field_data c.args.field.now in
     let p = previous_at f.entry (slots_dictionary c.args.slots.now) in (
       (
-        c.text_missing.ensures.0,
+        c.text_missing.ensures.keeps.0,
         λ v none short. ascii_field_open l.strict (bounds l) f p (c.args.bytes.now ++ v) c.requires.text c.requires.varies
-            (c.text_missing.ensures.1 v none short),
+            (c.text_missing.ensures.keeps.1 v (none refl) short),
       ),
       c.in-Cut.ensures.unit.1,
     )

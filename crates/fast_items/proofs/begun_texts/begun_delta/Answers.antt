@@ -1,4 +1,4 @@
--- The units before the last stand whole, and the last goes on behind the piece.
+-- The units before the last stand whole, and the last goes on after the piece.
 use Rattle.std.proofs.Common.{◌≡◌, ◌∙◌, ◌-◌, ◌<◌, ◌≤◌, subst, arith, [], drop, length, List, ℕ}
 use Rattle.std.specs.Prelude.{false, Some, option_map, pos}
 use Rattle.std.proofs.lemmas.List.{take_rest, length-drop}

@@ -1,4 +1,4 @@
--- The bytes stand behind their size, and more are to come.
+-- The bytes follow their size, and more are to come.
 use Rattle.std.proofs.Common.{◌∙◌, sym, ap, subst}
 use Rattle.std.specs.Prelude.{Bool, Some, option_map, pos}
 use Rattle.fast_fronts.specs.device.Fronts.{IsFirstInt}

@@ -23,7 +23,7 @@ returns-then-kept-gt0 g c =
     record {
       within = kept_within set l m a piece k kept;
       all = λ ok. size;
-      fed = kept_fed g.S.Sink.takes g.S.Sink.stops set l c.args.templates.now.nodes_name_later_nodes m a piece k c.args.sink.now kept;
+      fed = kept_fed g.S.Sink.takes g.S.Sink.stops set l m a piece k c.args.sink.now kept;
       ready = ready;
       supplied = ready.supplied;
       turns = λ way none h. (

@@ -48,7 +48,7 @@ returns-in-Waits g c =
     record {
       some = omega (arith, some);
       within = within_piece rest n k taken.within (kept_within set l b a (take (length rest - n) (drop n rest)) k kept);
-      fed = both_fed takes stops set l c.args.templates.now.nodes_name_later_nodes m b a rest n k c.args.sink.now unit.new.sink taken kept;
+      fed = both_fed takes stops set l m b a rest n k c.args.sink.now unit.new.sink taken kept;
       ready = ready;
       supplied = ready.supplied;
       turns = λ way. kept_counted set l m b a (take (length rest - n) (drop n rest)) n k kept way

@@ -19,15 +19,8 @@ use Rattle.fast_loop.proofs.arms.First.{idle_at, idle_reader, idle_takes, idle_t
 use Rattle.fast_loop.proofs.arms.Starts.{begun_on}
 use Rattle.fast_loop.proofs.start_arms.begin_first.Goals as goal
 
-pub first_message-requires-clause-supplied : goal.first_message-requires-clause-supplied
-first_message-requires-clause-supplied g c = c.requires.ready.supplied
-
-pub first_message-requires-clause-unused : goal.first_message-requires-clause-unused
-first_message-requires-clause-unused g c =
-    let m = c.args.machine.now in
-    let (waits, none) = idle_at m.waiting m.cursor.map (sym c.if-not-is_idle.ensures) in
-    let (unstopped, room, unused, place) = idle_takes (set_of c.args.templates.now) c.args.limits m waits none c.requires.ready in
-    unused
+pub first_message-requires : goal.first_message-requires
+first_message-requires g c = record { supplied = c.requires.ready.supplied }
 
 pub message_begins-went-requires : goal.message_begins-went-requires
 message_begins-went-requires g c =
@@ -38,14 +31,14 @@ message_begins-went-requires g c =
     let rest = c.args.piece.now in
     let head = c.in_ok-bytes.ensures in
     let (waits, none) = idle_at m.waiting m.cursor.map (sym c.if-not-is_idle.ensures) in
-    let (unstopped, room, unused, place) = idle_takes set l m waits none c.requires.ready in
+    let (unstopped, room, place) = idle_takes set l m waits none c.requires.ready in
     let some = head.ahead.some in
     let within = head.ahead.within in
     record {
       place = c.place.ensures.place;
       outermost = ap (λ (x : Machine). x.cursor.frames) head.same ∙ ap (λ (x : CursorData). x.frames) place;
       behind = subst (λ w. IsBehindMap set l (mapped_by b w)) (sym c.new.ensures)
-          (behind_map set l b rest head.supplied (ap (λ (x : Machine). x.entity.bytes) head.same ∙ unused) head.ahead.map);
+          (behind_map set l b rest head.supplied head.ahead.map);
       start = head.start;
       some = subst (λ w. 0 < length w) (sym c.new.ensures) (omega (arith, some, within));
       within = subst (λ w. c.in_ok-bytes.bytes ≤ length w) (sym c.new.ensures) within;

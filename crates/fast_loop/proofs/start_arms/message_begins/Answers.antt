@@ -35,8 +35,8 @@ returns-in-Err-clause-turn g c t found =
     (refl, c.in-Err.ensures.1)
     (supplied_like set l (mapped_by m rest) x c.requires.behind.supplied (record {
       terms = refl;
+      carry = refl;
       text = refl;
-      joined = refl;
       identifier = refl;
       rests = refl;
       latest = refl;

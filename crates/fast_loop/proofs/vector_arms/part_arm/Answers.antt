@@ -1,19 +1,12 @@
 -- The text that the entry holds when the part is joined to it.
-use Rattle.std.proofs.Common.{refl, sym, ap, ◌∙◌, subst, inl}
-use Rattle.std.specs.Prelude.{◌≡◌, ◌<◌, true, [], length, take, drop, option_map}
-use Rattle.fast_value.specs.meaning.Limits.{bounds}
+use Rattle.std.proofs.Common.{refl, sym, ap, ◌∙◌, inl}
+use Rattle.std.specs.Prelude.{[], take, drop, option_map}
 use Rattle.fast_dict.specs.declared.slots.Slots.{Slots}
-use Rattle.fast_dict.specs.meaning.Slots.{slots_dictionary, slots_terms}
 use Rattle.fast_units.specs.declared.scratch.Scratch.{Scratch}
-use Rattle.fast_items.specs.declared.taken.BegunText.{BegunText}
-use Rattle.fast_items.specs.device.TextsAs.{IsBegunText}
-use Rattle.fast_machine.specs.declared.machine.Machine.{Machine}
-use Rattle.fast_loop.specs.device.Begun.{IsKeptFrom}
-use Rattle.fast_loop.proofs.arms.CutTexts.{begun_went, kept_or_not}
 use Rattle.fast_value.specs.meaning.Values.{scalar_data}
 use Rattle.fast_tree.specs.declared.operators.Operator.TheVariants.{Delta}
 use Rattle.fast_machine.specs.device.Positions.{set_of}
-use Rattle.fast_loop.proofs.arms.Fields.{op_node, at_field, is_sent, entry_there, as_coded, served, field_of, uses_as}
+use Rattle.fast_loop.proofs.arms.Fields.{op_node, entry_there, as_coded, served, field_of, uses_as}
 use Rattle.fast_loop.proofs.arms.Texts.{entry_kept, text_taken}
 use Rattle.fast_loop.proofs.vector_arms.part_arm.Goals as goal
 
@@ -44,64 +37,30 @@ returns-in-Some g c =
     let kind = c.args.kind in
     let optional = c.args.optional in
     let slots = c.sent_delta.new.slots in
-    let joined = c.sent_delta.new.joined in
+    let text = c.sent_delta.new.joined in
     let taken = c.in-Some.taken in
     let (x, found) = op_node t m from.place op c.requires.at in
     let f = field_of t l m from.place op kind Delta optional c.requires.spot c.requires.at c.requires.field x found in
     let same = as_coded t l m from.place op kind Delta optional c.requires.spot c.requires.at c.requires.field x found in
     record {
-      went = c.hand_taken.ensures.went (set_of t) l m (record m { slots = slots; joined = joined }) f
+      went = c.hand_taken.ensures.went (set_of t) l m (record m { slots = slots; text = text }) f
           (sym (uses_as t l m from.place op kind Delta optional c.requires.spot c.requires.at c.requires.field x found)) refl
-          (text_taken t l m from op kind Delta optional c.requires.spot c.requires.at c.requires.field x found slots m.text joined
+          (text_taken t l m from op kind Delta optional c.requires.spot c.requires.at c.requires.field x found slots text
           taken.source taken.from taken.bytes [] (option_map scalar_data c.kept_at-value.result) (λ e. cc e)
-          (inl refl) c.in-Some.ensures.terms refl c.in-Some.ensures.joined
+          (inl refl) c.in-Some.ensures.terms c.in-Some.ensures.joined
           (c.in-Some.ensures.unit f [] same (served t l m from.place op kind Delta optional c.requires.spot c.requires.at c.requires.field x found))
           (c.kept_at-value.ensures f optional Delta [] (drop taken.from (take taken.bytes from.rest.bytes.now)) same refl));
     }
 
-pub keep_delta-kept-requires-clause-there : goal.keep_delta-kept-requires-clause-there
-keep_delta-kept-requires-clause-there g c =
-    let m = c.args.machine.now in
-    let p = c.args.spot.now.place in
-    let (x, found) = op_node c.args.templates.now m p c.args.op.now c.requires.at in
-    subst (λ (s : Slots). c.args.op.now.entry < length (slots_dictionary s)) (sym c.in-None.ensures.none.0)
-    (entry_there c.args.templates.now c.args.limits m p c.args.op.now c.args.kind Delta c.args.optional c.requires.spot c.requires.at
-    c.requires.field x found refl)
-
 pub returns-in-None : goal.returns-in-None
 returns-in-None g c =
-    let t = c.args.templates.now in
-    let l = c.args.limits in
     let m = c.args.machine.now in
-    let from = c.args.spot.now in
-    let op = c.args.op.now in
-    let kind = c.args.kind in
-    let optional = c.args.optional in
-    let slots = c.sent_delta.new.slots in
-    let joined = c.sent_delta.new.joined in
+    let text = c.sent_delta.new.joined in
     let none = c.in-None.ensures.none in
-    let kept = c.keep_delta-kept in
-    let done = c.kept_or_declined in
-    let (x, found) = op_node t m from.place op c.requires.at in
-    let f = field_of t l m from.place op kind Delta optional c.requires.spot c.requires.at c.requires.field x found in
-    let same : record m {
-      slots = slots;
-      joined = joined;
-    } ≡ m = ap (λ (s : Slots). record m { slots = s; joined = joined }) none.0 ∙ ap (λ (j : Scratch). record m { joined = j }) none.1 in
-    let told = subst (λ (a : Machine). kept.result ≡ true → (r : BegunText) × IsKeptFrom a kept.new.machine from.rest.bytes.now r
-    × IsBegunText kind optional Delta op.entry l.strict (slots_terms a.slots).max_text from.rest.bytes.now a.slots r) same
-    kept.ensures.kept in
     record {
-      went = kept_or_not g.S.Sink.takes g.S.Sink.stops (set_of t) l m kept.new.machine from done.new.spot done.result c.args.sink.now kept.result
-          (λ e.
-          let (r, in_hand, begun) = told e in
-          let (waits, place, end) = done.ensures.kept e in
-          begun_went g.S.Sink.takes g.S.Sink.stops (set_of t) l m kept.new.machine from done.new.spot done.result c.args.sink.now waits
-          place end c.requires.spot t.nodes_name_later_nodes op.node f
-          (at_field t l m from.place op kind Delta optional c.requires.spot c.requires.at c.requires.field x found)
-          (is_sent t l m from.place op kind Delta optional c.requires.spot c.requires.at c.requires.field x found (λ i. cc i) (inl refl)) r in_hand
-          (begun f (bounds l) (sym c.requires.spot.can.supplied.max_text)
-          (as_coded t l m from.place op kind Delta optional c.requires.spot c.requires.at c.requires.field x found)
-          (served t l m from.place op kind Delta optional c.requires.spot c.requires.at c.requires.field x found)))
-          done.ensures.declined (λ e. kept.ensures.same e ∙ same);
+      went = (
+        ap (λ (s : Slots). record m { slots = s; text = text }) none.0 ∙ ap (λ (x : Scratch). record m { text = x }) none.1,
+        refl,
+        refl,
+      );
     }

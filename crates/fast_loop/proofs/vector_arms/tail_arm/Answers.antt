@@ -1,18 +1,11 @@
 -- The text that the entry holds when the tail is joined to it, or nothing is sent of it.
-use Rattle.std.proofs.Common.{refl, sym, ap, ◌∙◌, subst}
-use Rattle.std.specs.Prelude.{◌≡◌, ℕ, true, [], take, drop, option_map}
-use Rattle.fast_value.specs.meaning.Limits.{bounds}
+use Rattle.std.proofs.Common.{refl, sym, ap}
+use Rattle.std.specs.Prelude.{[], take, drop, option_map}
 use Rattle.fast_dict.specs.declared.slots.Slots.{Slots}
-use Rattle.fast_dict.specs.meaning.Slots.{slots_terms}
-use Rattle.fast_items.specs.declared.taken.BegunText.{BegunText}
-use Rattle.fast_items.specs.device.TextsAs.{IsBegunText}
-use Rattle.fast_machine.specs.declared.machine.Machine.{Machine}
-use Rattle.fast_loop.specs.device.Begun.{IsKeptFrom}
-use Rattle.fast_loop.proofs.arms.CutTexts.{begun_went, kept_or_not}
 use Rattle.fast_value.specs.meaning.Values.{scalar_data}
 use Rattle.fast_tree.specs.declared.operators.Operator.TheVariants.{Tail}
 use Rattle.fast_machine.specs.device.Positions.{set_of}
-use Rattle.fast_loop.proofs.arms.Fields.{op_node, at_field, is_sent, entry_there, as_coded, served, field_of, uses_as}
+use Rattle.fast_loop.proofs.arms.Fields.{op_node, entry_there, as_coded, served, field_of, uses_as}
 use Rattle.fast_loop.proofs.arms.Texts.{entry_kept, text_taken}
 use Rattle.fast_loop.proofs.vector_arms.tail_arm.Goals as goal
 
@@ -50,44 +43,16 @@ returns-in-Some g c =
     record {
       went = c.hand_taken.ensures.went (set_of t) l m (record m { slots = slots }) f
           (sym (uses_as t l m from.place op kind Tail optional c.requires.spot c.requires.at c.requires.field x found)) refl
-          (text_taken t l m from op kind Tail optional c.requires.spot c.requires.at c.requires.field x found slots m.text m.joined
+          (text_taken t l m from op kind Tail optional c.requires.spot c.requires.at c.requires.field x found slots m.text
           taken.source taken.from taken.bytes [] (option_map scalar_data c.kept_at-value.result) (λ e. cc e)
-          (c.in-Sent.ensures.sent refl m.cursor c.requires.spot.place) c.in-Some.ensures.terms refl refl
+          (c.in-Sent.ensures.sent refl m.cursor c.requires.spot.place) c.in-Some.ensures.terms refl
           (c.in-Some.ensures.unit f [] same (served t l m from.place op kind Tail optional c.requires.spot c.requires.at c.requires.field x found))
           (c.kept_at-value.ensures f optional Tail [] (drop taken.from (take taken.bytes from.rest.bytes.now)) same refl));
     }
 
 pub returns-in-None : goal.returns-in-None
 returns-in-None g c =
-    let t = c.args.templates.now in
-    let l = c.args.limits in
     let m = c.args.machine.now in
-    let from = c.args.spot.now in
-    let op = c.args.op.now in
-    let kind = c.args.kind in
-    let optional = c.args.optional in
-    let slots = c.sent_tail.new.slots in
-    let none = c.in-None.ensures.none in
-    let kept = c.keep_vector-kept in
-    let done = c.kept_or_declined in
-    let (x, found) = op_node t m from.place op c.requires.at in
-    let f = field_of t l m from.place op kind Tail optional c.requires.spot c.requires.at c.requires.field x found in
-    let same : record m { slots = slots } ≡ m = ap (λ (s : Slots). record m { slots = s }) none in
-    let told = subst (λ (a : Machine). kept.result ≡ true → (r : BegunText) × IsKeptFrom a kept.new.machine from.rest.bytes.now r
-    × ((entry : ℕ) (s : Slots) → IsBegunText kind optional Tail entry l.strict (slots_terms a.slots).max_text from.rest.bytes.now s r)) same
-    kept.ensures.kept in
     record {
-      went = kept_or_not g.S.Sink.takes g.S.Sink.stops (set_of t) l m kept.new.machine from done.new.spot done.result c.args.sink.now kept.result
-          (λ e.
-          let (r, in_hand, begun) = told e in
-          let (waits, place, end) = done.ensures.kept e in
-          begun_went g.S.Sink.takes g.S.Sink.stops (set_of t) l m kept.new.machine from done.new.spot done.result c.args.sink.now waits
-          place end c.requires.spot t.nodes_name_later_nodes op.node f
-          (at_field t l m from.place op kind Tail optional c.requires.spot c.requires.at c.requires.field x found)
-          (is_sent t l m from.place op kind Tail optional c.requires.spot c.requires.at c.requires.field x found (λ i. cc i)
-          (c.in-Sent.ensures.sent refl m.cursor c.requires.spot.place)) r in_hand
-          (begun op.entry m.slots f (bounds l) (sym c.requires.spot.can.supplied.max_text)
-          (as_coded t l m from.place op kind Tail optional c.requires.spot c.requires.at c.requires.field x found)
-          (served t l m from.place op kind Tail optional c.requires.spot c.requires.at c.requires.field x found)))
-          done.ensures.declined (λ e. kept.ensures.same e ∙ same);
+      went = (ap (λ (s : Slots). record m { slots = s }) c.in-None.ensures.none, refl, refl);
     }

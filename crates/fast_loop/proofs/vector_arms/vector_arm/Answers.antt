@@ -6,10 +6,9 @@ use Rattle.fast_tree.specs.declared.operators.Operator.TheVariants.{None}
 use Rattle.fast_dict.specs.meaning.Slots.{slots_dictionary}
 use Rattle.fast_units.specs.device.Settling.{value_at}
 use Rattle.fast_machine.specs.device.Positions.{set_of}
-use Rattle.fast_value.specs.meaning.Limits.{bounds}
-use Rattle.fast_loop.proofs.arms.CutTexts.{begun_went, kept_or_not}
-use Rattle.fast_loop.proofs.arms.Fields.{op_node, at_field, is_sent, as_coded, served, field_of, uses_as}
-use Rattle.fast_loop.proofs.arms.Texts.{bytes_between, text_taken}
+use Rattle.fast_loop.proofs.arms.Fields.{op_node, as_coded, served, field_of, uses_as}
+use Rattle.fast_machine.proofs.machines.FieldTakes.{bytes_between}
+use Rattle.fast_loop.proofs.arms.Texts.{text_taken}
 use Rattle.fast_loop.proofs.vector_arms.vector_arm.Goals as goal
 
 pub returns-in-Some : goal.returns-in-Some
@@ -28,40 +27,12 @@ returns-in-Some g c =
     record {
       went = c.hand_taken.ensures.went (set_of t) l m m f
           (sym (uses_as t l m from.place op kind None optional c.requires.spot c.requires.at c.requires.field x found)) refl
-          (text_taken t l m from op kind None optional c.requires.spot c.requires.at c.requires.field x found m.slots m.text m.joined
+          (text_taken t l m from op kind None optional c.requires.spot c.requires.at c.requires.field x found m.slots m.text
           taken.source taken.from taken.bytes [] (option_map scalar_data c.lent_at-value.result) (λ e. cc e)
-          (inl refl) refl refl refl
+          (inl refl) refl refl
           (c.in-Some.ensures.unit op.entry m.slots f [] same (served t l m from.place op kind None optional c.requires.spot c.requires.at
           c.requires.field x found))
           (c.lent_at-value.ensures f (slots_dictionary m.slots) [] same.kind
           ∙ ap (value_at taken.source f (slots_dictionary m.slots) [])
           (bytes_between taken.from taken.bytes from.rest.bytes.now c.in-Some.ensures.within.0)));
-    }
-
-pub returns-in-None : goal.returns-in-None
-returns-in-None g c =
-    let t = c.args.templates.now in
-    let l = c.args.limits in
-    let m = c.args.machine.now in
-    let from = c.args.spot.now in
-    let op = c.args.op.now in
-    let kind = c.args.kind in
-    let optional = c.args.optional in
-    let kept = c.keep_vector-kept in
-    let done = c.kept_or_declined in
-    let (x, found) = op_node t m from.place op c.requires.at in
-    let f = field_of t l m from.place op kind None optional c.requires.spot c.requires.at c.requires.field x found in
-    record {
-      went = kept_or_not g.S.Sink.takes g.S.Sink.stops (set_of t) l m kept.new.machine from done.new.spot done.result c.args.sink.now kept.result
-          (λ e.
-          let (r, in_hand, begun) = kept.ensures.kept e in
-          let (waits, place, end) = done.ensures.kept e in
-          begun_went g.S.Sink.takes g.S.Sink.stops (set_of t) l m kept.new.machine from done.new.spot done.result c.args.sink.now waits
-          place end c.requires.spot t.nodes_name_later_nodes op.node f
-          (at_field t l m from.place op kind None optional c.requires.spot c.requires.at c.requires.field x found)
-          (is_sent t l m from.place op kind None optional c.requires.spot c.requires.at c.requires.field x found (λ i. cc i) (inl refl)) r in_hand
-          (begun op.entry m.slots f (bounds l) (sym c.requires.spot.can.supplied.max_text)
-          (as_coded t l m from.place op kind None optional c.requires.spot c.requires.at c.requires.field x found)
-          (served t l m from.place op kind None optional c.requires.spot c.requires.at c.requires.field x found)))
-          done.ensures.declined kept.ensures.same;
     }

@@ -38,9 +38,6 @@ take_vector-requires-clause-limit c = c.requires.limit
 pub take_vector-requires-clause-scratch : goal.take_vector-requires-clause-scratch
 take_vector-requires-clause-scratch c = c.requires.room
 
-pub take_vector-requires-clause-joined : goal.take_vector-requires-clause-joined
-take_vector-requires-clause-joined c = c.requires.joined
-
 pub take_part-requires-clause-serves : goal.take_part-requires-clause-serves
 take_part-requires-clause-serves c = c.requires.serves
 
@@ -50,9 +47,6 @@ take_part-requires-clause-limit c = c.requires.limit
 pub take_part-requires-clause-scratch : goal.take_part-requires-clause-scratch
 take_part-requires-clause-scratch c = c.requires.room
 
-pub take_part-requires-clause-joined : goal.take_part-requires-clause-joined
-take_part-requires-clause-joined c = c.requires.joined
-
 pub take_part_vector-requires-clause-serves : goal.take_part_vector-requires-clause-serves
 take_part_vector-requires-clause-serves c = c.requires.serves
 
@@ -61,9 +55,6 @@ take_part_vector-requires-clause-limit c = c.requires.limit
 
 pub take_part_vector-requires-clause-scratch : goal.take_part_vector-requires-clause-scratch
 take_part_vector-requires-clause-scratch c = c.requires.room
-
-pub take_part_vector-requires-clause-joined : goal.take_part_vector-requires-clause-joined
-take_part_vector-requires-clause-joined c = c.requires.joined
 
 pub returns-in-Vector-clause-unit : goal.returns-in-Vector-clause-unit
 returns-in-Vector-clause-unit c =
@@ -85,7 +76,7 @@ pub returns-in-Vector-clause-terms : goal.returns-in-Vector-clause-terms
 returns-in-Vector-clause-terms c = c.take_vector.ensures.terms
 
 pub returns-in-Vector-clause-capacity : goal.returns-in-Vector-clause-capacity
-returns-in-Vector-clause-capacity c = (c.take_vector.ensures.scratch, c.take_vector.ensures.joined)
+returns-in-Vector-clause-capacity c = c.take_vector.ensures.scratch
 
 pub returns-in-Vector-clause-kept : goal.returns-in-Vector-clause-kept
 returns-in-Vector-clause-kept c i =
@@ -103,7 +94,7 @@ pub returns-in-Part-clause-terms : goal.returns-in-Part-clause-terms
 returns-in-Part-clause-terms c = c.take_part.ensures.terms
 
 pub returns-in-Part-clause-capacity : goal.returns-in-Part-clause-capacity
-returns-in-Part-clause-capacity c = (c.take_part.ensures.scratch, c.take_part.ensures.joined)
+returns-in-Part-clause-capacity c = c.take_part.ensures.scratch
 
 pub returns-in-Part-clause-kept : goal.returns-in-Part-clause-kept
 returns-in-Part-clause-kept c i =
@@ -141,7 +132,7 @@ pub returns-in-PartVector-clause-terms : goal.returns-in-PartVector-clause-terms
 returns-in-PartVector-clause-terms c = c.take_part_vector.ensures.terms
 
 pub returns-in-PartVector-clause-capacity : goal.returns-in-PartVector-clause-capacity
-returns-in-PartVector-clause-capacity c = (c.take_part_vector.ensures.scratch, c.take_part_vector.ensures.joined)
+returns-in-PartVector-clause-capacity c = c.take_part_vector.ensures.scratch
 
 pub returns-in-PartVector-clause-kept : goal.returns-in-PartVector-clause-kept
 returns-in-PartVector-clause-kept c i =

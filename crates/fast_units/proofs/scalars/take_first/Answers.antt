@@ -1,4 +1,4 @@
-use Rattle.std.proofs.Common.{rules, sym, ap, subst, true, List, ℕ}
+use Rattle.std.proofs.Common.{◌∙◌, ap, true}
 use Rattle.fast_value.specs.meaning.Kinds.{family}
 use Rattle.fast_value.specs.meaning.Limits.{bounds}
 use Rattle.fast_tree.specs.meaning.Nodes.{field_data}
@@ -6,7 +6,6 @@ use Rattle.fast_dict.specs.meaning.Dictionary.{previous_at}
 use Rattle.fast_dict.specs.meaning.Slots.{slots_dictionary}
 use Rattle.fast_stream.specs.meaning.Fields.{field_term}
 use Rattle.fast_stream.specs.device.GrammarReaders.{reader_of}
-use Rattle.fast_units.specs.device.Stages.{IsFieldUnit}
 use Rattle.fast_units.proofs.ScalarTakes.{next_of_decimal, next_of_text, kept_entity}
 use Rattle.fast_units.proofs.scalars.take_first.Goals as goal
 
@@ -40,12 +39,11 @@ returns-in_default c = let l = c.args.limits in
     let old = slots_dictionary c.args.slots.now in
     let p = previous_at f.entry old in
     record {
-      unit = subst (λ (scratch : List ℕ). IsFieldUnit l (reader_of l.strict (field_term (bounds l) f p true)) f c.args.pending.now.bytes
-          c.args.rest.now old (slots_dictionary c.take_size.new.slots) scratch c.take_size.result)
-          (sym c.clear.ensures.text) c.take_size.ensures.unit;
+      unit = c.take_size.ensures.unit;
       next = next_of_text (bounds l) f p c.take_size.result c.take_size.ensures.more;
       pending = kept_entity c.args.pending.now.bytes c.args.rest.now c.take_size.new.pending.bytes c.take_size.result
           c.take_size.ensures.whole c.take_size.ensures.cut;
-      terms = search rules;
-      capacity = search rules;
+      short = c.take_size.ensures.short;
+      terms = c.take_size.ensures.terms;
+      capacity = c.take_size.ensures.scratch ∙ c.clear.ensures.capacity;
     }

@@ -10,7 +10,7 @@ use Rattle.fast_stream.specs.device.GrammarReaders.{reader_of}
 use Rattle.fast_units.specs.device.Stages.{term_behind, IsFieldUnit}
 use Rattle.fast_units.specs.declared.stages.Stage.{Stage}
 use Rattle.fast_units.specs.declared.stages.Stage.TheVariants.{Mantissa, MantissaDelta, Part}
-use Rattle.fast_units.proofs.ScalarTakes.{unit_settled, next_of_text, kept_settled, next_settled, no_number}
+use Rattle.fast_units.proofs.ScalarTakes.{not_next, unit_settled, next_of_text, kept_settled, next_settled, no_number}
 use Rattle.fast_units.proofs.scalars.take_number.Goals as goal
 
 pub returns-in-Mantissa-clause-unit : goal.returns-in-Mantissa-clause-unit
@@ -96,17 +96,30 @@ returns-in-MantissaDelta-clause-terms c = c.take_mantissa_delta.ensures.terms
 pub take_part_size-requires-clause-limit : goal.take_part_size-requires-clause-limit
 take_part_size-requires-clause-limit c = c.requires.limit
 
-pub take_part_size-requires-clause-joined : goal.take_part_size-requires-clause-joined
-take_part_size-requires-clause-joined c = c.requires.joined
+pub take_part_size-requires-clause-scratch : goal.take_part_size-requires-clause-scratch
+take_part_size-requires-clause-scratch c = c.requires.room
 
 pub returns-in-Part-clause-terms : goal.returns-in-Part-clause-terms
 returns-in-Part-clause-terms c = c.take_part_size.ensures.terms
 
 pub returns-in-Part-clause-capacity : goal.returns-in-Part-clause-capacity
-returns-in-Part-clause-capacity c = c.take_part_size.ensures.joined
+returns-in-Part-clause-capacity c = c.take_part_size.ensures.scratch
 
 pub returns-in-Vector-clause-unit : goal.returns-in-Vector-clause-unit
 returns-in-Vector-clause-unit c = absurd (no_number (field_data c.args.field.now) c.args.stage c.in-Vector.is c.requires.number)
 
 pub returns-in-Vector-clause-pending : goal.returns-in-Vector-clause-pending
 returns-in-Vector-clause-pending c = absurd (no_number (field_data c.args.field.now) c.args.stage c.in-Vector.is c.requires.number)
+
+pub returns-in-Mantissa-clause-short : goal.returns-in-Mantissa-clause-short
+returns-in-Mantissa-clause-short c stage n e = absurd (not_next c.take_mantissa.result c.settled.result c.settled.ensures stage n e)
+
+pub returns-in-MantissaDelta-clause-short : goal.returns-in-MantissaDelta-clause-short
+returns-in-MantissaDelta-clause-short c stage n e =
+    absurd (not_next c.take_mantissa_delta.result c.settled-in-MantissaDelta.result c.settled-in-MantissaDelta.ensures stage n e)
+
+pub returns-in-Part-clause-short : goal.returns-in-Part-clause-short
+returns-in-Part-clause-short c stage n e = c.take_part_size.ensures.short stage n e
+
+pub returns-in-Vector-clause-short : goal.returns-in-Vector-clause-short
+returns-in-Vector-clause-short c stage n e = absurd (cc e)

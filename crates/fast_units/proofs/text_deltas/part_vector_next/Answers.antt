@@ -1,4 +1,4 @@
-use Rattle.std.proofs.Common.{◌≡◌, ◌∙◌, sym, ap, refl, subst, arith, ℕ, ℤ, ◌-◌}
+use Rattle.std.proofs.Common.{◌≡◌, ◌∙◌, sym, ap, refl, subst, arith, List, ℕ, ℤ, ◌-◌}
 use Rattle.std.specs.Prelude.{Ok, Err, Some, pos, nat_le, if◌then◌else◌}
 use Rattle.fast_value.specs.declared.codes.Code.TheVariants.{L1}
 use mir.Syntax.{w32}
@@ -6,12 +6,13 @@ use Rattle.std.proofs.lemmas.Int.{to_z-of_z}
 use Rattle.fast_value.specs.meaning.Limits.{bounds}
 use Rattle.fast_tree.specs.meaning.Nodes.{field_data}
 use Rattle.fast_dict.specs.meaning.Dictionary.{previous_at}
-use Rattle.fast_dict.specs.meaning.Operators.{kept_length, subtraction_step}
+use Rattle.fast_dict.specs.meaning.Operators.{kept_length, subtraction_step, text_step}
 use Rattle.fast_dict.specs.meaning.Slots.{slots_dictionary}
 use Rattle.fast_stream.specs.device.GrammarReaders.{reader_of}
 use Rattle.fast_units.specs.device.Stages.{term_behind}
 use Rattle.fast_units.specs.device.TextDecisions.{IsStepped, behind_part_size}
 use Rattle.fast_units.specs.declared.stages.Stage.TheVariants.{PartVector}
+use Rattle.fast_units.proofs.TextOutcomes.{decided_as}
 use Rattle.fast_units.proofs.TextUnits.{part_size_fits, part_size_none, part_vector_here, stepped, part_size_wrong}
 use Rattle.std.proofs.lemmas.Result.{err_from_is_err_and}
 use Rattle.fast_units.proofs.text_deltas.part_vector_next.Goals as goal
@@ -47,7 +48,8 @@ returns-clause-step c kept e scratch piece =
     subst (λ r. IsStepped l (reader_of l.strict (behind_part_size (bounds l) f p kept (Some (pos c.args.size)))) f old
     (slots_dictionary c.finish_part.new.slots) scratch piece r) (sym c.settled.ensures)
     (stepped l _ f old (slots_dictionary c.finish_part.new.slots) scratch piece _ c.finish_part.result none
-    (c.finish_part.ensures.field kept (wrapped ∙ e) scratch piece))
+    (decided_as f old (slots_dictionary c.finish_part.new.slots) scratch piece c.finish_part.result
+    (ap (λ (t : List ℕ). text_step f kept t) (sym c.clear.ensures.text)) (c.finish_part.ensures.field kept (wrapped ∙ e) scratch piece)))
 
 pub returns-in_err-size-clause-more : goal.returns-in_err-size-clause-more
 returns-in_err-size-clause-more c = rw ((err_from_is_err_and c.from_residual.result c.from_residual.ensures.1).1) tt
@@ -65,7 +67,7 @@ pub finish_part-requires-clause-delta : goal.finish_part-requires-clause-delta
 finish_part-requires-clause-delta c = c.requires.stage.1
 
 pub finish_part-requires-clause-room : goal.finish_part-requires-clause-room
-finish_part-requires-clause-room c = c.requires.joined
+finish_part-requires-clause-room c = rw c.clear.ensures.capacity c.requires.scratch
 
 pub returns-in_err-size-clause-step : goal.returns-in_err-size-clause-step
 returns-in_err-size-clause-step c kept e scratch piece =
@@ -82,8 +84,8 @@ returns-in_err-size-clause-step c kept e scratch piece =
 pub returns-in_err-size-clause-terms : goal.returns-in_err-size-clause-terms
 returns-in_err-size-clause-terms c = refl
 
-pub returns-in_err-size-clause-joined : goal.returns-in_err-size-clause-joined
-returns-in_err-size-clause-joined c = refl
+pub returns-in_err-size-clause-scratch : goal.returns-in_err-size-clause-scratch
+returns-in_err-size-clause-scratch c = refl
 
 pub returns-then-size-gt0-clause-more : goal.returns-then-size-gt0-clause-more
 returns-then-size-gt0-clause-more c = c.if-size-gt0.true
@@ -91,11 +93,11 @@ returns-then-size-gt0-clause-more c = c.if-size-gt0.true
 pub returns-then-size-gt0-clause-terms : goal.returns-then-size-gt0-clause-terms
 returns-then-size-gt0-clause-terms c = refl
 
-pub returns-then-size-gt0-clause-joined : goal.returns-then-size-gt0-clause-joined
-returns-then-size-gt0-clause-joined c = refl
+pub returns-then-size-gt0-clause-scratch : goal.returns-then-size-gt0-clause-scratch
+returns-then-size-gt0-clause-scratch c = refl
 
 pub returns-clause-terms : goal.returns-clause-terms
 returns-clause-terms c = c.finish_part.ensures.terms
 
-pub returns-clause-joined : goal.returns-clause-joined
-returns-clause-joined c = c.finish_part.ensures.capacity
+pub returns-clause-scratch : goal.returns-clause-scratch
+returns-clause-scratch c = c.finish_part.ensures.capacity ∙ c.clear.ensures.capacity

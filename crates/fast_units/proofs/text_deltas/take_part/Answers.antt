@@ -55,12 +55,12 @@ returns-in-Whole-true-default-clause-unit c =
     let text = c.next_ascii.new.scratch.text in
     let n = c.in-Whole-true-default.bytes in
     let x : Option (List ℕ) = text_or_null text c.in-Whole-true-default.field-0 in
-    let i : x ≡ Some c.as_slice-part.result.now = ap (text_or_null text) c.in-Whole-true-default.field-0-test ∙ ap Some (sym c.as_slice-part.ensures) in
+    let i : x ≡ Some text = ap (text_or_null text) c.in-Whole-true-default.field-0-test in
     text_last l.strict g (part_change f p kept) (reader_behind l f old (Part k)) here f front c.args.rest.now old
-    (slots_dictionary c.finish_part.new.slots) text n x (c.in-Whole-true-default.ensures.unit l.strict)
-    (text_step f kept c.as_slice-part.result.now) c.finish_part.result c.answered.result c.answered.ensures (ap (part_change f p kept) i)
+    (slots_dictionary c.finish_part.new.slots) c.finish_part.new.scratch.text n x (c.in-Whole-true-default.ensures.unit l.strict)
+    (text_step f kept text) c.finish_part.result c.answered.result c.answered.ensures (ap (part_change f p kept) i)
     (c.finish_part.ensures.field kept (ap (λ (z : ℤ). subtraction_step f p z) (to_z-of_z w32 c.args.subtraction c.ranges.subtraction)
-    ∙ step) text (take n c.args.rest.now))
+    ∙ step) c.finish_part.new.scratch.text (take n c.args.rest.now))
 
 pub returns-in-Whole-false-default-clause-unit : goal.returns-in-Whole-false-default-clause-unit
 returns-in-Whole-false-default-clause-unit c =
@@ -155,7 +155,7 @@ finish_part-requires-clause-fits c kept step =
     (ap (λ t. Whole t c.in-Whole-true-default.bytes) c.in-Whole-true-default.field-0-test) in
     let room = c.part_room-room.ensures.room kept step in
     let most = c.requires.limit.0 in
-    rw c.as_slice-part.ensures (omega (arith, whole, room, most))
+    omega (arith, whole, room, most)
 
 pub returns-in-Whole-false-default-clause-cut : goal.returns-in-Whole-false-default-clause-cut
 returns-in-Whole-false-default-clause-cut c e = absurd (answered_whole (Ok c.finish_absent.result) c.in-Whole-false-default.bytes e)
@@ -176,7 +176,7 @@ pub finish_part-requires-clause-delta : goal.finish_part-requires-clause-delta
 finish_part-requires-clause-delta c = c.requires.stage.1
 
 pub finish_part-requires-clause-room : goal.finish_part-requires-clause-room
-finish_part-requires-clause-room c = c.requires.joined
+finish_part-requires-clause-room c = rw c.in-Whole-true-default.ensures.capacity c.requires.scratch
 
 pub finish_absent-requires-clause-serves : goal.finish_absent-requires-clause-serves
 finish_absent-requires-clause-serves c = c.requires.serves
@@ -185,10 +185,7 @@ pub returns-in-Whole-true-default-clause-terms : goal.returns-in-Whole-true-defa
 returns-in-Whole-true-default-clause-terms c = c.finish_part.ensures.terms
 
 pub returns-in-Whole-true-default-clause-scratch : goal.returns-in-Whole-true-default-clause-scratch
-returns-in-Whole-true-default-clause-scratch c = c.in-Whole-true-default.ensures.capacity
-
-pub returns-in-Whole-true-default-clause-joined : goal.returns-in-Whole-true-default-clause-joined
-returns-in-Whole-true-default-clause-joined c = c.finish_part.ensures.capacity
+returns-in-Whole-true-default-clause-scratch c = c.finish_part.ensures.capacity ∙ c.in-Whole-true-default.ensures.capacity
 
 pub returns-in-Whole-false-default-clause-terms : goal.returns-in-Whole-false-default-clause-terms
 returns-in-Whole-false-default-clause-terms c = c.finish_absent.ensures.terms
@@ -196,23 +193,14 @@ returns-in-Whole-false-default-clause-terms c = c.finish_absent.ensures.terms
 pub returns-in-Whole-false-default-clause-scratch : goal.returns-in-Whole-false-default-clause-scratch
 returns-in-Whole-false-default-clause-scratch c = c.in-Whole-false-default.ensures.capacity
 
-pub returns-in-Whole-false-default-clause-joined : goal.returns-in-Whole-false-default-clause-joined
-returns-in-Whole-false-default-clause-joined c = refl
-
 pub returns-in-Wrong-clause-terms : goal.returns-in-Wrong-clause-terms
 returns-in-Wrong-clause-terms c = refl
 
 pub returns-in-Wrong-clause-scratch : goal.returns-in-Wrong-clause-scratch
 returns-in-Wrong-clause-scratch c = c.in-Wrong.ensures.capacity
 
-pub returns-in-Wrong-clause-joined : goal.returns-in-Wrong-clause-joined
-returns-in-Wrong-clause-joined c = refl
-
 pub returns-in-Cut-clause-terms : goal.returns-in-Cut-clause-terms
 returns-in-Cut-clause-terms c = refl
 
 pub returns-in-Cut-clause-scratch : goal.returns-in-Cut-clause-scratch
 returns-in-Cut-clause-scratch c = c.in-Cut.ensures.capacity
-
-pub returns-in-Cut-clause-joined : goal.returns-in-Cut-clause-joined
-returns-in-Cut-clause-joined c = refl

@@ -17,7 +17,7 @@ use Rattle.fast_units.specs.declared.stages.Stage.TheVariants.{Part}
 use Rattle.fast_units.proofs.LastUnits.{unit_stops, unit_stays, number_within}
 use Rattle.fast_wire.specs.meaning.Integers.{IsWithin}
 use Rattle.fast_units.proofs.TextSizes.{size_again}
-use Rattle.fast_units.proofs.TextUnits.{part_size_field, text_next, answered_whole, answered_more}
+use Rattle.fast_units.proofs.TextUnits.{short_answer, part_size_field, text_next, answered_whole, answered_more}
 use Rattle.fast_units.specs.declared.stages.FieldStep.{FieldStep}
 use Rattle.fast_units.proofs.text_deltas.take_part_size.Goals as goal
 
@@ -121,8 +121,8 @@ part_vector_next-requires-clause-limit c = c.requires.limit
 pub part_vector_next-requires-clause-kind : goal.part_vector_next-requires-clause-kind
 part_vector_next-requires-clause-kind c = c.requires.kind
 
-pub part_vector_next-requires-clause-joined : goal.part_vector_next-requires-clause-joined
-part_vector_next-requires-clause-joined c = c.requires.joined
+pub part_vector_next-requires-clause-scratch : goal.part_vector_next-requires-clause-scratch
+part_vector_next-requires-clause-scratch c = c.requires.scratch
 
 pub returns-in-Wrong-clause-whole : goal.returns-in-Wrong-clause-whole
 returns-in-Wrong-clause-whole c step n e = answered_more {T = FieldStep} (λ s. c.next_unsigned.new.pending.bytes ≡ [])
@@ -131,20 +131,31 @@ returns-in-Wrong-clause-whole c step n e = answered_more {T = FieldStep} (λ s. 
 pub returns-in-Whole-clause-terms : goal.returns-in-Whole-clause-terms
 returns-in-Whole-clause-terms c = c.part_vector_next.ensures.terms
 
-pub returns-in-Whole-clause-joined : goal.returns-in-Whole-clause-joined
-returns-in-Whole-clause-joined c = c.part_vector_next.ensures.joined
+pub returns-in-Whole-clause-scratch : goal.returns-in-Whole-clause-scratch
+returns-in-Whole-clause-scratch c = c.part_vector_next.ensures.scratch
 
 pub returns-in-Wrong-clause-terms : goal.returns-in-Wrong-clause-terms
 returns-in-Wrong-clause-terms c = refl
 
-pub returns-in-Wrong-clause-joined : goal.returns-in-Wrong-clause-joined
-returns-in-Wrong-clause-joined c = refl
+pub returns-in-Wrong-clause-scratch : goal.returns-in-Wrong-clause-scratch
+returns-in-Wrong-clause-scratch c = refl
 
 pub returns-in-Cut-clause-terms : goal.returns-in-Cut-clause-terms
 returns-in-Cut-clause-terms c = refl
 
-pub returns-in-Cut-clause-joined : goal.returns-in-Cut-clause-joined
-returns-in-Cut-clause-joined c = refl
+pub returns-in-Cut-clause-scratch : goal.returns-in-Cut-clause-scratch
+returns-in-Cut-clause-scratch c = refl
 
 pub returns-in-Whole-clause-whole : goal.returns-in-Whole-clause-whole
 returns-in-Whole-clause-whole c step n e = c.in-Whole.ensures.whole c.in-Whole.size c.in-Whole.bytes refl
+
+pub returns-in-Whole-clause-short : goal.returns-in-Whole-clause-short
+returns-in-Whole-clause-short c stage n e =
+    short_answer c.part_vector_next.result c.answered.result c.in-Whole.bytes c.answered.ensures
+    (c.in-Whole.ensures.short c.in-Whole.size c.in-Whole.bytes refl) stage n e
+
+pub returns-in-Wrong-clause-short : goal.returns-in-Wrong-clause-short
+returns-in-Wrong-clause-short c stage n e = absurd (cc e)
+
+pub returns-in-Cut-clause-short : goal.returns-in-Cut-clause-short
+returns-in-Cut-clause-short c stage n e = absurd (cc e)

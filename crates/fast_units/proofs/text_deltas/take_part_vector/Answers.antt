@@ -21,8 +21,8 @@ use Rattle.fast_units.proofs.TextUnits.{part_vector_field, text_last, one_kept, 
 use Rattle.fast_units.specs.declared.source.ValueSource.{ValueSource}
 use Rattle.fast_units.proofs.text_deltas.take_part_vector.Goals as goal
 
-pub slice_bounds-part-end : goal.slice_bounds-part-end
-slice_bounds-part-end c =
+pub slice_bounds-set-end : goal.slice_bounds-set-end
+slice_bounds-set-end c =
     let (some, within, turns, len) = c.in-Whole-Piece-default.ensures.unit c.args.limits.strict in
     sym (length-take-le c.in-Whole-Piece-default.bytes c.args.rest.now within)
 
@@ -45,7 +45,7 @@ finish_part-requires-clause-fits c other e =
     (sym (to_z-of_z w32 c.args.subtraction c.ranges.subtraction)) ∙ e) in
     let most = c.requires.limit.0 in
     let kepts : kept_length kept ≡ kept_length other = ap kept_length same in
-    omega (arith, len, is, fits, most, kepts)
+    rw c.set.ensures.text (omega (arith, len, is, fits, most, kepts))
 
 pub finish_part-requires-in-Whole-Scratch-default-clause-fits : goal.finish_part-requires-in-Whole-Scratch-default-clause-fits
 finish_part-requires-in-Whole-Scratch-default-clause-fits c other e =
@@ -66,7 +66,7 @@ finish_part-requires-in-Whole-Scratch-default-clause-fits c other e =
     (sym (to_z-of_z w32 c.args.subtraction c.ranges.subtraction)) ∙ e) in
     let most = c.requires.limit.0 in
     let kepts : kept_length kept ≡ kept_length other = ap kept_length same in
-    rw c.as_slice-part.ensures (omega (arith, len, is, fits, most, kepts))
+    omega (arith, len, is, fits, most, kepts)
 
 pub returns-in-Whole-Piece-default-clause-unit : goal.returns-in-Whole-Piece-default-clause-unit
 returns-in-Whole-Piece-default-clause-unit c =
@@ -85,12 +85,13 @@ returns-in-Whole-Piece-default-clause-unit c =
     let n = c.in-Whole-Piece-default.bytes in
     let (some, within, turns, len) = c.in-Whole-Piece-default.ensures.unit l.strict in
     let x : List ℕ = run_at c.in-Whole-Piece-default.field-0 text (take n c.args.rest.now) in
-    let i : x ≡ (take n c.args.rest.now) = ap (λ (r : Run). run_at r text (take n c.args.rest.now)) c.in-Whole-Piece-default.field-0-is in
+    let i : x ≡ c.set.new.self.text = ap (λ (r : Run). run_at r text (take n c.args.rest.now)) c.in-Whole-Piece-default.field-0-is
+    ∙ sym c.set.ensures.text in
     text_last l.strict g then (reader_behind l f old (PartVector k c.args.size)) here f front c.args.rest.now old
-    (slots_dictionary c.finish_part.new.slots) text n x (some, within, turns)
-    (text_step f kept (take n c.args.rest.now)) c.finish_part.result c.answered.result c.answered.ensures (ap then i)
+    (slots_dictionary c.finish_part.new.slots) c.finish_part.new.scratch.text n x (some, within, turns)
+    (text_step f kept c.set.new.self.text) c.finish_part.result c.answered.result c.answered.ensures (ap then i)
     (c.finish_part.ensures.field kept (ap (λ (z : ℤ). subtraction_step f p z) (to_z-of_z w32 c.args.subtraction c.ranges.subtraction)
-    ∙ step) text (take n c.args.rest.now))
+    ∙ step) c.finish_part.new.scratch.text (take n c.args.rest.now))
 
 pub returns-in-Whole-Scratch-default-clause-unit : goal.returns-in-Whole-Scratch-default-clause-unit
 returns-in-Whole-Scratch-default-clause-unit c =
@@ -109,14 +110,14 @@ returns-in-Whole-Scratch-default-clause-unit c =
     let n = c.in-Whole-Scratch-default.bytes in
     let (some, within, turns, len) = c.in-Whole-Scratch-default.ensures.unit l.strict in
     let x : List ℕ = run_at c.in-Whole-Scratch-default.field-0 text (take n c.args.rest.now) in
-    let i : x ≡ c.as_slice-part.result.now = ap (λ (r : Run). run_at r text (take n c.args.rest.now)) c.in-Whole-Scratch-default.field-0-is
-    ∙ sym c.as_slice-part.ensures in
+    let i : x ≡ text = ap (λ (r : Run). run_at r text (take n c.args.rest.now)) c.in-Whole-Scratch-default.field-0-is in
     text_last l.strict g then (reader_behind l f old (PartVector k c.args.size)) here f front c.args.rest.now old
-    (slots_dictionary c.finish_part-in-Whole-Scratch-default.new.slots) text n x (some, within, turns)
-    (text_step f kept c.as_slice-part.result.now) c.finish_part-in-Whole-Scratch-default.result c.answered-in-Whole-Scratch-default.result
+    (slots_dictionary c.finish_part-in-Whole-Scratch-default.new.slots) c.finish_part-in-Whole-Scratch-default.new.scratch.text n x (some, within, turns)
+    (text_step f kept text) c.finish_part-in-Whole-Scratch-default.result c.answered-in-Whole-Scratch-default.result
     c.answered-in-Whole-Scratch-default.ensures (ap then i)
     (c.finish_part-in-Whole-Scratch-default.ensures.field kept
-    (ap (λ (z : ℤ). subtraction_step f p z) (to_z-of_z w32 c.args.subtraction c.ranges.subtraction) ∙ step) text
+    (ap (λ (z : ℤ). subtraction_step f p z) (to_z-of_z w32 c.args.subtraction c.ranges.subtraction) ∙ step)
+    c.finish_part-in-Whole-Scratch-default.new.scratch.text
     (take n c.args.rest.now))
 
 pub returns-in-Wrong-clause-unit : goal.returns-in-Wrong-clause-unit
@@ -186,28 +187,22 @@ pub finish_part-requires-in-Whole-Scratch-default-clause-delta : goal.finish_par
 finish_part-requires-in-Whole-Scratch-default-clause-delta c = c.requires.stage.2
 
 pub finish_part-requires-clause-room : goal.finish_part-requires-clause-room
-finish_part-requires-clause-room c = c.requires.joined
+finish_part-requires-clause-room c = rw (c.set.ensures.capacity, c.next_raw.ensures.capacity) c.requires.scratch
 
 pub finish_part-requires-in-Whole-Scratch-default-clause-room : goal.finish_part-requires-in-Whole-Scratch-default-clause-room
-finish_part-requires-in-Whole-Scratch-default-clause-room c = c.requires.joined
+finish_part-requires-in-Whole-Scratch-default-clause-room c = rw c.next_raw.ensures.capacity c.requires.scratch
 
 pub returns-in-Whole-Piece-default-clause-terms : goal.returns-in-Whole-Piece-default-clause-terms
 returns-in-Whole-Piece-default-clause-terms c = c.finish_part.ensures.terms
 
 pub returns-in-Whole-Piece-default-clause-scratch : goal.returns-in-Whole-Piece-default-clause-scratch
-returns-in-Whole-Piece-default-clause-scratch c = c.in-Whole-Piece-default.ensures.capacity
-
-pub returns-in-Whole-Piece-default-clause-joined : goal.returns-in-Whole-Piece-default-clause-joined
-returns-in-Whole-Piece-default-clause-joined c = c.finish_part.ensures.capacity
+returns-in-Whole-Piece-default-clause-scratch c = c.finish_part.ensures.capacity ∙ c.set.ensures.capacity ∙ c.in-Whole-Piece-default.ensures.capacity
 
 pub returns-in-Whole-Scratch-default-clause-terms : goal.returns-in-Whole-Scratch-default-clause-terms
 returns-in-Whole-Scratch-default-clause-terms c = c.finish_part-in-Whole-Scratch-default.ensures.terms
 
 pub returns-in-Whole-Scratch-default-clause-scratch : goal.returns-in-Whole-Scratch-default-clause-scratch
-returns-in-Whole-Scratch-default-clause-scratch c = c.in-Whole-Scratch-default.ensures.capacity
-
-pub returns-in-Whole-Scratch-default-clause-joined : goal.returns-in-Whole-Scratch-default-clause-joined
-returns-in-Whole-Scratch-default-clause-joined c = c.finish_part-in-Whole-Scratch-default.ensures.capacity
+returns-in-Whole-Scratch-default-clause-scratch c = c.finish_part-in-Whole-Scratch-default.ensures.capacity ∙ c.in-Whole-Scratch-default.ensures.capacity
 
 pub returns-in-Wrong-clause-terms : goal.returns-in-Wrong-clause-terms
 returns-in-Wrong-clause-terms c = refl
@@ -215,14 +210,22 @@ returns-in-Wrong-clause-terms c = refl
 pub returns-in-Wrong-clause-scratch : goal.returns-in-Wrong-clause-scratch
 returns-in-Wrong-clause-scratch c = c.in-Wrong.ensures.capacity
 
-pub returns-in-Wrong-clause-joined : goal.returns-in-Wrong-clause-joined
-returns-in-Wrong-clause-joined c = refl
-
 pub returns-in-Cut-clause-terms : goal.returns-in-Cut-clause-terms
 returns-in-Cut-clause-terms c = refl
 
 pub returns-in-Cut-clause-scratch : goal.returns-in-Cut-clause-scratch
 returns-in-Cut-clause-scratch c = c.in-Cut.ensures.capacity
 
-pub returns-in-Cut-clause-joined : goal.returns-in-Cut-clause-joined
-returns-in-Cut-clause-joined c = refl
+pub set-requires : goal.set-requires
+set-requires c =
+    let (some, within, turns, len) = c.in-Whole-Piece-default.ensures.unit c.args.limits.strict in
+    let is : length (run_at c.in-Whole-Piece-default.field-0 c.next_raw.new.scratch.text
+    (take c.in-Whole-Piece-default.bytes c.args.rest.now)) ≡ length
+    (run_at Piece c.next_raw.new.scratch.text (take c.in-Whole-Piece-default.bytes c.args.rest.now))
+    = ap (λ (r : Run). length (run_at r c.next_raw.new.scratch.text (take c.in-Whole-Piece-default.bytes c.args.rest.now)))
+    c.in-Whole-Piece-default.field-0-is in
+    let room = c.requires.scratch in
+    let most = c.requires.limit.0 in
+    let (is_text, not_ascii, delta, found) = c.requires.stage in
+    let (kept, step, fits) = found in
+    rw c.next_raw.ensures.capacity (omega (arith, len, is, fits, most, room))

@@ -18,5 +18,5 @@ returns-clause-field c kept e scratch piece =
     let k = one_kept found kept step (ap (λ (x : ℤ). subtraction_step f (previous_at f.entry (slots_dictionary c.args.slots.now)) x)
     (to_z-of_z w32 c.args.subtraction c.ranges.subtraction) ∙ e) in
     decided_as f (slots_dictionary c.args.slots.now) (slots_dictionary c.keep.new.slots) scratch piece c.keep.result
-    (ap (λ (t : List ℕ). kept_text f.kind t) (sym (c.as_slice.ensures ∙ text ∙ ap (λ (q : Kept). joined q c.args.part.now) k)))
+    (ap (λ (t : List ℕ). kept_text f.kind t) (sym (c.as_slice.ensures ∙ text ∙ ap (λ (q : Kept). joined q c.args.scratch.now.text) k)))
     (c.keep.ensures.field scratch piece)

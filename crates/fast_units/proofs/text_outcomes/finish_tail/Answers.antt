@@ -12,6 +12,6 @@ returns-clause-field c scratch piece =
     let old = slots_dictionary c.args.slots.now in
     let (base, found, text) = c.in_ok-join_tail.ensures.joined in
     decided_as f old (slots_dictionary c.keep.new.slots) scratch piece c.keep.result
-    (decided_tail-ok f (previous_at f.entry old) c.args.part.now c.requires.text base c.requires.tail found
+    (decided_tail-ok f (previous_at f.entry old) c.args.scratch.now.text c.requires.text base c.requires.tail found
     ∙ ap (λ (t : List ℕ). kept_text f.kind t) (sym (c.as_slice.ensures ∙ text)))
     (c.keep.ensures.field scratch piece)

@@ -18,9 +18,6 @@ returns-in-Copy-clause-field c scratch piece h =
     ])
     (c.keep.ensures.field scratch piece)
 
-pub returns-in-Tail-clause-field : goal.returns-in-Tail-clause-field
-returns-in-Tail-clause-field c scratch piece h = c.finish_tail.ensures.field scratch piece
-
 pub returns-in_ok-checked_text-in_default : goal.returns-in_ok-checked_text-in_default
 returns-in_ok-checked_text-in_default c =
     let f = field_data c.args.field.now in
@@ -30,8 +27,7 @@ returns-in_ok-checked_text-in_default c =
     record {
       field = λ scratch piece h. decided_as f old old scratch piece (Ok c.args.place)
           (decided_plain f (previous_at f.entry old) c.args.text.now c.requires.text c.requires.sent c.requires.whole
-          (not_emptied f.operator c.in_default.not-Copy c.in_default.not-Increment c.in_default.not-Tail))
+          (not_emptied f.operator c.in_default.not-Copy c.in_default.not-Increment c.requires.no_tail))
           (text_given f old old scratch piece c.args.place c.args.text.now v e (checked_is f.kind c.args.text.now v e) h refl);
       terms = refl;
-      capacity = refl;
     }

@@ -13,7 +13,7 @@ use Rattle.fast_units.specs.device.TextDecisions.{HasBytes, first_reader, IsStep
 use Rattle.fast_units.proofs.LastUnits.{unit_stops, unit_stays, number_within}
 use Rattle.fast_wire.specs.meaning.Integers.{IsWithin}
 use Rattle.fast_units.proofs.TextSizes.{size_again}
-use Rattle.fast_units.proofs.TextUnits.{answered_whole, answered_more, size_field, text_next, text_settled}
+use Rattle.fast_units.proofs.TextUnits.{short_answer, answered_whole, answered_more, size_field, text_next, text_settled}
 use Rattle.fast_units.specs.declared.stages.FieldStep.{FieldStep}
 use Rattle.fast_units.specs.declared.stages.FieldStep.TheVariants.{Settled}
 use Rattle.fast_units.proofs.texts.take_size.Goals as goal
@@ -46,10 +46,10 @@ returns-in-Whole-Some-default-clause-unit c =
     let is : pos c.size_of.result ≡ c.in-Whole-Some-default.size = c.size_of.ensures ∙ size_again c.in-Whole-Some-default.size in_range in
     let n = c.in-Whole-Some-default.bytes in
     text_next l g next (first_reader l f old) here f front c.args.rest.now old (slots_dictionary c.vector_next.new.slots)
-    [] n c.in-Whole-Some-default.field-0 c.in-Whole-Some-default.ensures.unit
+    c.vector_next.new.scratch.text n c.in-Whole-Some-default.field-0 c.in-Whole-Some-default.ensures.unit
     c.vector_next.result c.answered.result c.answered.ensures
-    (subst (λ (x : Option ℤ). IsStepped l (reader_of l.strict (next x)) f old (slots_dictionary c.vector_next.new.slots) []
-    (take n c.args.rest.now) c.vector_next.result)
+    (subst (λ (x : Option ℤ). IsStepped l (reader_of l.strict (next x)) f old (slots_dictionary c.vector_next.new.slots)
+    c.vector_next.new.scratch.text (take n c.args.rest.now) c.vector_next.result)
     (ap Some is ∙ sym c.in-Whole-Some-default.field-0-is) (c.vector_next.ensures.step (take n c.args.rest.now)))
 
 pub returns-in-Whole-None-default-clause-unit : goal.returns-in-Whole-None-default-clause-unit
@@ -65,8 +65,9 @@ returns-in-Whole-None-default-clause-unit c =
     let next : Option ℤ → Grammar _ = behind_size (bounds l) f p in
     let n = c.in-Whole-None-default.bytes in
     text_settled l g next (first_reader l f old) here f front c.args.rest.now old (slots_dictionary c.finish_absent.new.slots)
-    [] n c.in-Whole-None-default.field-0 c.in-Whole-None-default.ensures.unit
-    (decide f p true null) c.finish_absent.result (ap next c.in-Whole-None-default.field-0-is) (c.finish_absent.ensures.field [] (take n c.args.rest.now))
+    c.args.scratch.now.text n c.in-Whole-None-default.field-0 c.in-Whole-None-default.ensures.unit
+    (decide f p true null) c.finish_absent.result (ap next c.in-Whole-None-default.field-0-is) (c.finish_absent.ensures.field c.args.scratch.now.text (take n
+    c.args.rest.now))
 
 pub returns-in-Wrong-clause-unit : goal.returns-in-Wrong-clause-unit
 returns-in-Wrong-clause-unit c =
@@ -141,8 +142,8 @@ vector_next-requires-clause-sent c = c.requires.sent
 pub vector_next-requires-clause-whole : goal.vector_next-requires-clause-whole
 vector_next-requires-clause-whole c = c.requires.whole
 
-pub vector_next-requires-clause-joined : goal.vector_next-requires-clause-joined
-vector_next-requires-clause-joined c = c.requires.joined
+pub vector_next-requires-clause-scratch : goal.vector_next-requires-clause-scratch
+vector_next-requires-clause-scratch c = c.requires.scratch
 
 pub finish_absent-requires-clause-serves : goal.finish_absent-requires-clause-serves
 finish_absent-requires-clause-serves c = c.requires.serves
@@ -156,8 +157,8 @@ returns-in-Whole-Some-default-clause-whole c step n e = c.in-Whole-Some-default.
 pub returns-in-Whole-Some-default-clause-terms : goal.returns-in-Whole-Some-default-clause-terms
 returns-in-Whole-Some-default-clause-terms c = c.vector_next.ensures.terms
 
-pub returns-in-Whole-Some-default-clause-joined : goal.returns-in-Whole-Some-default-clause-joined
-returns-in-Whole-Some-default-clause-joined c = c.vector_next.ensures.joined
+pub returns-in-Whole-Some-default-clause-scratch : goal.returns-in-Whole-Some-default-clause-scratch
+returns-in-Whole-Some-default-clause-scratch c = c.vector_next.ensures.scratch
 
 pub returns-in-Whole-None-default-clause-whole : goal.returns-in-Whole-None-default-clause-whole
 returns-in-Whole-None-default-clause-whole c step n e = c.in-Whole-None-default.ensures.whole c.in-Whole-None-default.field-0 c.in-Whole-None-default.bytes refl
@@ -165,8 +166,8 @@ returns-in-Whole-None-default-clause-whole c step n e = c.in-Whole-None-default.
 pub returns-in-Whole-None-default-clause-terms : goal.returns-in-Whole-None-default-clause-terms
 returns-in-Whole-None-default-clause-terms c = c.finish_absent.ensures.terms
 
-pub returns-in-Whole-None-default-clause-joined : goal.returns-in-Whole-None-default-clause-joined
-returns-in-Whole-None-default-clause-joined c = refl
+pub returns-in-Whole-None-default-clause-scratch : goal.returns-in-Whole-None-default-clause-scratch
+returns-in-Whole-None-default-clause-scratch c = refl
 
 pub returns-in-Wrong-clause-whole : goal.returns-in-Wrong-clause-whole
 returns-in-Wrong-clause-whole c step n e = answered_more {T = FieldStep} (λ s. c.next_integer.new.pending.bytes ≡ [])
@@ -175,11 +176,28 @@ returns-in-Wrong-clause-whole c step n e = answered_more {T = FieldStep} (λ s. 
 pub returns-in-Wrong-clause-terms : goal.returns-in-Wrong-clause-terms
 returns-in-Wrong-clause-terms c = refl
 
-pub returns-in-Wrong-clause-joined : goal.returns-in-Wrong-clause-joined
-returns-in-Wrong-clause-joined c = refl
+pub returns-in-Wrong-clause-scratch : goal.returns-in-Wrong-clause-scratch
+returns-in-Wrong-clause-scratch c = refl
 
 pub returns-in-Cut-clause-terms : goal.returns-in-Cut-clause-terms
 returns-in-Cut-clause-terms c = refl
 
-pub returns-in-Cut-clause-joined : goal.returns-in-Cut-clause-joined
-returns-in-Cut-clause-joined c = refl
+pub returns-in-Cut-clause-scratch : goal.returns-in-Cut-clause-scratch
+returns-in-Cut-clause-scratch c = refl
+
+pub vector_next-requires-clause-none : goal.vector_next-requires-clause-none
+vector_next-requires-clause-none c = c.requires.none
+
+pub returns-in-Whole-Some-default-clause-short : goal.returns-in-Whole-Some-default-clause-short
+returns-in-Whole-Some-default-clause-short c stage n e =
+    short_answer c.vector_next.result c.answered.result c.in-Whole-Some-default.bytes c.answered.ensures
+    (c.in-Whole-Some-default.ensures.short c.in-Whole-Some-default.field-0 c.in-Whole-Some-default.bytes refl) stage n e
+
+pub returns-in-Whole-None-default-clause-short : goal.returns-in-Whole-None-default-clause-short
+returns-in-Whole-None-default-clause-short c stage n e = absurd (cc e)
+
+pub returns-in-Wrong-clause-short : goal.returns-in-Wrong-clause-short
+returns-in-Wrong-clause-short c stage n e = absurd (cc e)
+
+pub returns-in-Cut-clause-short : goal.returns-in-Cut-clause-short
+returns-in-Cut-clause-short c stage n e = absurd (cc e)

@@ -1,7 +1,6 @@
 use Rattle.std.proofs.Common.{subst, ◌≤◌, arith, ◌≡◌, ◌∙◌, sym, ap, refl, List, ℕ, take, ◌++◌}
 use Rattle.std.specs.Prelude.{Ok, Err, Some, None, Option, true}
 use Rattle.fast_value.specs.meaning.Limits.{bounds}
-use Rattle.fast_value.specs.meaning.Kinds.{value_of_text}
 use Rattle.fast_tree.specs.meaning.Nodes.{field_data}
 use Rattle.fast_dict.specs.meaning.Dictionary.{previous_at}
 use Rattle.fast_dict.specs.meaning.Operators.{decide}
@@ -30,11 +29,12 @@ returns-in-Whole-true-default-clause-unit c =
     let text = c.next_ascii.new.scratch.text in
     let n = c.in-Whole-true-default.bytes in
     let x : Option (List ℕ) = text_or_null text c.in-Whole-true-default.field-0 in
-    let i : x ≡ Some c.as_slice-text.result.now = ap (text_or_null text) c.in-Whole-true-default.field-0-test ∙ ap Some (sym c.as_slice-text.ensures) in
-    text_last l.strict g k (first_reader l f old) here f front c.args.rest.now old (slots_dictionary c.finish_ascii.new.slots) text n x
+    let i : x ≡ Some text = ap (text_or_null text) c.in-Whole-true-default.field-0-test in
+    text_last l.strict g k (first_reader l f old) here f front c.args.rest.now old (slots_dictionary c.finish_ascii.new.slots) c.finish_ascii.new.scratch.text
+    n x
     (c.in-Whole-true-default.ensures.unit l.strict)
-    (decide f p true (sent_text f.kind (Some c.as_slice-text.result.now))) c.finish_ascii.result c.answered.result c.answered.ensures (ap k i)
-    (c.finish_ascii.ensures.field text (take n c.args.rest.now) (ap (λ (t : List ℕ). Some (value_of_text f.kind t)) (sym c.as_slice-text.ensures)))
+    (decide f p true (sent_text f.kind (Some text))) c.finish_ascii.result c.answered.result c.answered.ensures (ap k i)
+    (c.finish_ascii.ensures.field (take n c.args.rest.now))
 
 pub returns-in-Whole-false-default-clause-unit : goal.returns-in-Whole-false-default-clause-unit
 returns-in-Whole-false-default-clause-unit c =
@@ -99,7 +99,7 @@ finish_ascii-requires-clause-fits c =
     let whole = c.in-Whole-true-default.ensures.text c.in-Whole-true-default.bytes
     (ap (λ t. Whole t c.in-Whole-true-default.bytes) c.in-Whole-true-default.field-0-test) in
     let most = c.requires.limit.0 in
-    rw c.as_slice-text.ensures (omega (arith, whole, most))
+    omega (arith, whole, most)
 
 pub returns-in-Whole-true-default-clause-cut : goal.returns-in-Whole-true-default-clause-cut
 returns-in-Whole-true-default-clause-cut c e = absurd (answered_whole c.finish_ascii.result c.in-Whole-true-default.bytes (sym c.answered.ensures ∙ e))
@@ -123,7 +123,7 @@ pub finish_ascii-requires-clause-whole : goal.finish_ascii-requires-clause-whole
 finish_ascii-requires-clause-whole c = c.requires.whole
 
 pub finish_ascii-requires-clause-room : goal.finish_ascii-requires-clause-room
-finish_ascii-requires-clause-room c = c.requires.joined
+finish_ascii-requires-clause-room c = rw c.in-Whole-true-default.ensures.capacity c.requires.scratch
 
 pub finish_absent-requires-clause-serves : goal.finish_absent-requires-clause-serves
 finish_absent-requires-clause-serves c = c.requires.serves
@@ -135,10 +135,7 @@ pub returns-in-Whole-true-default-clause-terms : goal.returns-in-Whole-true-defa
 returns-in-Whole-true-default-clause-terms c = c.finish_ascii.ensures.terms
 
 pub returns-in-Whole-true-default-clause-scratch : goal.returns-in-Whole-true-default-clause-scratch
-returns-in-Whole-true-default-clause-scratch c = c.in-Whole-true-default.ensures.capacity
-
-pub returns-in-Whole-true-default-clause-joined : goal.returns-in-Whole-true-default-clause-joined
-returns-in-Whole-true-default-clause-joined c = c.finish_ascii.ensures.capacity
+returns-in-Whole-true-default-clause-scratch c = c.finish_ascii.ensures.capacity ∙ c.in-Whole-true-default.ensures.capacity
 
 pub returns-in-Whole-false-default-clause-terms : goal.returns-in-Whole-false-default-clause-terms
 returns-in-Whole-false-default-clause-terms c = c.finish_absent.ensures.terms
@@ -146,23 +143,14 @@ returns-in-Whole-false-default-clause-terms c = c.finish_absent.ensures.terms
 pub returns-in-Whole-false-default-clause-scratch : goal.returns-in-Whole-false-default-clause-scratch
 returns-in-Whole-false-default-clause-scratch c = c.in-Whole-false-default.ensures.capacity
 
-pub returns-in-Whole-false-default-clause-joined : goal.returns-in-Whole-false-default-clause-joined
-returns-in-Whole-false-default-clause-joined c = refl
-
 pub returns-in-Wrong-clause-terms : goal.returns-in-Wrong-clause-terms
 returns-in-Wrong-clause-terms c = refl
 
 pub returns-in-Wrong-clause-scratch : goal.returns-in-Wrong-clause-scratch
 returns-in-Wrong-clause-scratch c = c.in-Wrong.ensures.capacity
 
-pub returns-in-Wrong-clause-joined : goal.returns-in-Wrong-clause-joined
-returns-in-Wrong-clause-joined c = refl
-
 pub returns-in-Cut-clause-terms : goal.returns-in-Cut-clause-terms
 returns-in-Cut-clause-terms c = refl
 
 pub returns-in-Cut-clause-scratch : goal.returns-in-Cut-clause-scratch
 returns-in-Cut-clause-scratch c = c.in-Cut.ensures.capacity
-
-pub returns-in-Cut-clause-joined : goal.returns-in-Cut-clause-joined
-returns-in-Cut-clause-joined c = refl

@@ -2,7 +2,6 @@ use Rattle.std.proofs.Common.{◌≡◌, ◌∙◌, sym, ap, refl, arith, List, 
 use Rattle.std.specs.Prelude.{Some, true, Err}
 use Rattle.std.proofs.lemmas.List.{length-take-le}
 use Rattle.fast_value.specs.meaning.Limits.{bounds}
-use Rattle.fast_value.specs.meaning.Kinds.{value_of_text}
 use Rattle.fast_tree.specs.meaning.Nodes.{field_data}
 use Rattle.fast_dict.specs.meaning.Dictionary.{previous_at}
 use Rattle.fast_dict.specs.meaning.Operators.{decide}
@@ -25,8 +24,8 @@ slice_bounds-text-end c =
     let (some, within, turns, len) = c.in-Whole-Piece-default.ensures.unit c.args.limits.strict in
     sym (length-take-le c.in-Whole-Piece-default.bytes c.args.rest.now within)
 
-pub finish_text-requires-clause-fits : goal.finish_text-requires-clause-fits
-finish_text-requires-clause-fits c =
+pub finish_here-requires-clause-fits : goal.finish_here-requires-clause-fits
+finish_here-requires-clause-fits c =
     let (some, within, turns, len) = c.in-Whole-Piece-default.ensures.unit c.args.limits.strict in
     let is : length (run_at c.in-Whole-Piece-default.field-0 c.next_raw.new.scratch.text
     (take c.in-Whole-Piece-default.bytes c.args.rest.now)) ≡ length
@@ -37,8 +36,8 @@ finish_text-requires-clause-fits c =
     let most = c.requires.limit.0 in
     omega (arith, len, is, fits, most)
 
-pub finish_text-requires-in-Whole-Scratch-default-clause-fits : goal.finish_text-requires-in-Whole-Scratch-default-clause-fits
-finish_text-requires-in-Whole-Scratch-default-clause-fits c =
+pub finish_held-requires-clause-fits : goal.finish_held-requires-clause-fits
+finish_held-requires-clause-fits c =
     let (some, within, turns, len) = c.in-Whole-Scratch-default.ensures.unit c.args.limits.strict in
     let is : length (run_at c.in-Whole-Scratch-default.field-0 c.next_raw.new.scratch.text
     (take c.in-Whole-Scratch-default.bytes c.args.rest.now)) ≡ length
@@ -47,7 +46,7 @@ finish_text-requires-in-Whole-Scratch-default-clause-fits c =
     c.in-Whole-Scratch-default.field-0-is in
     let fits = c.requires.stage.4 in
     let most = c.requires.limit.0 in
-    rw c.as_slice-text.ensures (omega (arith, len, is, fits, most))
+    omega (arith, len, is, fits, most)
 
 pub returns-in-Whole-Piece-default-clause-unit : goal.returns-in-Whole-Piece-default-clause-unit
 returns-in-Whole-Piece-default-clause-unit c =
@@ -65,9 +64,9 @@ returns-in-Whole-Piece-default-clause-unit c =
     let x : List ℕ = run_at c.in-Whole-Piece-default.field-0 text (take n c.args.rest.now) in
     let i : x ≡ (take n c.args.rest.now) = ap (λ (r : Run). run_at r text (take n c.args.rest.now)) c.in-Whole-Piece-default.field-0-is in
     text_last l.strict g k (reader_behind l f old (Vector c.args.size)) here f front c.args.rest.now old
-    (slots_dictionary c.finish_text.new.slots) text n x (some, within, turns)
-    (decide f p true (sent_text f.kind (Some (take n c.args.rest.now)))) c.finish_text.result c.answered.result c.answered.ensures (ap k i)
-    (c.finish_text.ensures.field text (take n c.args.rest.now) refl)
+    (slots_dictionary c.finish_here.new.slots) c.finish_here.new.scratch.text n x (some, within, turns)
+    (decide f p true (sent_text f.kind (Some (take n c.args.rest.now)))) c.finish_here.result c.answered.result c.answered.ensures (ap k i)
+    (c.finish_here.ensures.field c.finish_here.new.scratch.text)
 
 pub returns-in-Whole-Scratch-default-clause-unit : goal.returns-in-Whole-Scratch-default-clause-unit
 returns-in-Whole-Scratch-default-clause-unit c =
@@ -83,14 +82,12 @@ returns-in-Whole-Scratch-default-clause-unit c =
     let n = c.in-Whole-Scratch-default.bytes in
     let (some, within, turns, len) = c.in-Whole-Scratch-default.ensures.unit l.strict in
     let x : List ℕ = run_at c.in-Whole-Scratch-default.field-0 text (take n c.args.rest.now) in
-    let i : x ≡ c.as_slice-text.result.now = ap (λ (r : Run). run_at r text (take n c.args.rest.now)) c.in-Whole-Scratch-default.field-0-is
-    ∙ sym c.as_slice-text.ensures in
+    let i : x ≡ text = ap (λ (r : Run). run_at r text (take n c.args.rest.now)) c.in-Whole-Scratch-default.field-0-is in
     text_last l.strict g k (reader_behind l f old (Vector c.args.size)) here f front c.args.rest.now old
-    (slots_dictionary c.finish_text-in-Whole-Scratch-default.new.slots) text n x (some, within, turns)
-    (decide f p true (sent_text f.kind (Some c.as_slice-text.result.now))) c.finish_text-in-Whole-Scratch-default.result
+    (slots_dictionary c.finish_held.new.slots) c.finish_held.new.scratch.text n x (some, within, turns)
+    (decide f p true (sent_text f.kind (Some text))) c.finish_held.result
     c.answered-in-Whole-Scratch-default.result c.answered-in-Whole-Scratch-default.ensures (ap k i)
-    (c.finish_text-in-Whole-Scratch-default.ensures.field text (take n c.args.rest.now)
-    (ap (λ (t : List ℕ). Some (value_of_text f.kind t)) (sym c.as_slice-text.ensures)))
+    (c.finish_held.ensures.field (take n c.args.rest.now))
 
 pub returns-in-Wrong-clause-unit : goal.returns-in-Wrong-clause-unit
 returns-in-Wrong-clause-unit c =
@@ -116,11 +113,11 @@ returns-in-Cut-clause-cut c e =
     (bytes, short)
 
 pub returns-in-Whole-Piece-default-clause-cut : goal.returns-in-Whole-Piece-default-clause-cut
-returns-in-Whole-Piece-default-clause-cut c e = absurd (answered_whole c.finish_text.result c.in-Whole-Piece-default.bytes (sym c.answered.ensures ∙ e))
+returns-in-Whole-Piece-default-clause-cut c e = absurd (answered_whole c.finish_here.result c.in-Whole-Piece-default.bytes (sym c.answered.ensures ∙ e))
 
 pub returns-in-Whole-Scratch-default-clause-cut : goal.returns-in-Whole-Scratch-default-clause-cut
 returns-in-Whole-Scratch-default-clause-cut c e = absurd
-    (answered_whole c.finish_text-in-Whole-Scratch-default.result c.in-Whole-Scratch-default.bytes
+    (answered_whole c.finish_held.result c.in-Whole-Scratch-default.bytes
     (sym c.answered-in-Whole-Scratch-default.ensures ∙ e))
 
 pub returns-in-Wrong-clause-cut : goal.returns-in-Wrong-clause-cut
@@ -136,53 +133,47 @@ next_raw-requires-clause-fits c =
     let fits = c.requires.stage.4 in
     omega (arith, room, most, fits)
 
-pub finish_text-requires-clause-serves : goal.finish_text-requires-clause-serves
-finish_text-requires-clause-serves c = c.requires.serves
+pub finish_here-requires-clause-serves : goal.finish_here-requires-clause-serves
+finish_here-requires-clause-serves c = c.requires.serves
 
-pub finish_text-requires-in-Whole-Scratch-default-clause-serves : goal.finish_text-requires-in-Whole-Scratch-default-clause-serves
-finish_text-requires-in-Whole-Scratch-default-clause-serves c = c.requires.serves
+pub finish_held-requires-clause-serves : goal.finish_held-requires-clause-serves
+finish_held-requires-clause-serves c = c.requires.serves
 
-pub finish_text-requires-clause-text : goal.finish_text-requires-clause-text
-finish_text-requires-clause-text c = c.requires.stage.0
+pub finish_here-requires-clause-text : goal.finish_here-requires-clause-text
+finish_here-requires-clause-text c = c.requires.stage.0
 
-pub finish_text-requires-in-Whole-Scratch-default-clause-text : goal.finish_text-requires-in-Whole-Scratch-default-clause-text
-finish_text-requires-in-Whole-Scratch-default-clause-text c = c.requires.stage.0
+pub finish_held-requires-clause-text : goal.finish_held-requires-clause-text
+finish_held-requires-clause-text c = c.requires.stage.0
 
-pub finish_text-requires-clause-sent : goal.finish_text-requires-clause-sent
-finish_text-requires-clause-sent c = c.requires.stage.3
+pub finish_here-requires-clause-sent : goal.finish_here-requires-clause-sent
+finish_here-requires-clause-sent c = c.requires.stage.3
 
-pub finish_text-requires-in-Whole-Scratch-default-clause-sent : goal.finish_text-requires-in-Whole-Scratch-default-clause-sent
-finish_text-requires-in-Whole-Scratch-default-clause-sent c = c.requires.stage.3
+pub finish_held-requires-clause-sent : goal.finish_held-requires-clause-sent
+finish_held-requires-clause-sent c = c.requires.stage.3
 
-pub finish_text-requires-clause-whole : goal.finish_text-requires-clause-whole
-finish_text-requires-clause-whole c = c.requires.stage.2
+pub finish_here-requires-clause-whole : goal.finish_here-requires-clause-whole
+finish_here-requires-clause-whole c = c.requires.stage.2
 
-pub finish_text-requires-in-Whole-Scratch-default-clause-whole : goal.finish_text-requires-in-Whole-Scratch-default-clause-whole
-finish_text-requires-in-Whole-Scratch-default-clause-whole c = c.requires.stage.2
+pub finish_held-requires-clause-whole : goal.finish_held-requires-clause-whole
+finish_held-requires-clause-whole c = c.requires.stage.2
 
-pub finish_text-requires-clause-room : goal.finish_text-requires-clause-room
-finish_text-requires-clause-room c = c.requires.joined
+pub finish_here-requires-clause-room : goal.finish_here-requires-clause-room
+finish_here-requires-clause-room c = (rw c.next_raw.ensures.capacity c.requires.scratch)
 
-pub finish_text-requires-in-Whole-Scratch-default-clause-room : goal.finish_text-requires-in-Whole-Scratch-default-clause-room
-finish_text-requires-in-Whole-Scratch-default-clause-room c = c.requires.joined
+pub finish_held-requires-clause-room : goal.finish_held-requires-clause-room
+finish_held-requires-clause-room c = (rw c.next_raw.ensures.capacity c.requires.scratch)
 
 pub returns-in-Whole-Piece-default-clause-terms : goal.returns-in-Whole-Piece-default-clause-terms
-returns-in-Whole-Piece-default-clause-terms c = c.finish_text.ensures.terms
+returns-in-Whole-Piece-default-clause-terms c = c.finish_here.ensures.terms
 
 pub returns-in-Whole-Piece-default-clause-scratch : goal.returns-in-Whole-Piece-default-clause-scratch
-returns-in-Whole-Piece-default-clause-scratch c = c.in-Whole-Piece-default.ensures.capacity
-
-pub returns-in-Whole-Piece-default-clause-joined : goal.returns-in-Whole-Piece-default-clause-joined
-returns-in-Whole-Piece-default-clause-joined c = c.finish_text.ensures.capacity
+returns-in-Whole-Piece-default-clause-scratch c = c.finish_here.ensures.capacity ∙ c.in-Whole-Piece-default.ensures.capacity
 
 pub returns-in-Whole-Scratch-default-clause-terms : goal.returns-in-Whole-Scratch-default-clause-terms
-returns-in-Whole-Scratch-default-clause-terms c = c.finish_text-in-Whole-Scratch-default.ensures.terms
+returns-in-Whole-Scratch-default-clause-terms c = c.finish_held.ensures.terms
 
 pub returns-in-Whole-Scratch-default-clause-scratch : goal.returns-in-Whole-Scratch-default-clause-scratch
-returns-in-Whole-Scratch-default-clause-scratch c = c.in-Whole-Scratch-default.ensures.capacity
-
-pub returns-in-Whole-Scratch-default-clause-joined : goal.returns-in-Whole-Scratch-default-clause-joined
-returns-in-Whole-Scratch-default-clause-joined c = c.finish_text-in-Whole-Scratch-default.ensures.capacity
+returns-in-Whole-Scratch-default-clause-scratch c = c.finish_held.ensures.capacity ∙ c.in-Whole-Scratch-default.ensures.capacity
 
 pub returns-in-Wrong-clause-terms : goal.returns-in-Wrong-clause-terms
 returns-in-Wrong-clause-terms c = refl
@@ -190,14 +181,8 @@ returns-in-Wrong-clause-terms c = refl
 pub returns-in-Wrong-clause-scratch : goal.returns-in-Wrong-clause-scratch
 returns-in-Wrong-clause-scratch c = c.in-Wrong.ensures.capacity
 
-pub returns-in-Wrong-clause-joined : goal.returns-in-Wrong-clause-joined
-returns-in-Wrong-clause-joined c = refl
-
 pub returns-in-Cut-clause-terms : goal.returns-in-Cut-clause-terms
 returns-in-Cut-clause-terms c = refl
 
 pub returns-in-Cut-clause-scratch : goal.returns-in-Cut-clause-scratch
 returns-in-Cut-clause-scratch c = c.in-Cut.ensures.capacity
-
-pub returns-in-Cut-clause-joined : goal.returns-in-Cut-clause-joined
-returns-in-Cut-clause-joined c = refl

@@ -1,9 +1,9 @@
 use Rattle.std.specs.Prelude.{◌≡◌, [], Ok, Err, Option, ℤ}
 use Rattle.fast_units.specs.device.NextUnits.{range_data}
-use Rattle.fast_units.proofs.NextUnits.{none_in_hand, integer_unit, first_whole, first_wrong, wrong_some}
+use Rattle.fast_units.proofs.NextUnits.{first_short, next_short, none_in_hand, integer_unit, first_whole, first_wrong, wrong_some}
 use Rattle.fast_units.proofs.TextUnits.{answered_whole}
 use Rattle.std.proofs.lemmas.List.{length-take-le}
-use Rattle.std.proofs.Common.{sym}
+use Rattle.std.proofs.Common.{sym, subst, ◌≤◌}
 use Rattle.fast_units.proofs.units.next_integer.Goals as goal
 
 pub returns-in-Whole-clause-unit : goal.returns-in-Whole-clause-unit
@@ -40,3 +40,16 @@ returns-in-Wrong-clause-cut c e = absurd (answered_whole {T = Option ℤ} (Err c
 
 pub returns-in-Wrong-clause-whole : goal.returns-in-Wrong-clause-whole
 returns-in-Wrong-clause-whole c x n e = none_in_hand c.args.pending.now.bytes c.if-is_empty.ensures
+
+pub returns-in-Whole-clause-short : goal.returns-in-Whole-clause-short
+returns-in-Whole-clause-short c x n e =
+    let short = first_short (λ x. x) c.args.strict (range_data c.args.range) c.args.nullable c.args.rest.now c.in-Whole.x c.in-Whole.len c.in-Whole.ensures in
+    let same : c.in-Whole.len ≡ n = cc e in
+    subst (λ k. k ≤ 10) same short
+
+pub returns-in-Wrong-clause-short : goal.returns-in-Wrong-clause-short
+returns-in-Wrong-clause-short c x n e = absurd (cc e)
+
+pub returns-clause-short : goal.returns-clause-short
+returns-clause-short c = next_short (λ x. x) c.args.strict (range_data c.args.range) c.args.nullable c.args.outside
+    c.args.pending.now.bytes c.args.rest.now c.complete_integer.new.self.bytes c.complete_integer.result c.complete_integer.ensures

@@ -1,7 +1,8 @@
+use Rattle.std.proofs.Common.{subst, ◌≤◌}
 use Rattle.std.specs.Prelude.{◌≡◌, [], Some, pos, false}
 use Rattle.fast_wire.specs.meaning.Integers.{unsigned_up_to}
 use Rattle.fast_value.specs.declared.codes.Code.TheVariants.{D2}
-use Rattle.fast_units.proofs.NextUnits.{none_in_hand, integer_unit, first_whole, first_wrong, wrong_some}
+use Rattle.fast_units.proofs.NextUnits.{first_short, next_short, none_in_hand, integer_unit, first_whole, first_wrong, wrong_some}
 use Rattle.fast_units.proofs.units.next_unsigned.Goals as goal
 
 pub returns-in-Whole-clause-unit : goal.returns-in-Whole-clause-unit
@@ -22,3 +23,17 @@ pub returns-clause-unit : goal.returns-clause-unit
 returns-clause-unit c = integer_unit (λ x. Some (pos x)) c.args.strict
     (unsigned_up_to c.args.top) false D2 c.args.pending.now.bytes c.args.rest.now c.complete_unsigned.new.self.bytes
     c.complete_unsigned.result c.complete_unsigned.ensures
+
+pub returns-in-Whole-clause-short : goal.returns-in-Whole-clause-short
+returns-in-Whole-clause-short c x n e =
+    let short = first_short (λ x. Some (pos x)) c.args.strict (unsigned_up_to c.args.top) false c.args.rest.now c.in-Whole.x c.in-Whole.len c.in-Whole.ensures
+    in
+    let same : c.in-Whole.len ≡ n = cc e in
+    subst (λ k. k ≤ 10) same short
+
+pub returns-in-Wrong-clause-short : goal.returns-in-Wrong-clause-short
+returns-in-Wrong-clause-short c x n e = absurd (cc e)
+
+pub returns-clause-short : goal.returns-clause-short
+returns-clause-short c = next_short (λ x. Some (pos x)) c.args.strict (unsigned_up_to c.args.top) false D2
+    c.args.pending.now.bytes c.args.rest.now c.complete_unsigned.new.self.bytes c.complete_unsigned.result c.complete_unsigned.ensures

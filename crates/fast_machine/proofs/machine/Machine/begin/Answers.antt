@@ -6,7 +6,7 @@ use Rattle.fast_tree.specs.declared.instructions.Shape.TheVariants.{Field, Decim
 use Rattle.fast_tree.specs.meaning.Numbers.{numbers_of, AreBelow, AreBetween}
 use Rattle.fast_cursor.specs.device.Segments.{first_node}
 use Rattle.fast_machine.specs.device.Positions.{set_of}
-use Rattle.fast_machine.proofs.fields.ScalarNodes.{first_below, served_node}
+use Rattle.fast_machine.proofs.fields.FieldNodes.{first_below, served_node}
 use Rattle.fast_machine.proofs.machine.Machine.begin.Goals as goal
 
 -- Without a first node there is none, with one there is some.

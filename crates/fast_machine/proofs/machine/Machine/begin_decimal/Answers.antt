@@ -15,10 +15,12 @@ pub returns-then-needs_bytes-clause-turn : goal.returns-then-needs_bytes-clause-
 returns-then-needs_bytes-clause-turn g c =
     let m = c.args.self.now in
     let e = field_data c.args.exponent.now in
-    exponent_waits g.S.Sink.takes g.S.Sink.stops (set_of c.args.templates.now) c.args.limits c.args.sink.now m c.args.node e
+    exponent_waits g.S.Sink.takes g.S.Sink.stops (set_of c.args.templates.now) c.args.limits c.args.sink.now m c.wait_first.new.self c.args.node e
     (field_data c.args.mantissa.now) c.requires.turn c.requires.next
     (sent_here e c.presence-bit.result (state_of m) (c.presence-bit.ensures (slots_dictionary m.slots) m.counted)
     (c.needs_bytes.ensures.operator c.if-needs_bytes.true) (c.needs_bytes.ensures.sent c.if-needs_bytes.true))
+    c.wait_first.ensures.same c.wait_first.ensures.capacity c.wait_first.ensures.none
+    (c.wait_first.ensures.carried c.args.limits (previous_at e.entry (slots_dictionary m.slots)))
 
 pub unsent-requires : goal.unsent-requires
 unsent-requires g c = record {

@@ -20,7 +20,8 @@ returns-then-needs_bytes-clause-turn g c =
     field_waits g.S.Sink.takes g.S.Sink.stops set l c.args.sink.now m c.wait_first.new.self c.args.node f c.requires.turn c.requires.next
     (sent_here f c.presence-bit.result (state_of m) (c.presence-bit.ensures (slots_dictionary m.slots) m.counted)
     (c.needs_bytes.ensures.operator c.if-needs_bytes.true) (c.needs_bytes.ensures.sent c.if-needs_bytes.true))
-    c.wait_first.ensures.same c.wait_first.ensures.capacity c.wait_first.ensures.text c.wait_first.ensures.number
+    c.wait_first.ensures.same c.wait_first.ensures.capacity c.wait_first.ensures.none
+    (c.wait_first.ensures.carried l (previous_at f.entry (slots_dictionary m.slots)))
 
 pub unsent-requires : goal.unsent-requires
 unsent-requires g c = record {

@@ -20,9 +20,10 @@ returns-then-needs_bytes-clause-turn g c =
     let f = field_data c.args.mantissa.now in
     let x = c.args.exponent in
     mantissa_waits g.S.Sink.takes g.S.Sink.stops (set_of c.args.templates.now) c.args.limits c.args.sink.now m c.args.node
-    c.requires.next.0 f x (to_z w32 (of_z w32 x)) (again w32 x (search rules)) c.requires.turn c.requires.next.1
+    c.requires.next.0 f x (to_z w32 (of_z w32 x)) c.begin.new.self (again w32 x (search rules)) c.requires.turn c.requires.next.1
     (sent_here f c.presence-bit.result (state_of m) (c.presence-bit.ensures (slots_dictionary m.slots) m.counted)
     (c.needs_bytes.ensures.operator c.if-needs_bytes.true) (c.needs_bytes.ensures.sent c.if-needs_bytes.true))
+    c.begin.ensures.capacity c.begin.ensures.none (c.begin.ensures.carried c.args.limits (previous_at f.entry (slots_dictionary m.slots)))
 
 pub unsent-requires : goal.unsent-requires
 unsent-requires g c = record {

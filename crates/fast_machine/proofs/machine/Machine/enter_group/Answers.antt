@@ -27,7 +27,7 @@ returns-clause-turn g c =
     let w = c.segment_bits-width.result in
     let behind : Machine = record m { cursor = c.open_group.new.self } in
     let width = width_from set c.args.node c.args.start w c.requires.node c.requires.body c.segment_bits-width.ensures in
-    let can = can_turn_past set l m m1 c.requires.turn (like_at m past refl) c.requires.turn.supplied.counted refl (record { same = refl }) in
+    let can = can_turn_past set l m m1 c.requires.turn (like_at m past refl) c.requires.turn.supplied.counted (record { same = refl }) in
     turn_in g.S.Sink.takes g.S.Sink.stops set l m1 (awaiting w behind) c.open_group.new.self (opened_turn w) w None
     (run_in (set_of c.args.templates.now) c.args.start)
     (reader_of l.strict (group_from set (bounds l) c.args.node (run_in (set_of c.args.templates.now) c.args.start)

@@ -1,4 +1,4 @@
-use Rattle.std.proofs.Common.{◌≡◌, ap, ◌∙◌, sym, length}
+use Rattle.std.proofs.Common.{◌≡◌, ap, ◌∙◌, sym, [], length}
 use Rattle.std.specs.Prelude.{true, false, ◌&&◌, not, nat_le, Option}
 use Rattle.std.proofs.lemmas.Option.{slice_get_within}
 use Rattle.fast_wire.specs.meaning.Maps.{bytes_for}
@@ -27,11 +27,11 @@ pub returns-in_default-clause-turn : goal.returns-in_default-clause-turn
 returns-in_default-clause-turn g c =
     let set = set_of c.args.templates.now in
     let d = slots_dictionary c.args.self.now.slots in
-    let v : Option ScalarData = value_at c.args.source identifier d c.args.self.now.text.text c.args.piece.now in
+    let v : Option ScalarData = value_at c.args.source identifier d c.args.self.now.text.text [] in
     let is : c.id_of.result ≡ id_of v =
     c.id_of.ensures ∙ ap id_of c.value_at-value.ensures ∙ ap
-    (λ f. id_of (value_at c.args.source f d c.as_slice-text.result.now c.args.piece.now)) c.requires.behind.supplied.identifier
-    ∙ ap (λ w. id_of (value_at c.args.source identifier d w c.args.piece.now)) c.as_slice-text.ensures in
+    (λ f. id_of (value_at c.args.source f d c.as_slice-text.result.now [])) c.requires.behind.supplied.identifier
+    ∙ ap (λ w. id_of (value_at c.args.source identifier d w [])) c.as_slice-text.ensures in
     turn_fault g.S.Sink.takes g.S.Sink.stops set c.args.limits _ c.args.sink.now D9 c.args.self.now
     (behind_unknown set c.args.limits.strict (bounds c.args.limits) c.args.self.now.cursor.map v (state_past identifier d 0 c.args.self.now.cursor)
     (named_none set v (λ id j t e. c.in_default.ensures.none id j t (is ∙ e))))
@@ -53,11 +53,11 @@ returns-then-is_too_wide-clause-turn g c =
     let t = w.template in
     let found = w.found in
     let named = template_data (instructions_from 0 set.nodes) t in
-    let v : Option ScalarData = value_at c.args.source identifier d c.args.self.now.text.text c.args.piece.now in
+    let v : Option ScalarData = value_at c.args.source identifier d c.args.self.now.text.text [] in
     let same : c.id_of.result ≡ id_of v =
     c.id_of.ensures ∙ ap id_of c.value_at-value.ensures ∙ ap
-    (λ f. id_of (value_at c.args.source f d c.as_slice-text.result.now c.args.piece.now)) c.requires.behind.supplied.identifier
-    ∙ ap (λ w. id_of (value_at c.args.source identifier d w c.args.piece.now)) c.as_slice-text.ensures in
+    (λ f. id_of (value_at c.args.source f d c.as_slice-text.result.now [])) c.requires.behind.supplied.identifier
+    ∙ ap (λ w. id_of (value_at c.args.source identifier d w [])) c.as_slice-text.ensures in
     let width : c.message_bits-width.result ≡ message_bits named = c.message_bits-width.ensures t found in
     let wide : (strict && not (nat_le (length m) (bytes_for (message_bits named)))) ≡ true =
     ap (λ n. strict && not (nat_le (length m) (bytes_for n))) (sym width)
@@ -85,11 +85,11 @@ returns-clause-turn g c =
     let t = w.template in
     let found = w.found in
     let named = template_data (instructions_from 0 set.nodes) t in
-    let v : Option ScalarData = value_at c.args.source identifier d c.args.self.now.text.text c.args.piece.now in
+    let v : Option ScalarData = value_at c.args.source identifier d c.args.self.now.text.text [] in
     let same : c.id_of.result ≡ id_of v =
     c.id_of.ensures ∙ ap id_of c.value_at-value.ensures ∙ ap
-    (λ f. id_of (value_at c.args.source f d c.as_slice-text.result.now c.args.piece.now)) c.requires.behind.supplied.identifier
-    ∙ ap (λ w. id_of (value_at c.args.source identifier d w c.args.piece.now)) c.as_slice-text.ensures in
+    (λ f. id_of (value_at c.args.source f d c.as_slice-text.result.now [])) c.requires.behind.supplied.identifier
+    ∙ ap (λ w. id_of (value_at c.args.source identifier d w [])) c.as_slice-text.ensures in
     let width : c.message_bits-width.result ≡ message_bits named = c.message_bits-width.ensures t found in
     let fits : (strict && not (nat_le (length m) (bytes_for (message_bits named)))) ≡ false =
     ap (λ n. strict && not (nat_le (length m) (bytes_for n))) (sym width)

@@ -14,11 +14,13 @@ use Rattle.fast_stream.specs.meaning.Messages.{State, begin}
 use Rattle.fast_stream.specs.device.Continuations.{message_behind_then}
 use Rattle.fast_stream.specs.device.Readers.{Reader}
 use Rattle.fast_units.specs.device.Taking.{Waits}
+use Rattle.fast_units.specs.device.TextDecisions.{first_reader}
+use Rattle.fast_fields.specs.device.Carries.{IsCarried}
 use Rattle.fast_machine.specs.device.Positions.{set_of, tree_in, behind_map, IsSupplied}
 use Rattle.fast_machine.specs.declared.machine.Machine.{Machine}
 use Rattle.fast_machine.specs.declared.machine.Waiting.TheVariants.{Identifier}
 use Rattle.fast_machine.proofs.steps.FieldTurns.{supplied_like, ready_at, turn_waits, turn_fault, turn_as}
-use Rattle.fast_machine.proofs.machines.ScalarMachines.{still_supplied}
+use Rattle.fast_machine.proofs.machines.FieldTakes.{still_supplied}
 use Rattle.fast_machine.proofs.fields.SentFields.{field_sent_waits, field_unsent, field_at_fault}
 use Rattle.fast_machine.proofs.fields.Identifiers.{map_spare, map_judged, unused_bits, identifier_served, identifier_sent}
 use Rattle.fast_machine.proofs.fields.Identifiers.{identifier_unsent, decided_unsent, identified_by}
@@ -46,19 +48,23 @@ returns-then-bit-clause-turn g c =
     ∙ sym c.bit.ensures ∙ c.if-bit.true in
     let r : Reader Dictionary = reader_of strict (behind_map set l d m) in
     let judged = map_judged strict m (λ w. reader_of strict (behind_map set l d w)) long in
-    let waiting : Machine = record c.args.self.now { waiting = Identifier } in
+    let carry = c.begin.new.self in
+    let waiting : Machine = record c.args.self.now { waiting = Identifier; carry = carry } in
     let supplied : IsSupplied set c.args.limits waiting = supplied_like set c.args.limits c.args.self.now waiting c.requires.behind.supplied (record {
       terms = refl;
+      carry = c.begin.ensures.capacity;
       text = refl;
-      joined = refl;
       identifier = refl;
       rests = refl;
       latest = refl;
     }) c.requires.behind.supplied.counted in
-    turn_waits g.S.Sink.takes g.S.Sink.stops set c.args.limits _ c.args.sink.now waiting (judged ∙ ap (after_bytes r) (sym c.requires.behind.unused))
+    let carried : IsCarried c.args.limits (first_reader c.args.limits identifier d) carry =
+    subst (λ (f : FieldData). IsCarried c.args.limits (first_reader c.args.limits f d) carry) c.requires.behind.supplied.identifier
+    (c.begin.ensures.carried c.args.limits (previous_at c.args.self.now.identifier.entry d)) in
+    turn_waits g.S.Sink.takes g.S.Sink.stops set c.args.limits _ c.args.sink.now waiting (judged ∙ ap (after_bytes r) (sym c.begin.ensures.none))
     (subst Waits (sym judged) (field_sent_waits strict l identifier (begin d (bits m)) (message_behind_then (tree_in set) l m)
     (identifier_sent (begin d (bits m)) bit)))
-    (ready_at set c.args.limits waiting Identifier supplied refl (c.requires.behind.map, bit, c.requires.behind.outermost))
+    (ready_at set c.args.limits waiting Identifier supplied refl (c.requires.behind.map, bit, c.requires.behind.outermost, carried))
 
 pub unsent-requires : goal.unsent-requires
 unsent-requires g c = record { serves = identifier_served (set_of c.args.templates.now) c.args.limits c.args.self.now c.requires.behind.supplied }
@@ -82,7 +88,7 @@ returns-in-Err-clause-turn g c =
     (map_judged strict m (λ w. reader_of strict (behind_map set l d w)) long
     ∙ field_at_fault strict l identifier st (message_behind_then (tree_in set) l m) c.in-Err.code (identifier_unsent l p st bit)
     (decided_unsent p st (Err c.in-Err.code) bit decided))
-    (still_supplied set c.args.limits c.args.self.now c.unsent.new.slots c.args.self.now.entity c.args.self.now.text c.args.self.now.joined
+    (still_supplied set c.args.limits c.args.self.now c.unsent.new.slots c.args.self.now.carry c.args.self.now.text
     c.unsent.ensures.terms refl refl c.requires.behind.supplied)
 
 pub returns-in-Ok-clause-turn : goal.returns-in-Ok-clause-turn

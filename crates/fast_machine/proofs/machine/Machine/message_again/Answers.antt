@@ -21,7 +21,7 @@ returns-then-byte-lt192-clause-ahead c =
     some_as c.latest_again.result
     (λ s h.
     (let (id, held, w) = h in
-    ahead_again (set_of c.args.templates.now) c.args.limits c.args.self.now rest c.requires.supplied c.requires.unused some
+    ahead_again (set_of c.args.templates.now) c.args.limits c.args.self.now rest c.requires.supplied some
     c.if-byte-ge128.true id s.now.number w.template w.found w.own w.first held c.if-byte-lt192.true))
     c.latest_again.ensures
 

@@ -9,6 +9,5 @@ returns-clause-fresh c set l h = record {
   waiting = refl;
   cursor = c.reset.ensures ∙ ap resting (sym c.reset.ensures);
   dictionary = c.reset_all.ensures.entries ∙ ap fresh (slots_sized c.args.self.now.slots ∙ h.entries);
-  entity = c.clear.ensures;
   turns = c.none-self.ensures;
 }

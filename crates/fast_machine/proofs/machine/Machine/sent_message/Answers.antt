@@ -35,7 +35,7 @@ returns-clause-ahead c =
     c.new.result.bytes.now) c.in_ok-id.was c.in_ok-claimed.ensures) in
     let high : 192 ≤ get_or rest 0 0 = search (rules, c.requires.first) in
     let stop : 128 ≤ get_or rest 0 0 = omega (arith, high) in
-    ahead_sent set l c.args.self.now rest c.requires.supplied c.requires.unused c.requires.some stop id c.in_ok-start.start.now.number
+    ahead_sent set l c.args.self.now rest c.requires.supplied c.requires.some stop id c.in_ok-start.start.now.number
     start.template start.found start.own start.first n (slots_dictionary c.set_number.new.self) whole c.set_number.ensures.entry high
     (c.type_inv.rest 0).fits
 
@@ -51,4 +51,4 @@ returns-clause-supplied c =
     let supplied = supplied_latest set l m (Some c.in_ok-start.start) c.requires.supplied
     (start_in set c.in_ok-id.id c.in_ok-start.start.now c.in_ok-start.ensures.some) in
     supplied_like set l known (record known { slots = c.set_number.new.self }) supplied
-    (record { terms = c.set_number.ensures.same; text = refl; joined = refl; identifier = refl; rests = refl; latest = refl }) c.requires.supplied.counted
+    (record { terms = c.set_number.ensures.same; carry = refl; text = refl; identifier = refl; rests = refl; latest = refl }) c.requires.supplied.counted

@@ -4,26 +4,25 @@ use mir.Syntax.{w32}
 use Rattle.std.proofs.lemmas.Int.{to_z-of_z}
 use Rattle.fast_machine.specs.device.Positions.{set_of}
 use Rattle.fast_machine.specs.declared.machine.Waiting.TheVariants.{SegmentMap, Field, Mantissa}
-use Rattle.fast_machine.proofs.fields.ScalarNodes.{is_later}
-use Rattle.fast_machine.proofs.steps.TurnCounts.{paid_awaited, paid_later}
+use Rattle.fast_machine.proofs.steps.TurnCounts.{paid_awaited}
 use Rattle.fast_machine.proofs.machine.Machine.take_awaited.Goals as goal
 
-pub take_first_integer-requires-clause-waits : goal.take_first_integer-requires-clause-waits
-take_first_integer-requires-clause-waits g c = c.in-Field.is
+pub take_instruction-requires-clause-waits : goal.take_instruction-requires-clause-waits
+take_instruction-requires-clause-waits g c = c.in-Field.is
 
-pub take_first_integer-requires-clause-ready : goal.take_first_integer-requires-clause-ready
-take_first_integer-requires-clause-ready g c = c.requires.ready
+pub take_instruction-requires-clause-ready : goal.take_instruction-requires-clause-ready
+take_instruction-requires-clause-ready g c = c.requires.ready
 
-pub take_first_integer-requires-clause-some : goal.take_first_integer-requires-clause-some
-take_first_integer-requires-clause-some g c = c.requires.some
+pub take_instruction-requires-clause-some : goal.take_instruction-requires-clause-some
+take_instruction-requires-clause-some g c = c.requires.some
 
 pub returns-in-Field-clause-taken : goal.returns-in-Field-clause-taken
-returns-in-Field-clause-taken g c = c.take_first_integer.ensures.taken
+returns-in-Field-clause-taken g c = c.take_instruction.ensures.taken
 
 pub returns-in-Field-clause-turns : goal.returns-in-Field-clause-turns
 returns-in-Field-clause-turns g c way n h = paid_awaited way
-    (set_of c.args.templates.now) c.args.limits n c.args.self.now c.take_first_integer.new.self c.take_first_integer.result.turn Field
-    c.in-Field.is refl (c.take_first_integer.ensures.turns way n) h
+    (set_of c.args.templates.now) c.args.limits n c.args.self.now c.take_instruction.new.self c.take_instruction.result.turn Field
+    c.in-Field.is refl (c.take_instruction.ensures.turns way n) h
 
 pub take_map-requires-clause-waits : goal.take_map-requires-clause-waits
 take_map-requires-clause-waits g c = c.in-Map.is
@@ -65,23 +64,6 @@ pub returns-in-SegmentMap-clause-turns : goal.returns-in-SegmentMap-clause-turns
 returns-in-SegmentMap-clause-turns g c way n h = paid_awaited way
     (set_of c.args.templates.now) c.args.limits n c.args.self.now c.take_segment_map.new.self c.take_segment_map.result.turn
     (SegmentMap c.in-SegmentMap.width) c.in-SegmentMap.is refl (c.take_segment_map.ensures.turns way n) h
-
-pub take_later_unit-requires-clause-waits : goal.take_later_unit-requires-clause-waits
-take_later_unit-requires-clause-waits g c = is_later c.args.self.now.waiting c.in-Text.is
-
-pub take_later_unit-requires-clause-ready : goal.take_later_unit-requires-clause-ready
-take_later_unit-requires-clause-ready g c = c.requires.ready
-
-pub take_later_unit-requires-clause-some : goal.take_later_unit-requires-clause-some
-take_later_unit-requires-clause-some g c = c.requires.some
-
-pub returns-in-Text-clause-taken : goal.returns-in-Text-clause-taken
-returns-in-Text-clause-taken g c = c.take_later_unit.ensures.taken
-
-pub returns-in-Text-clause-turns : goal.returns-in-Text-clause-turns
-returns-in-Text-clause-turns g c way n h = paid_later way
-    (set_of c.args.templates.now) c.args.limits n c.args.self.now c.take_later_unit.new.self c.take_later_unit.result.turn c.in-Text.is
-    (c.take_later_unit.ensures.turns way n) h
 
 pub take_mantissa-requires-clause-waits : goal.take_mantissa-requires-clause-waits
 take_mantissa-requires-clause-waits g c = c.in-Mantissa.is ∙ sym (ap Mantissa (to_z-of_z w32 c.in-Mantissa.exponent (search rules)))

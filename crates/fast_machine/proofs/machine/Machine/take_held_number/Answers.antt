@@ -5,14 +5,16 @@ use Rattle.fast_value.specs.meaning.Limits.{bounds}
 use Rattle.fast_tree.specs.meaning.Nodes.{field_data}
 use Rattle.fast_tree.specs.declared.instructions.Shape.TheVariants.{Field}
 use Rattle.fast_dict.specs.declared.slots.Slots.{Slots}
-use Rattle.fast_machine.specs.device.Positions.{set_of}
-use Rattle.fast_machine.specs.device.UnitTaken.{IsSentItem}
+use Rattle.fast_dict.specs.meaning.Dictionary.{Dictionary}
+use Rattle.fast_stream.specs.device.Readers.{Reader}
+use Rattle.fast_machine.specs.device.Positions.{set_of, CanTurn}
+use Rattle.fast_machine.specs.device.UnitTaken.{IsTakenTo, IsSentItem}
 use Rattle.fast_machine.proofs.steps.FieldTurns.{serves_here}
 use Rattle.fast_machine.proofs.fields.Heads.{field_head}
-use Rattle.fast_machine.proofs.fields.ScalarNodes.{served_node, first_begins, first_below}
+use Rattle.fast_machine.proofs.fields.FieldNodes.{served_node, first_below}
 use Rattle.fast_machine.proofs.machines.SentItems.{held_item}
-use Rattle.fast_machine.proofs.machines.HeldTexts.{can_take}
-use Rattle.fast_machine.specs.declared.machine.Waiting.TheVariants.{Field}
+use Rattle.fast_machine.proofs.machines.FieldTakes.{field_begun, meaning_first}
+use Rattle.fast_machine.proofs.machines.UnitTaken.{can_take_field}
 use Rattle.fast_machine.proofs.machine.Machine.take_held_number.Goals as goal
 
 pub integer_item-requires-clause-serves : goal.integer_item-requires-clause-serves
@@ -23,8 +25,8 @@ integer_item-requires-clause-serves g c =
 
 pub integer_item-requires-clause-varies : goal.integer_item-requires-clause-varies
 integer_item-requires-clause-varies g c =
-    (first_begins (set_of c.args.templates.now) c.args.limits c.args.self.now c.in_ok-number.number
-    (field_data c.in-Field.field) c.requires.ready c.requires.waits
+    (field_begun (set_of c.args.templates.now) c.args.limits c.args.self.now c.in_ok-number.number c.requires.ready
+    (field_data c.in-Field.field) c.requires.waits
     (field_head c.args.templates.now c.args.self.now.cursor c.in_ok-number.number c.node.result.now
     (sym c.next.ensures ∙ c.in_ok-number.was) c.node.ensures.found c.in-Field.field c.in-Field.is)).0.varies
 
@@ -34,21 +36,26 @@ returns-clause-taken g c =
     let l = c.args.limits in
     let m = c.args.self.now in
     let field = c.in-Field.field in
+    let front = m.carry.bytes.text in
     let whole = c.in_ok-bytes.ensures in
-    let size = c.len-held.ensures in
+    let size = c.len-held.ensures.len in
     let more = c.if-entity-held.false in
     let fits = c.if-entity-held-2.false in
-    let behind : length m.entity.bytes < c.in_ok-entity.entity.len = omega (arith, size, more) in
-    let among : c.in_ok-entity.entity.len ≤ length m.entity.bytes + c.in_ok-bytes.count = omega (arith, size, fits) in
-    let item = held_item c.args.templates.now l m c.integer_item.new.slots c.in_ok-number.number c.node.result.now field c.requires.waits
-    c.requires.ready (sym c.next.ensures ∙ c.in_ok-number.was) c.node.ensures.found c.in-Field.is c.integer_item.ensures.terms
-    c.clear.new.self c.args.rest.now c.in_ok-bytes.bytes c.in_ok-item.item c.in_ok-entity.entity.len c.in_ok-bytes.count c.clear.ensures
-    whole.within whole.joined behind among (c.in_ok-item.ensures.unit (bounds l)) in
-    let sent = subst (λ (k : ℕ). IsSentItem set l m (record m {
-      slots = c.integer_item.new.slots;
-      entity = c.clear.new.self;
-    }) c.in_ok-number.number (field_data field) c.args.rest.now c.in_ok-item.item (c.in_ok-entity.entity.len - k)) (sym size) item in
-    c.sent.ensures.taken set l m c.args.rest.now (field_data field) c.uses_bit.ensures sent
+    let behind : length front < c.in_ok-entity.entity.len = omega (arith, size, more) in
+    let among : c.in_ok-entity.entity.len ≤ length front + c.in_ok-bytes.count = omega (arith, size, fits) in
+    let can = can_take_field set l m c.requires.waits c.requires.ready in
+    let turn : CanTurn set l m = record { supplied = c.requires.ready.supplied; placed = can.0; mapped = can.1 } in
+    let here = sym c.next.ensures ∙ c.in_ok-number.was in
+    let at = field_head c.args.templates.now m.cursor c.in_ok-number.number c.node.result.now here c.node.ensures.found field c.in-Field.is in
+    let (sent, begun) = field_begun set l m c.in_ok-number.number c.requires.ready (field_data field) c.requires.waits at in
+    let item = held_item c.args.templates.now l m c.integer_item.new.slots c.in_ok-number.number c.node.result.now field turn here
+    c.node.ensures.found c.in-Field.is sent c.integer_item.ensures.terms front c.args.rest.now c.in_ok-bytes.bytes c.in_ok-item.item
+    c.in_ok-entity.entity.len c.in_ok-bytes.count whole.within whole.joined behind among (c.in_ok-item.ensures.unit (bounds l)) in
+    let given = subst (λ (k : ℕ). IsSentItem set l m (record m { slots = c.integer_item.new.slots }) c.in_ok-number.number (field_data field)
+    front c.args.rest.now c.in_ok-item.item (c.in_ok-entity.entity.len - k)) (sym size) item in
+    subst (λ (r : Reader Dictionary). IsTakenTo g.S.Sink.takes g.S.Sink.stops set l r c.args.rest.now c.args.sink.now c.sent.result.bytes
+    c.sent.result.turn c.sent.new.sink c.sent.new.self) (sym (meaning_first set l m c.requires.waits))
+    (c.sent.ensures.taken set l m front c.args.rest.now (field_data field) c.uses_bit.ensures given)
 
 pub returns-clause-turns : goal.returns-clause-turns
 returns-clause-turns g c way n h =
@@ -56,26 +63,29 @@ returns-clause-turns g c way n h =
     let l = c.args.limits in
     let m = c.args.self.now in
     let field = c.in-Field.field in
+    let front = m.carry.bytes.text in
     let whole = c.in_ok-bytes.ensures in
-    let size = c.len-held.ensures in
+    let size = c.len-held.ensures.len in
     let more = c.if-entity-held.false in
     let fits = c.if-entity-held-2.false in
-    let behind : length m.entity.bytes < c.in_ok-entity.entity.len = omega (arith, size, more) in
-    let among : c.in_ok-entity.entity.len ≤ length m.entity.bytes + c.in_ok-bytes.count = omega (arith, size, fits) in
-    let item = held_item c.args.templates.now l m c.integer_item.new.slots c.in_ok-number.number c.node.result.now field c.requires.waits
-    c.requires.ready (sym c.next.ensures ∙ c.in_ok-number.was) c.node.ensures.found c.in-Field.is c.integer_item.ensures.terms
-    c.clear.new.self c.args.rest.now c.in_ok-bytes.bytes c.in_ok-item.item c.in_ok-entity.entity.len c.in_ok-bytes.count c.clear.ensures
-    whole.within whole.joined behind among (c.in_ok-item.ensures.unit (bounds l)) in
-    let sent = subst (λ (k : ℕ). IsSentItem set l m (record m {
-      slots = c.integer_item.new.slots;
-      entity = c.clear.new.self;
-    }) c.in_ok-number.number (field_data field) c.args.rest.now c.in_ok-item.item (c.in_ok-entity.entity.len - k)) (sym size) item in
-    c.sent.ensures.turns set l m c.args.rest.now (field_data field) sent way n h
+    let behind : length front < c.in_ok-entity.entity.len = omega (arith, size, more) in
+    let among : c.in_ok-entity.entity.len ≤ length front + c.in_ok-bytes.count = omega (arith, size, fits) in
+    let can = can_take_field set l m c.requires.waits c.requires.ready in
+    let turn : CanTurn set l m = record { supplied = c.requires.ready.supplied; placed = can.0; mapped = can.1 } in
+    let here = sym c.next.ensures ∙ c.in_ok-number.was in
+    let at = field_head c.args.templates.now m.cursor c.in_ok-number.number c.node.result.now here c.node.ensures.found field c.in-Field.is in
+    let (sent, begun) = field_begun set l m c.in_ok-number.number c.requires.ready (field_data field) c.requires.waits at in
+    let item = held_item c.args.templates.now l m c.integer_item.new.slots c.in_ok-number.number c.node.result.now field turn here
+    c.node.ensures.found c.in-Field.is sent c.integer_item.ensures.terms front c.args.rest.now c.in_ok-bytes.bytes c.in_ok-item.item
+    c.in_ok-entity.entity.len c.in_ok-bytes.count whole.within whole.joined behind among (c.in_ok-item.ensures.unit (bounds l)) in
+    let given = subst (λ (k : ℕ). IsSentItem set l m (record m { slots = c.integer_item.new.slots }) c.in_ok-number.number (field_data field)
+    front c.args.rest.now c.in_ok-item.item (c.in_ok-entity.entity.len - k)) (sym size) item in
+    c.sent.ensures.turns set l m front c.args.rest.now (field_data field) given way n h
 
 pub node-requires : goal.node-requires
 node-requires g c =
     let m = c.args.self.now in
-    let can = can_take (set_of c.args.templates.now) c.args.limits m m.turns Field c.requires.waits c.requires.ready in
+    let can = can_take_field (set_of c.args.templates.now) c.args.limits m c.requires.waits c.requires.ready in
     first_below _ m.cursor.left c.in_ok-number.number can.0.below (sym c.next.ensures ∙ c.in_ok-number.was)
 
 pub returns-in_err-number-clause-none : goal.returns-in_err-number-clause-none

@@ -19,11 +19,9 @@ use Rattle.fast_machine.specs.device.Positions.{set_of, meaning, CanTake, IsTurn
 use Rattle.fast_machine.specs.declared.machine.Waiting.{Waiting}
 use Rattle.fast_machine.proofs.machines.UnitTaken.{cut_to, wrong_to}
 use Rattle.fast_machine.proofs.steps.FieldTurns.{serves_here, behind, mantissa_from, mantissa_next, serves_known, entry_here, turn_moved}
-use Rattle.fast_machine.proofs.fields.ScalarNodes.{at_parts_node, mantissa_parts, not_decimal, served_node, first_below}
-use Rattle.fast_machine.proofs.machines.PartTakes.{integer_whole, integer_wrong, integer_cut, mantissa_sees, mantissa_sent, meaning_second}
-use Rattle.fast_machine.proofs.machines.PartTakes.{second_cut, second_ready, second_turn, part_supplied}
-use Rattle.fast_machine.proofs.machines.HeldTexts.{can_take}
-use Rattle.fast_machine.specs.declared.machine.Waiting.TheVariants.{Mantissa}
+use Rattle.fast_machine.proofs.fields.FieldNodes.{at_parts_node, mantissa_parts, not_decimal, served_node, first_below}
+use Rattle.fast_machine.proofs.machines.FieldTakes.{integer_whole, field_wrong, field_cut, mantissa_sees, mantissa_begun, mantissa_on, meaning_second}
+use Rattle.fast_machine.proofs.machines.FieldTakes.{second_cut, second_ready, second_turn, field_supplied}
 use Rattle.fast_machine.proofs.machine.Machine.take_mantissa.Goals as goal
 
 pub returns-in_default-shape : goal.returns-in_default-shape
@@ -35,8 +33,8 @@ returns-in_default-shape g c =
     (sym c.next.ensures ∙ c.in-Some.is) c.node.ensures.found can.2 in
     absurd (not_decimal c.node.result.now.shape is_decimal c.in_default-shape.not-Decimal)
 
-pub take_integer-requires-clause-serves : goal.take_integer-requires-clause-serves
-take_integer-requires-clause-serves g c =
+pub read-requires-clause-serves : goal.read-requires-clause-serves
+read-requires-clause-serves g c =
     let set = set_of c.args.templates.now in
     let l = c.args.limits in
     let m = c.args.self.now in
@@ -46,8 +44,8 @@ take_integer-requires-clause-serves g c =
     c.node.ensures.found c.in-Decimal.is in
     serves_here set l m f c.requires.ready.supplied served.1
 
-pub take_integer-requires-clause-sent : goal.take_integer-requires-clause-sent
-take_integer-requires-clause-sent g c =
+pub read-requires-clause-varies : goal.read-requires-clause-varies
+read-requires-clause-varies g c =
     let set = set_of c.args.templates.now in
     let l = c.args.limits in
     let m = c.args.self.now in
@@ -56,8 +54,19 @@ take_integer-requires-clause-sent g c =
     let at = at_parts_node set m.cursor n c.node.result.now c.args.templates.now.nodes_name_later_nodes
     (sym c.next.ensures ∙ c.in-Some.is) c.node.ensures.found c.in-Decimal.exponent c.in-Decimal.mantissa c.in-Decimal.is in
     let x = c.args.exponent in
-    let sent = mantissa_sent set l m n (field_data c.in-Decimal.exponent) f x c.requires.ready c.requires.waits at in
+    let (sent, begun) = mantissa_begun set l m n c.requires.ready (field_data c.in-Decimal.exponent) f x c.requires.waits at in
     sent.varies
+
+pub read-requires-clause-carried : goal.read-requires-clause-carried
+read-requires-clause-carried g c =
+    let set = set_of c.args.templates.now in
+    let l = c.args.limits in
+    let m = c.args.self.now in
+    let f = field_data c.in-Decimal.mantissa in
+    let n = c.in-Some.number in
+    let at = at_parts_node set m.cursor n c.node.result.now c.args.templates.now.nodes_name_later_nodes
+    (sym c.next.ensures ∙ c.in-Some.is) c.node.ensures.found c.in-Decimal.exponent c.in-Decimal.mantissa c.in-Decimal.is in
+    (mantissa_begun set l m n c.requires.ready (field_data c.in-Decimal.exponent) f c.args.exponent c.requires.waits at).1
 
 pub finish_decimal-turn-requires-clause-entry : goal.finish_decimal-turn-requires-clause-entry
 finish_decimal-turn-requires-clause-entry g c =
@@ -68,10 +77,11 @@ finish_decimal-turn-requires-clause-entry g c =
     let n = c.in-Some.number in
     let served = served_node set l m n c.node.result.now (Decimal c.in-Decimal.exponent c.in-Decimal.mantissa) c.requires.ready.supplied
     c.node.ensures.found c.in-Decimal.is in
-    let slots = c.take_integer.new.slots in
-    let a = record m { slots = slots; entity = c.take_integer.new.pending } in
-    entry_here set l a f (part_supplied set l m slots c.take_integer.new.pending c.requires.ready c.take_integer.ensures.terms)
-    (serves_known set m slots f c.take_integer.ensures.terms served.1)
+    let slots = c.read.new.slots in
+    let a = record m { slots = slots; carry = c.read.new.self; text = c.read.new.text } in
+    entry_here set l a f (field_supplied set l m slots c.read.new.self c.read.new.text c.requires.ready c.read.ensures.terms c.read.ensures.capacity.0
+    c.read.ensures.capacity.1)
+    (serves_known set m slots f c.read.ensures.terms served.1)
 
 pub returns-in-Cut-clause-taken : goal.returns-in-Cut-clause-taken
 returns-in-Cut-clause-taken g c =
@@ -85,17 +95,19 @@ returns-in-Cut-clause-taken g c =
     let at = at_parts_node set m.cursor n c.node.result.now c.args.templates.now.nodes_name_later_nodes
     (sym c.next.ensures ∙ c.in-Some.is) c.node.ensures.found c.in-Decimal.exponent c.in-Decimal.mantissa c.in-Decimal.is in
     let x = c.args.exponent in
-    let sent = mantissa_sent set l m n (field_data c.in-Decimal.exponent) f x c.requires.ready c.requires.waits at in
+    let (sent, begun) = mantissa_begun set l m n c.requires.ready (field_data c.in-Decimal.exponent) f x c.requires.waits at in
     let k : Found → Grammar Dictionary = λ r. handed_then n (behind set l m) (decimal_with x r.0) r.1 in
     let next = mantissa_next set l m n (field_data c.in-Decimal.exponent) f x at in
     let is = meaning_second set l m x c.requires.waits in
-    let a = record m { slots = c.take_integer.new.slots; entity = c.take_integer.new.pending } in
-    let (stays, same) = c.in-Cut.ensures.unit (bounds l) [] in
+    let a = record m { slots = c.read.new.slots; carry = c.read.new.self; text = c.read.new.text } in
+    let (stays, same) = c.in-Cut.ensures.unit in
+    let (held, more) = c.in-Cut.ensures.cut refl in
     cut_to takes stops set l (meaning set l m) c.args.rest.now c.args.sink.now a c.cut-in-Cut.ensures.bytes c.cut-in-Cut.ensures.turn
-    (second_ready set l m c.take_integer.new.slots c.take_integer.new.pending c.requires.ready c.take_integer.ensures.terms x c.requires.waits same)
-    (integer_cut takes stops set l m f k (mantissa_from set l m x) c.args.rest.now sent next is a c.take_integer.new.pending
-    (second_cut set l m c.take_integer.new.slots c.take_integer.new.pending x c.requires.waits same)
-    (c.in-Cut.ensures.cut refl) c.requires.some stays c.args.sink.now)
+    (second_ready set l m c.read.new.slots c.read.new.self c.read.new.text c.requires.ready c.read.ensures.terms c.read.ensures.capacity.0
+    c.read.ensures.capacity.1 x
+    c.requires.waits same (mantissa_on set l m n c.requires.ready (field_data c.in-Decimal.exponent) f c.read.new.self at sent more))
+    (field_cut takes stops set l m f k (mantissa_from set l m x) (meaning set l m) m.carry.bytes.text c.args.rest.now sent next is a c.read.new.self
+    (second_cut set l m c.read.new.slots c.read.new.self c.read.new.text x c.requires.waits same) held c.requires.some stays c.args.sink.now)
 
 pub returns-in-Wrong-clause-taken : goal.returns-in-Wrong-clause-taken
 returns-in-Wrong-clause-taken g c =
@@ -109,16 +121,16 @@ returns-in-Wrong-clause-taken g c =
     let at = at_parts_node set m.cursor n c.node.result.now c.args.templates.now.nodes_name_later_nodes
     (sym c.next.ensures ∙ c.in-Some.is) c.node.ensures.found c.in-Decimal.exponent c.in-Decimal.mantissa c.in-Decimal.is in
     let x = c.args.exponent in
-    let sent = mantissa_sent set l m n (field_data c.in-Decimal.exponent) f x c.requires.ready c.requires.waits at in
+    let (sent, begun) = mantissa_begun set l m n c.requires.ready (field_data c.in-Decimal.exponent) f x c.requires.waits at in
     let k : Found → Grammar Dictionary = λ r. handed_then n (behind set l m) (decimal_with x r.0) r.1 in
     let next = mantissa_next set l m n (field_data c.in-Decimal.exponent) f x at in
     let is = meaning_second set l m x c.requires.waits in
-    let a = record m { slots = c.take_integer.new.slots; entity = c.take_integer.new.pending } in
+    let a = record m { slots = c.read.new.slots; carry = c.read.new.self; text = c.read.new.text } in
     wrong_to takes stops set l (meaning set l m) c.args.rest.now c.args.sink.now a (Why.Stream c.in-Wrong.code) c.wrong.ensures.bytes c.wrong.ensures.turn
-    (part_supplied set l m c.take_integer.new.slots c.take_integer.new.pending c.requires.ready c.take_integer.ensures.terms)
-    (integer_wrong takes stops set l m f k (mantissa_from set l m x) c.args.rest.now sent next is
-    (slots_dictionary c.take_integer.new.slots) [] c.in-Wrong.code c.in-Wrong.bytes
-    (c.in-Wrong.ensures.unit (bounds l) []) c.args.sink.now)
+    (field_supplied set l m c.read.new.slots c.read.new.self c.read.new.text c.requires.ready c.read.ensures.terms c.read.ensures.capacity.0
+    c.read.ensures.capacity.1)
+    (field_wrong takes stops set l m f k (mantissa_from set l m x) (meaning set l m) m.carry.bytes.text c.args.rest.now sent next is
+    (slots_dictionary c.read.new.slots) c.read.new.text.text c.in-Wrong.code c.in-Wrong.bytes c.in-Wrong.ensures.unit c.args.sink.now)
 
 pub returns-in-Whole-clause-taken : goal.returns-in-Whole-clause-taken
 returns-in-Whole-clause-taken g c =
@@ -132,23 +144,23 @@ returns-in-Whole-clause-taken g c =
     let at = at_parts_node set m.cursor n c.node.result.now c.args.templates.now.nodes_name_later_nodes
     (sym c.next.ensures ∙ c.in-Some.is) c.node.ensures.found c.in-Decimal.exponent c.in-Decimal.mantissa c.in-Decimal.is in
     let x = c.args.exponent in
-    let sent = mantissa_sent set l m n (field_data c.in-Decimal.exponent) f x c.requires.ready c.requires.waits at in
+    let (sent, begun) = mantissa_begun set l m n c.requires.ready (field_data c.in-Decimal.exponent) f x c.requires.waits at in
     let k : Found → Grammar Dictionary = λ r. handed_then n (behind set l m) (decimal_with x r.0) r.1 in
     let next = mantissa_next set l m n (field_data c.in-Decimal.exponent) f x at in
     let is = meaning_second set l m x c.requires.waits in
-    let slots = c.take_integer.new.slots in
-    let a = record m { slots = slots; entity = c.take_integer.new.pending } in
-    let can = second_turn set l m slots c.take_integer.new.pending c.requires.ready c.take_integer.ensures.terms x c.requires.waits
-    (c.in-Whole.ensures.whole c.in-Whole.source c.in-Whole.bytes refl) in
+    let slots = c.read.new.slots in
+    let a = record m { slots = slots; carry = c.read.new.self; text = c.read.new.text } in
+    let text = c.read.new.text.text in
+    let can = second_turn set l m slots c.read.new.self c.read.new.text c.requires.ready c.read.ensures.terms c.read.ensures.capacity.0
+    c.read.ensures.capacity.1 x c.requires.waits in
     let b = c.finish_decimal-turn.new.self in
     let turn = c.finish_decimal-turn.result in
     let ends = c.finish_decimal-turn.ensures in
     let read : ℤ → Reader Dictionary = λ y. reader_of l.strict
-    (decimal_then set (bounds l) n y (value_at c.in-Whole.source f (slots_dictionary slots) m.text.text []) f
+    (decimal_then set (bounds l) n y (value_at c.in-Whole.found.source f (slots_dictionary slots) text []) f
     (slots_dictionary slots) m.counted m.cursor) in
-    integer_whole takes stops set l m f k (mantissa_from set l m x) c.args.rest.now sent next is
-    (mantissa_sees n x (behind set l m)) slots m.text.text c.in-Whole.source c.in-Whole.bytes
-    (c.in-Whole.ensures.unit (bounds l) m.text.text)
+    integer_whole takes stops set l m f k (mantissa_from set l m x) (meaning set l m) m.carry.bytes.text c.args.rest.now sent next is
+    (mantissa_sees n x (behind set l m)) slots text c.in-Whole.found c.in-Whole.bytes c.in-Whole.ensures.unit
     c.args.sink.now turn c.finish_decimal-turn.new.sink b
     (subst (λ (y : ℤ). IsTurn takes stops set l (read y) c.args.sink.now turn c.finish_decimal-turn.new.sink b)
     (to_z-of_z w32 x c.ranges.exponent)
@@ -159,5 +171,5 @@ returns-in-Whole-clause-taken g c =
 pub node-requires : goal.node-requires
 node-requires g c =
     let m = c.args.self.now in
-    let can = can_take (set_of c.args.templates.now) c.args.limits m m.turns (Mantissa c.args.exponent) c.requires.waits c.requires.ready in
+    let can = subst (λ (w : Waiting). CanTake w (set_of c.args.templates.now) c.args.limits m) c.requires.waits c.requires.ready.takes in
     first_below _ m.cursor.left c.in-Some.number can.0.below (sym c.next.ensures ∙ c.in-Some.is)

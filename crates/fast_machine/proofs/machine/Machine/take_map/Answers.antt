@@ -23,7 +23,7 @@ returns-in-Cut-clause-taken g c =
     let front : List ℕ = m.cursor.map in
     let rest : List ℕ = c.args.rest.now in
     let new : Machine = record m { cursor = c.take_map.new.self } in
-    let (no_stop_yet, room, unused, place) = subst (λ (w : Waiting). CanTake w set l m) c.requires.waits c.requires.ready.takes in
+    let (no_stop_yet, room, place) = subst (λ (w : Waiting). CanTake w set l m) c.requires.waits c.requires.ready.takes in
     let (short, no_stop, bytes) = c.in-Cut.ensures.map in
     let sum : length (front ++ rest) ≡ length front + length rest = length-append front rest in
     let some : 0 < length rest = c.requires.some in
@@ -45,7 +45,7 @@ returns-in-TooLong-clause-taken g c =
     let front : List ℕ = m.cursor.map in
     let rest : List ℕ = c.args.rest.now in
     let n : ℕ = c.in-TooLong.bytes in
-    let (no_stop_yet, room, unused, place) = subst (λ (w : Waiting). CanTake w set l m) c.requires.waits c.requires.ready.takes in
+    let (no_stop_yet, room, place) = subst (λ (w : Waiting). CanTake w set l m) c.requires.waits c.requires.ready.takes in
     let (some, within, full, no_stop) = c.in-TooLong.ensures.map in
     let taken : length (take n rest) ≡ n = length-take-le n rest within in
     let sum : length (front ++ take n rest) ≡ length front + length (take n rest) = length-append front (take n rest) in
@@ -67,7 +67,7 @@ returns-in-Whole-clause-taken g c =
     let front : List ℕ = m.cursor.map in
     let rest : List ℕ = c.args.rest.now in
     let n : ℕ = c.in-Whole.bytes in
-    let (no_stop_yet, room, unused, place) = subst (λ (w : Waiting). CanTake w set l m) c.requires.waits c.requires.ready.takes in
+    let (no_stop_yet, room, place) = subst (λ (w : Waiting). CanTake w set l m) c.requires.waits c.requires.ready.takes in
     let (some, within, short, entity, bytes) = c.in-Whole.ensures.map in
     whole_to g.S.Sink.takes g.S.Sink.stops set l L3 map_limit (mapped_reader set l d)
     (meaning set l m) front rest n c.args.sink.now c.mapped-turn.result c.mapped-turn.new.sink c.mapped-turn.new.self

@@ -32,7 +32,7 @@ returns-in-Cut-clause-taken g c =
     let front : List ℕ = m.cursor.map in
     let rest : List ℕ = c.args.rest.now in
     let new : Machine = record m { cursor = c.take_map.new.self } in
-    let (no_stop_yet, room, unused, none, placed, wide) = subst (λ (w : Waiting). CanTake w set l m) c.requires.waits c.requires.ready.takes in
+    let (no_stop_yet, room, none, placed, wide) = subst (λ (w : Waiting). CanTake w set l m) c.requires.waits c.requires.ready.takes in
     let (short, no_stop, bytes) = c.in-Cut.ensures.map in
     let k = segment_judged set l d m.counted m.cursor width in
     let r : Reader Dictionary = reader_of l.strict (segment_behind set (bounds l) d m.counted m.cursor width) in
@@ -57,7 +57,7 @@ returns-in-TooLong-clause-taken g c =
     let front : List ℕ = m.cursor.map in
     let rest : List ℕ = c.args.rest.now in
     let n : ℕ = c.in-TooLong.bytes in
-    let (no_stop_yet, room, unused, none, placed, wide) = subst (λ (w : Waiting). CanTake w set l m) c.requires.waits c.requires.ready.takes in
+    let (no_stop_yet, room, none, placed, wide) = subst (λ (w : Waiting). CanTake w set l m) c.requires.waits c.requires.ready.takes in
     let (some, within, full, no_stop) = c.in-TooLong.ensures.map in
     let taken : length (take n rest) ≡ n = length-take-le n rest within in
     let sum : length (front ++ take n rest) ≡ length front + length (take n rest) = length-append front (take n rest) in
@@ -84,7 +84,7 @@ returns-in-Whole-clause-taken g c =
     let rest : List ℕ = c.args.rest.now in
     let n : ℕ = c.in-Whole.bytes in
     let new : Machine = record m { cursor = c.take_map.new.self } in
-    let (no_stop_yet, room, unused, none, placed, wide) = subst (λ (w : Waiting). CanTake w set l m) c.requires.waits c.requires.ready.takes in
+    let (no_stop_yet, room, none, placed, wide) = subst (λ (w : Waiting). CanTake w set l m) c.requires.waits c.requires.ready.takes in
     let (some, within, short, entity, bytes) = c.in-Whole.ensures.map in
     let k = segment_judged set l d m.counted m.cursor width in
     let r : Reader Dictionary = reader_of l.strict (segment_behind set (bounds l) d m.counted m.cursor width) in

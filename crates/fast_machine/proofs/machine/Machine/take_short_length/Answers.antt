@@ -1,26 +1,26 @@
 -- The length is whole, and what follows it is a turn.
-use Rattle.std.proofs.Common.{sym, ap, ◌∙◌, subst, ◌+◌, length, [], Ok}
+use Rattle.std.proofs.Common.{refl, sym, ap, ◌∙◌, subst, ◌+◌, length, [], Ok}
 use Rattle.fast_value.specs.meaning.Limits.{bounds}
 use Rattle.fast_tree.specs.meaning.Nodes.{field_data}
 use Rattle.fast_tree.specs.meaning.Numbers.{AreBelow, numbers_of}
-use Rattle.fast_tree.specs.meaning.Tree.{FieldData}
 use Rattle.fast_tree.specs.declared.instructions.Shape.TheVariants.{Sequence}
 use Rattle.fast_dict.specs.meaning.Slots.{slots_dictionary}
 use Rattle.fast_stream.specs.device.Continuations.{sequence_from_then, segment_then, body_then}
 use Rattle.fast_units.specs.declared.source.ValueSource.{ValueSource}
 use Rattle.fast_units.specs.declared.progress.Progress.TheVariants.{Whole}
 use Rattle.fast_units.specs.device.Words.{sent_reader, IsLastUnitOf}
-use Rattle.fast_machine.specs.declared.machine.Waiting.{Waiting}
+use Rattle.fast_machine.specs.declared.machine.Machine.{Machine}
+use Rattle.fast_machine.specs.declared.machine.Waiting.TheVariants.{Field}
 use Rattle.fast_machine.specs.declared.machine.Turn.TheVariants.{Waits}
 use Rattle.fast_machine.specs.device.Positions.{set_of, run_in, body_in, turning, IsAtSequence, IsTurn}
-use Rattle.fast_machine.proofs.steps.FieldTurns.{serves_here, state_of, behind}
-use Rattle.fast_machine.proofs.steps.SegmentTurns.{length_waits}
+use Rattle.fast_machine.proofs.steps.FieldTurns.{serves_here, state_of, behind, nothing_carried, carries_nothing}
+use Rattle.fast_machine.proofs.steps.SegmentTurns.{length_waits, sequence_next}
 use Rattle.fast_machine.proofs.steps.TurnCounts.{one_unit}
 use Rattle.fast_machine.proofs.fields.Heads.{sequence_head}
 use Rattle.fast_machine.proofs.fields.QuickFields.{sent_by_bit}
-use Rattle.fast_machine.proofs.fields.ScalarNodes.{served_node, first_below}
-use Rattle.fast_machine.proofs.machines.PartTakes.{integer_at_once, length_sees, sequence_next, meaning_first}
-use Rattle.fast_machine.proofs.machines.SentItems.{number_step}
+use Rattle.fast_machine.proofs.fields.FieldNodes.{served_node, first_below}
+use Rattle.fast_machine.proofs.machines.FieldTakes.{integer_at_once, length_sees}
+use Rattle.fast_machine.proofs.machines.SentItems.{step_from}
 use Rattle.fast_machine.proofs.machine.Machine.take_short_length.Goals as goal
 
 pub integer_item-requires-clause-serves : goal.integer_item-requires-clause-serves
@@ -74,12 +74,14 @@ returns-clause-step g c =
     ((c.body_start-start.ensures c.node.result.now c.node.ensures.found).nodes ∙ ap numbers_of c.in-Sequence.is) in
     let sent = sent_by_bit f (state_of m) c.in_ok-bit_of_sent.field-0 uses.varies (sym uses.uses) uses.sent in
     let k = sequence_from_then (bounds l) n (segment_then (body_in set body) (body_then (bounds l) (body_in set body))) (behind set l m) in
-    let waits : IsTurn takes stops set l (turning set l m) s (Ok Waits) s m =
-    subst (λ (w : Waiting). IsTurn takes stops set l (turning set l m) s (Ok Waits) s (record m { waiting = w })) (sym c.requires.waits)
-    (length_waits takes stops set l s m n f body c.requires.turn at sent) in
-    number_step takes stops set l m turn.new.self rest s (record { bytes = len; turn = turn.result }) turn.new.sink c.requires.waits waits
-    (integer_at_once takes stops set l m f k (turning set l m) rest sent
-    (sequence_next set l m n f body at) (meaning_first set l m c.requires.waits) c.requires.turn.unused
+    let c0 = nothing_carried m.carry.bytes.capacity in
+    let w : Machine = record m { waiting = Field; carry = c0 } in
+    let waits : IsTurn takes stops set l (turning set l m) s (Ok Waits) s w =
+    length_waits takes stops set l s m w n f body c.requires.turn at sent refl refl refl
+    (carries_nothing l f (slots_dictionary m.slots) m.carry.bytes.capacity sent.varies) in
+    step_from takes stops set l m w turn.new.self rest s (record { bytes = len; turn = turn.result }) turn.new.sink waits refl refl
+    (integer_at_once takes stops set l m f k (turning set l m) (turning set l m) [] rest sent
+    (sequence_next set l m n f body at) refl
     (length_sees (bounds l) n (body_in set body) (behind set l m)) slots m.text.text c.source_of-source.result len
     (subst (λ (y : ValueSource). IsLastUnitOf (sent_reader l.strict (bounds l) m.slots c.in-Sequence.length) c.in-Sequence.length [] rest m.slots
     slots m.text.text (Whole y len)) (sym c.source_of-source.ensures) (c.in_ok-item.ensures.unit (bounds l) m.text.text))

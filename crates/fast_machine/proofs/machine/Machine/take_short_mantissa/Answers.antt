@@ -16,22 +16,21 @@ use Rattle.fast_dict.specs.meaning.Slots.{slots_dictionary}
 use Rattle.fast_stream.specs.device.Continuations.{handed_then}
 use Rattle.fast_stream.specs.meaning.Grammar.{Grammar}
 use Rattle.fast_stream.specs.device.GrammarReaders.{reader_of}
+use Rattle.fast_stream.specs.device.Machine.{after_bytes}
 use Rattle.fast_units.specs.device.Settling.{value_at}
 use Rattle.fast_units.specs.device.Deciding.{source_of}
 use Rattle.fast_units.specs.declared.source.ValueSource.{ValueSource}
 use Rattle.fast_machine.specs.device.Passing.{decimal_then}
 use Rattle.fast_stream.specs.meaning.Messages.{Found, decimal_with}
-use Rattle.fast_machine.specs.device.Positions.{set_of, meaning, CanTurn, IsAtParts, IsTurn}
+use Rattle.fast_machine.specs.device.Positions.{set_of, meaning, CanTake, CanTurn, IsAtParts, IsTurn}
 use Rattle.fast_machine.proofs.steps.Recounted.{supplied-turns}
-use Rattle.fast_machine.proofs.steps.FieldTurns.{serves_here, behind, mantissa_from, mantissa_next, serves_known, entry_here}
+use Rattle.fast_machine.proofs.steps.FieldTurns.{supplied_moved, goes_on_moved, serves_here, behind, mantissa_from, mantissa_next, serves_known, entry_here}
 use Rattle.fast_machine.proofs.fields.Heads.{parts_head}
-use Rattle.fast_machine.proofs.machines.ScalarSteps.{supplied_moved, goes_on_moved}
-use Rattle.fast_machine.proofs.fields.ScalarNodes.{served_node, first_below}
-use Rattle.fast_machine.proofs.machines.PartTakes.{integer_at_once, mantissa_sees, mantissa_sent, meaning_second, second_turn, part_supplied}
+use Rattle.fast_machine.proofs.fields.FieldNodes.{served_node, first_below}
+use Rattle.fast_machine.proofs.machines.FieldTakes.{integer_at_once, mantissa_sees, mantissa_begun, meaning_second, second_turn, field_supplied}
 use Rattle.fast_units.proofs.NextUnits.{none_in_hand}
 use Rattle.fast_machine.proofs.steps.TurnCounts.{finished, one_unit}
-use Rattle.fast_machine.proofs.machines.HeldTexts.{can_take}
-use Rattle.fast_machine.specs.declared.machine.Waiting.TheVariants.{Mantissa}
+use Rattle.fast_machine.specs.declared.machine.Waiting.{Waiting}
 use Rattle.fast_machine.proofs.machine.Machine.take_short_mantissa.Goals as goal
 
 pub mantissa_item-requires-clause-serves : goal.mantissa_item-requires-clause-serves
@@ -52,7 +51,7 @@ finish_decimal-turn-requires-clause-entry g c =
     let slots = c.mantissa_item.new.slots in
     let served = served_node set l m c.in_ok-number.number c.node.result.now
     (Decimal c.in-Decimal.exponent c.in-Decimal.mantissa) c.requires.ready.supplied c.node.ensures.found c.in-Decimal.is in
-    entry_here set l (record m { slots = slots }) f (part_supplied set l m slots m.entity c.requires.ready c.mantissa_item.ensures.terms)
+    entry_here set l (record m { slots = slots }) f (field_supplied set l m slots m.carry m.text c.requires.ready c.mantissa_item.ensures.terms refl refl)
     (serves_known set m slots f c.mantissa_item.ensures.terms served.1)
 
 pub returns-clause-taken : goal.returns-clause-taken
@@ -69,17 +68,15 @@ returns-clause-taken g c =
     let at : IsAtParts set m.cursor n (field_data c.in-Decimal.exponent) f =
     parts_head c.args.templates.now m.cursor n c.node.result.now
     (sym c.next.ensures ∙ c.in_ok-number.was) c.node.ensures.found c.in-Decimal.exponent c.in-Decimal.mantissa c.in-Decimal.is in
-    let sent = mantissa_sent set l m n (field_data c.in-Decimal.exponent) f x c.requires.ready c.requires.waits at in
+    let (sent, begun) = mantissa_begun set l m n c.requires.ready (field_data c.in-Decimal.exponent) f x c.requires.waits at in
     let k : Found → Grammar Dictionary = λ r. handed_then n (behind set l m) (decimal_with x r.0) r.1 in
     let a = record m { slots = slots } in
-    let can : CanTurn set l a = second_turn set l m slots m.entity c.requires.ready c.mantissa_item.ensures.terms x c.requires.waits
-    (none_in_hand m.entity.bytes c.if-not-is_empty.ensures) in
+    let can : CanTurn set l a = second_turn set l m slots m.carry m.text c.requires.ready c.mantissa_item.ensures.terms refl refl x c.requires.waits in
     let from : CanTurn set l (record a { turns = c.after-self.result }) =
     record {
       supplied = supplied-turns set l a c.after-self.result can.supplied;
       placed = can.placed;
       mapped = can.mapped;
-      unused = can.unused;
     } in
     let b = c.finish_decimal-turn.new.self in
     let turn = c.finish_decimal-turn.result in
@@ -93,9 +90,9 @@ returns-clause-taken g c =
       supplied = supplied_moved set l (record a { turns = c.after-self.result }) b from.supplied ends.same ends.rests;
       goes_on = goes_on_moved set l (record a { turns = c.after-self.result }) b turn from ends.same ends.rests ends.past ends.on;
     } in
-    integer_at_once takes stops set l m f k (mantissa_from set l m x) c.args.rest.now sent
-    (mantissa_next set l m n (field_data c.in-Decimal.exponent) f x at) (meaning_second set l m x c.requires.waits)
-    (none_in_hand m.entity.bytes c.if-not-is_empty.ensures)
+    integer_at_once takes stops set l m f k (mantissa_from set l m x) (meaning set l m) [] c.args.rest.now sent
+    (mantissa_next set l m n (field_data c.in-Decimal.exponent) f x at)
+    (meaning_second set l m x c.requires.waits ∙ ap (after_bytes (mantissa_from set l m x)) (none_in_hand m.carry.bytes.text c.if-not-is_empty.ensures))
     (mantissa_sees n x (behind set l m)) slots m.text.text source c.in_ok-entity.entity.len
     (c.in_ok-item.ensures.unit (bounds l) m.text.text)
     c.args.sink.now turn c.finish_decimal-turn.new.sink b
@@ -124,7 +121,7 @@ returns-clause-turns g c way n h =
 pub node-requires : goal.node-requires
 node-requires g c =
     let m = c.args.self.now in
-    let can = can_take (set_of c.args.templates.now) c.args.limits m m.turns (Mantissa c.args.exponent) c.requires.waits c.requires.ready in
+    let can = subst (λ (w : Waiting). CanTake w (set_of c.args.templates.now) c.args.limits m) c.requires.waits c.requires.ready.takes in
     first_below _ m.cursor.left c.in_ok-number.number can.0.below (sym c.next.ensures ∙ c.in_ok-number.was)
 
 pub returns-then-not-is_empty-clause-none : goal.returns-then-not-is_empty-clause-none

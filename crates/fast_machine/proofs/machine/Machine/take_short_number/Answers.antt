@@ -1,8 +1,7 @@
 -- The number, and what follows it.
 use Rattle.std.proofs.Common.{rules, refl, sym, ap, ◌∙◌}
-use Rattle.std.specs.Prelude.{◌≡◌, ◌≢◌, false, Some}
+use Rattle.std.specs.Prelude.{◌≡◌, [], false, Some}
 use Rattle.fast_value.specs.meaning.Kinds.{family}
-use Rattle.fast_value.specs.declared.kinds.Kind.TheVariants.{Ascii}
 use Rattle.fast_value.specs.meaning.Limits.{bounds}
 use Rattle.fast_tree.specs.meaning.Nodes.{field_data}
 use Rattle.fast_tree.specs.meaning.Tree.{uses_bit}
@@ -12,14 +11,9 @@ use Rattle.fast_machine.specs.device.Positions.{set_of}
 use Rattle.fast_machine.proofs.steps.FieldTurns.{serves_here, state_of}
 use Rattle.fast_machine.proofs.fields.Heads.{field_head}
 use Rattle.fast_machine.proofs.fields.QuickFields.{sent_by_bit}
-use Rattle.fast_machine.proofs.fields.ScalarNodes.{served_node, first_below}
-use Rattle.fast_machine.proofs.machines.SentItems.{sent_item, number_waits, number_step}
-use Rattle.fast_machine.proofs.machine.Machine.take_short_number.Given.{Over}
+use Rattle.fast_machine.proofs.fields.FieldNodes.{served_node, first_below}
+use Rattle.fast_machine.proofs.machines.SentItems.{sent_item, field_step}
 use Rattle.fast_machine.proofs.machine.Machine.take_short_number.Goals as goal
-
--- An integer is no ASCII text.
-integer_kind : (g : Over) (c : goal.After-sent g) → c.in-Field.field.kind ≢ Ascii
-integer_kind g c = search rules
 
 pub integer_item-requires-clause-serves : goal.integer_item-requires-clause-serves
 integer_item-requires-clause-serves g c =
@@ -40,15 +34,13 @@ returns-in_ok-item-in-UInt32-clause-taken g c =
     let m = c.args.self.now in
     let field = c.in-Field.field in
     let here = sym c.next.ensures ∙ c.in_ok-number.was in
-    let other = integer_kind g c in
     let uses = c.in_ok-has_bit.ensures in
-    let waits = number_waits g.S.Sink.takes g.S.Sink.stops c.args.templates.now l m c.args.sink.now c.in_ok-number.number c.node.result.now
-    field c.requires.waits c.requires.turn here c.node.ensures.found c.in-Field.is
-    (sent_by_bit (field_data field) (state_of m) c.in_ok-has_bit.has_bit uses.varies (sym uses.uses) uses.sent) other in
-    let item = sent_item c.args.templates.now l m c.integer_item.new.slots c.in_ok-number.number c.node.result.now field c.requires.waits
-    waits.goes_on here c.node.ensures.found c.in-Field.is c.integer_item.ensures.terms
-    c.args.rest.now c.in_ok-item-in-UInt32.item c.in_ok-entity-in-UInt32.entity.len c.requires.turn.unused (c.in_ok-item-in-UInt32.ensures.unit (bounds l)) in
-    c.sent.ensures.taken set l m c.args.rest.now (field_data field) uses.uses item
+    let there = sent_by_bit (field_data field) (state_of m) c.in_ok-has_bit.has_bit uses.varies (sym uses.uses) uses.sent in
+    let item = sent_item c.args.templates.now l m c.integer_item.new.slots c.in_ok-number.number c.node.result.now field c.requires.turn
+    here c.node.ensures.found c.in-Field.is there c.integer_item.ensures.terms [] c.args.rest.now c.in_ok-item-in-UInt32.item
+    c.in_ok-entity-in-UInt32.entity.len
+    (c.in_ok-item-in-UInt32.ensures.unit (bounds l)) in
+    c.sent.ensures.taken set l m [] c.args.rest.now (field_data field) uses.uses item
 
 pub returns-in_ok-item-in-UInt32-clause-turns : goal.returns-in_ok-item-in-UInt32-clause-turns
 returns-in_ok-item-in-UInt32-clause-turns g c way n h =
@@ -57,15 +49,13 @@ returns-in_ok-item-in-UInt32-clause-turns g c way n h =
     let m = c.args.self.now in
     let field = c.in-Field.field in
     let here = sym c.next.ensures ∙ c.in_ok-number.was in
-    let other = integer_kind g c in
     let uses = c.in_ok-has_bit.ensures in
-    let waits = number_waits g.S.Sink.takes g.S.Sink.stops c.args.templates.now l m c.args.sink.now c.in_ok-number.number c.node.result.now
-    field c.requires.waits c.requires.turn here c.node.ensures.found c.in-Field.is
-    (sent_by_bit (field_data field) (state_of m) c.in_ok-has_bit.has_bit uses.varies (sym uses.uses) uses.sent) other in
-    let item = sent_item c.args.templates.now l m c.integer_item.new.slots c.in_ok-number.number c.node.result.now field c.requires.waits
-    waits.goes_on here c.node.ensures.found c.in-Field.is c.integer_item.ensures.terms
-    c.args.rest.now c.in_ok-item-in-UInt32.item c.in_ok-entity-in-UInt32.entity.len c.requires.turn.unused (c.in_ok-item-in-UInt32.ensures.unit (bounds l)) in
-    c.sent.ensures.turns set l m c.args.rest.now (field_data field) item way n h
+    let there = sent_by_bit (field_data field) (state_of m) c.in_ok-has_bit.has_bit uses.varies (sym uses.uses) uses.sent in
+    let item = sent_item c.args.templates.now l m c.integer_item.new.slots c.in_ok-number.number c.node.result.now field c.requires.turn
+    here c.node.ensures.found c.in-Field.is there c.integer_item.ensures.terms [] c.args.rest.now c.in_ok-item-in-UInt32.item
+    c.in_ok-entity-in-UInt32.entity.len
+    (c.in_ok-item-in-UInt32.ensures.unit (bounds l)) in
+    c.sent.ensures.turns set l m [] c.args.rest.now (field_data field) item way n h
 
 pub returns-in_ok-item-in-UInt32-clause-some : goal.returns-in_ok-item-in-UInt32-clause-some
 returns-in_ok-item-in-UInt32-clause-some g c =
@@ -74,15 +64,13 @@ returns-in_ok-item-in-UInt32-clause-some g c =
     let m = c.args.self.now in
     let field = c.in-Field.field in
     let here = sym c.next.ensures ∙ c.in_ok-number.was in
-    let other = integer_kind g c in
     let uses = c.in_ok-has_bit.ensures in
-    let waits = number_waits g.S.Sink.takes g.S.Sink.stops c.args.templates.now l m c.args.sink.now c.in_ok-number.number c.node.result.now
-    field c.requires.waits c.requires.turn here c.node.ensures.found c.in-Field.is
-    (sent_by_bit (field_data field) (state_of m) c.in_ok-has_bit.has_bit uses.varies (sym uses.uses) uses.sent) other in
-    let item = sent_item c.args.templates.now l m c.integer_item.new.slots c.in_ok-number.number c.node.result.now field c.requires.waits
-    waits.goes_on here c.node.ensures.found c.in-Field.is c.integer_item.ensures.terms
-    c.args.rest.now c.in_ok-item-in-UInt32.item c.in_ok-entity-in-UInt32.entity.len c.requires.turn.unused (c.in_ok-item-in-UInt32.ensures.unit (bounds l)) in
-    (c.sent.ensures.taken set l m c.args.rest.now (field_data field) uses.uses item).some
+    let there = sent_by_bit (field_data field) (state_of m) c.in_ok-has_bit.has_bit uses.varies (sym uses.uses) uses.sent in
+    let item = sent_item c.args.templates.now l m c.integer_item.new.slots c.in_ok-number.number c.node.result.now field c.requires.turn
+    here c.node.ensures.found c.in-Field.is there c.integer_item.ensures.terms [] c.args.rest.now c.in_ok-item-in-UInt32.item
+    c.in_ok-entity-in-UInt32.entity.len
+    (c.in_ok-item-in-UInt32.ensures.unit (bounds l)) in
+    (c.sent.ensures.taken set l m [] c.args.rest.now (field_data field) uses.uses item).some
 
 pub returns-in_ok-item-in-UInt32-clause-step : goal.returns-in_ok-item-in-UInt32-clause-step
 returns-in_ok-item-in-UInt32-clause-step g c =
@@ -91,17 +79,16 @@ returns-in_ok-item-in-UInt32-clause-step g c =
     let m = c.args.self.now in
     let field = c.in-Field.field in
     let here = sym c.next.ensures ∙ c.in_ok-number.was in
-    let other = integer_kind g c in
     let uses = c.in_ok-has_bit.ensures in
-    let waits = number_waits g.S.Sink.takes g.S.Sink.stops c.args.templates.now l m c.args.sink.now c.in_ok-number.number c.node.result.now
-    field c.requires.waits c.requires.turn here c.node.ensures.found c.in-Field.is
-    (sent_by_bit (field_data field) (state_of m) c.in_ok-has_bit.has_bit uses.varies (sym uses.uses) uses.sent) other in
-    let item = sent_item c.args.templates.now l m c.integer_item.new.slots c.in_ok-number.number c.node.result.now field c.requires.waits
-    waits.goes_on here c.node.ensures.found c.in-Field.is c.integer_item.ensures.terms
-    c.args.rest.now c.in_ok-item-in-UInt32.item c.in_ok-entity-in-UInt32.entity.len c.requires.turn.unused (c.in_ok-item-in-UInt32.ensures.unit (bounds l)) in
-    number_step g.S.Sink.takes g.S.Sink.stops set l m c.sent.new.self c.args.rest.now c.args.sink.now c.sent.result c.sent.new.sink c.requires.waits waits
-    (c.sent.ensures.taken set l m c.args.rest.now (field_data field) uses.uses item)
-    (λ way n h. c.sent.ensures.turns set l m c.args.rest.now (field_data field) item way n h)
+    let there = sent_by_bit (field_data field) (state_of m) c.in_ok-has_bit.has_bit uses.varies (sym uses.uses) uses.sent in
+    let item = sent_item c.args.templates.now l m c.integer_item.new.slots c.in_ok-number.number c.node.result.now field c.requires.turn
+    here c.node.ensures.found c.in-Field.is there c.integer_item.ensures.terms [] c.args.rest.now c.in_ok-item-in-UInt32.item
+    c.in_ok-entity-in-UInt32.entity.len
+    (c.in_ok-item-in-UInt32.ensures.unit (bounds l)) in
+    field_step g.S.Sink.takes g.S.Sink.stops set l m c.sent.new.self c.in_ok-number.number (field_data field) c.args.rest.now c.args.sink.now c.sent.result
+    c.sent.new.sink c.requires.turn item.next there
+    (c.sent.ensures.taken set l m [] c.args.rest.now (field_data field) uses.uses item)
+    (λ way n h. c.sent.ensures.turns set l m [] c.args.rest.now (field_data field) item way n h)
 
 pub returns-in_ok-decimal-in-Decimal-clause-taken : goal.returns-in_ok-decimal-in-Decimal-clause-taken
 returns-in_ok-decimal-in-Decimal-clause-taken g c =
@@ -110,17 +97,14 @@ returns-in_ok-decimal-in-Decimal-clause-taken g c =
     let m = c.args.self.now in
     let field = c.in-Field.field in
     let here = sym c.next.ensures ∙ c.in_ok-number.was in
-    let other : field.kind ≢ Ascii = λ ascii. absurd (cc (sym c.in-Decimal.is ∙ ascii)) in
     let uses = c.in_ok-has_bit.ensures in
-    let waits = number_waits g.S.Sink.takes g.S.Sink.stops c.args.templates.now l m c.args.sink.now c.in_ok-number.number c.node.result.now
-    field c.requires.waits c.requires.turn here c.node.ensures.found c.in-Field.is
-    (sent_by_bit (field_data field) (state_of m) c.in_ok-has_bit.has_bit uses.varies (sym uses.uses) uses.sent) other in
-    let item = sent_item c.args.templates.now l m c.delta_decimal.new.slots c.in_ok-number.number c.node.result.now field c.requires.waits
-    waits.goes_on here c.node.ensures.found c.in-Field.is c.delta_decimal.ensures.terms
-    c.args.rest.now (Some c.in_ok-decimal-in-Decimal.decimal.number) c.in_ok-decimal-in-Decimal.decimal.bytes c.requires.turn.unused
+    let there = sent_by_bit (field_data field) (state_of m) c.in_ok-has_bit.has_bit uses.varies (sym uses.uses) uses.sent in
+    let item = sent_item c.args.templates.now l m c.delta_decimal.new.slots c.in_ok-number.number c.node.result.now field c.requires.turn
+    here c.node.ensures.found c.in-Field.is there c.delta_decimal.ensures.terms [] c.args.rest.now (Some c.in_ok-decimal-in-Decimal.decimal.number)
+    c.in_ok-decimal-in-Decimal.decimal.bytes
     (c.in_ok-decimal-in-Decimal.ensures.unit (bounds l)) in
     let bit : false ≡ uses_bit (field_data field) = search rules in
-    c.sent-in-Decimal.ensures.taken set l m c.args.rest.now (field_data field) bit item
+    c.sent-in-Decimal.ensures.taken set l m [] c.args.rest.now (field_data field) bit item
 
 pub returns-in_ok-decimal-in-Decimal-clause-turns : goal.returns-in_ok-decimal-in-Decimal-clause-turns
 returns-in_ok-decimal-in-Decimal-clause-turns g c way n h =
@@ -129,16 +113,13 @@ returns-in_ok-decimal-in-Decimal-clause-turns g c way n h =
     let m = c.args.self.now in
     let field = c.in-Field.field in
     let here = sym c.next.ensures ∙ c.in_ok-number.was in
-    let other : field.kind ≢ Ascii = λ ascii. absurd (cc (sym c.in-Decimal.is ∙ ascii)) in
     let uses = c.in_ok-has_bit.ensures in
-    let waits = number_waits g.S.Sink.takes g.S.Sink.stops c.args.templates.now l m c.args.sink.now c.in_ok-number.number c.node.result.now
-    field c.requires.waits c.requires.turn here c.node.ensures.found c.in-Field.is
-    (sent_by_bit (field_data field) (state_of m) c.in_ok-has_bit.has_bit uses.varies (sym uses.uses) uses.sent) other in
-    let item = sent_item c.args.templates.now l m c.delta_decimal.new.slots c.in_ok-number.number c.node.result.now field c.requires.waits
-    waits.goes_on here c.node.ensures.found c.in-Field.is c.delta_decimal.ensures.terms
-    c.args.rest.now (Some c.in_ok-decimal-in-Decimal.decimal.number) c.in_ok-decimal-in-Decimal.decimal.bytes c.requires.turn.unused
+    let there = sent_by_bit (field_data field) (state_of m) c.in_ok-has_bit.has_bit uses.varies (sym uses.uses) uses.sent in
+    let item = sent_item c.args.templates.now l m c.delta_decimal.new.slots c.in_ok-number.number c.node.result.now field c.requires.turn
+    here c.node.ensures.found c.in-Field.is there c.delta_decimal.ensures.terms [] c.args.rest.now (Some c.in_ok-decimal-in-Decimal.decimal.number)
+    c.in_ok-decimal-in-Decimal.decimal.bytes
     (c.in_ok-decimal-in-Decimal.ensures.unit (bounds l)) in
-    c.sent-in-Decimal.ensures.turns set l m c.args.rest.now (field_data field) item way n h
+    c.sent-in-Decimal.ensures.turns set l m [] c.args.rest.now (field_data field) item way n h
 
 pub returns-in_ok-decimal-in-Decimal-clause-some : goal.returns-in_ok-decimal-in-Decimal-clause-some
 returns-in_ok-decimal-in-Decimal-clause-some g c =
@@ -147,17 +128,14 @@ returns-in_ok-decimal-in-Decimal-clause-some g c =
     let m = c.args.self.now in
     let field = c.in-Field.field in
     let here = sym c.next.ensures ∙ c.in_ok-number.was in
-    let other : field.kind ≢ Ascii = λ ascii. absurd (cc (sym c.in-Decimal.is ∙ ascii)) in
     let uses = c.in_ok-has_bit.ensures in
-    let waits = number_waits g.S.Sink.takes g.S.Sink.stops c.args.templates.now l m c.args.sink.now c.in_ok-number.number c.node.result.now
-    field c.requires.waits c.requires.turn here c.node.ensures.found c.in-Field.is
-    (sent_by_bit (field_data field) (state_of m) c.in_ok-has_bit.has_bit uses.varies (sym uses.uses) uses.sent) other in
-    let item = sent_item c.args.templates.now l m c.delta_decimal.new.slots c.in_ok-number.number c.node.result.now field c.requires.waits
-    waits.goes_on here c.node.ensures.found c.in-Field.is c.delta_decimal.ensures.terms
-    c.args.rest.now (Some c.in_ok-decimal-in-Decimal.decimal.number) c.in_ok-decimal-in-Decimal.decimal.bytes c.requires.turn.unused
+    let there = sent_by_bit (field_data field) (state_of m) c.in_ok-has_bit.has_bit uses.varies (sym uses.uses) uses.sent in
+    let item = sent_item c.args.templates.now l m c.delta_decimal.new.slots c.in_ok-number.number c.node.result.now field c.requires.turn
+    here c.node.ensures.found c.in-Field.is there c.delta_decimal.ensures.terms [] c.args.rest.now (Some c.in_ok-decimal-in-Decimal.decimal.number)
+    c.in_ok-decimal-in-Decimal.decimal.bytes
     (c.in_ok-decimal-in-Decimal.ensures.unit (bounds l)) in
     let bit : false ≡ uses_bit (field_data field) = search rules in
-    (c.sent-in-Decimal.ensures.taken set l m c.args.rest.now (field_data field) bit item).some
+    (c.sent-in-Decimal.ensures.taken set l m [] c.args.rest.now (field_data field) bit item).some
 
 pub returns-in_ok-decimal-in-Decimal-clause-step : goal.returns-in_ok-decimal-in-Decimal-clause-step
 returns-in_ok-decimal-in-Decimal-clause-step g c =
@@ -166,20 +144,18 @@ returns-in_ok-decimal-in-Decimal-clause-step g c =
     let m = c.args.self.now in
     let field = c.in-Field.field in
     let here = sym c.next.ensures ∙ c.in_ok-number.was in
-    let other : field.kind ≢ Ascii = λ ascii. absurd (cc (sym c.in-Decimal.is ∙ ascii)) in
     let uses = c.in_ok-has_bit.ensures in
-    let waits = number_waits g.S.Sink.takes g.S.Sink.stops c.args.templates.now l m c.args.sink.now c.in_ok-number.number c.node.result.now
-    field c.requires.waits c.requires.turn here c.node.ensures.found c.in-Field.is
-    (sent_by_bit (field_data field) (state_of m) c.in_ok-has_bit.has_bit uses.varies (sym uses.uses) uses.sent) other in
-    let item = sent_item c.args.templates.now l m c.delta_decimal.new.slots c.in_ok-number.number c.node.result.now field c.requires.waits
-    waits.goes_on here c.node.ensures.found c.in-Field.is c.delta_decimal.ensures.terms
-    c.args.rest.now (Some c.in_ok-decimal-in-Decimal.decimal.number) c.in_ok-decimal-in-Decimal.decimal.bytes c.requires.turn.unused
+    let there = sent_by_bit (field_data field) (state_of m) c.in_ok-has_bit.has_bit uses.varies (sym uses.uses) uses.sent in
+    let item = sent_item c.args.templates.now l m c.delta_decimal.new.slots c.in_ok-number.number c.node.result.now field c.requires.turn
+    here c.node.ensures.found c.in-Field.is there c.delta_decimal.ensures.terms [] c.args.rest.now (Some c.in_ok-decimal-in-Decimal.decimal.number)
+    c.in_ok-decimal-in-Decimal.decimal.bytes
     (c.in_ok-decimal-in-Decimal.ensures.unit (bounds l)) in
     let bit : false ≡ uses_bit (field_data field) = search rules in
-    number_step g.S.Sink.takes g.S.Sink.stops set l m c.sent-in-Decimal.new.self c.args.rest.now c.args.sink.now c.sent-in-Decimal.result
-    c.sent-in-Decimal.new.sink c.requires.waits waits
-    (c.sent-in-Decimal.ensures.taken set l m c.args.rest.now (field_data field) bit item)
-    (λ way n h. c.sent-in-Decimal.ensures.turns set l m c.args.rest.now (field_data field) item way n h)
+    field_step g.S.Sink.takes g.S.Sink.stops set l m c.sent-in-Decimal.new.self c.in_ok-number.number (field_data field) c.args.rest.now c.args.sink.now
+    c.sent-in-Decimal.result
+    c.sent-in-Decimal.new.sink c.requires.turn item.next there
+    (c.sent-in-Decimal.ensures.taken set l m [] c.args.rest.now (field_data field) bit item)
+    (λ way n h. c.sent-in-Decimal.ensures.turns set l m [] c.args.rest.now (field_data field) item way n h)
 
 pub node-requires : goal.node-requires
 node-requires g c = first_below _ c.args.self.now.cursor.left c.in_ok-number.number c.requires.turn.placed.below (sym c.next.ensures ∙ c.in_ok-number.was)

@@ -1,16 +1,14 @@
 -- The unit that the machine waits for, or as much of it as there is.
-use Rattle.std.proofs.Common.{rules, refl, sym, ap, ◌∙◌, subst, arith}
-use Rattle.std.proofs.lemmas.List.{take_rest, length-drop}
-use Rattle.std.specs.Prelude.{◌≡◌, ◌+◌, ◌-◌, ◌<◌, length, take, drop, Ok}
+use Rattle.std.proofs.Common.{rules, refl, sym, ◌∙◌, subst}
+use Rattle.std.specs.Prelude.{◌≡◌, ◌<◌, length, Ok}
 use Rattle.fast_machine.specs.declared.machine.Machine.{Machine}
 use Rattle.fast_machine.specs.declared.machine.Turn.TheVariants.{Waits}
 use Rattle.fast_machine.specs.declared.machine.Waiting.TheVariants.{Field}
 use Rattle.fast_machine.specs.device.Handing.{Hands}
 use Rattle.fast_machine.specs.device.Positions.{set_of, turning, meaning}
-use Rattle.fast_machine.specs.device.Steps.{IsStep}
 use Rattle.fast_machine.specs.device.TurnsLeft.{HasTurnsWaiting}
-use Rattle.fast_machine.proofs.machines.Gathers.{gathered_to, gathered_turns, gathered_behind}
-use Rattle.fast_machine.proofs.streams.Running.{turn_step, unit_step, step_and_unit, step_waits}
+use Rattle.fast_machine.proofs.machines.Gathers.{gathered_to, gathered_behind}
+use Rattle.fast_machine.proofs.streams.Running.{turn_step, unit_step, step_waits}
 use Rattle.fast_machine.proofs.machine.Machine.take_slowly.Goals as goal
 
 pub returns-then-is_empty-clause-step : goal.returns-then-is_empty-clause-step
@@ -33,7 +31,7 @@ returns-then-gathers-clause-step g c m s hands turns =
     let got = c.if-gathers.ensures.gathered refl in
     unit_step takes stops set l m b rest s sink c.cut.result sink a
     hands
-    (gathered_to takes stops set l b a rest c.args.templates.now.nodes_name_later_nodes got some sink c.cut.result.bytes c.cut.result.turn
+    (gathered_to takes stops set l b a rest got some sink c.cut.result.bytes c.cut.result.turn
     c.cut.ensures.bytes c.cut.ensures.turn)
     (λ way n h. gathered_behind way set l n b a rest c.cut.result.turn got c.cut.ensures.turn (turns way n h))
 
@@ -54,8 +52,8 @@ returns-then-goes_on-clause-step g c m s hands turns =
     (subst (λ (x : Machine). Hands takes stops (turning set l m) s (Ok tt) c.args.sink.now (meaning set l x)) (sym same) hands) unit.ensures.taken
     (λ way n h. unit.ensures.turns way n (subst (λ (x : Machine). HasTurnsWaiting way set l n x) (sym same) (turns way n h))))
 
-pub returns-else-waits-clause-step : goal.returns-else-waits-clause-step
-returns-else-waits-clause-step g c m s hands turns =
+pub returns-else-goes_on-clause-step : goal.returns-else-goes_on-clause-step
+returns-else-goes_on-clause-step g c m s hands turns =
     let takes = g.S.Sink.takes in
     let stops = g.S.Sink.stops in
     let set = set_of c.args.templates.now in
@@ -67,46 +65,3 @@ returns-else-waits-clause-step g c m s hands turns =
     unit_step takes stops set l m b c.args.rest.now s sink unit.result unit.new.sink unit.new.self
     (subst (λ (x : Machine). Hands takes stops (turning set l m) s (Ok tt) c.args.sink.now (meaning set l x)) (sym same) hands) unit.ensures.taken
     (λ way n h. unit.ensures.turns way n (subst (λ (x : Machine). HasTurnsWaiting way set l n x) (sym same) (turns way n h)))
-
-pub returns-else-gathers-2-clause-step : goal.returns-else-gathers-2-clause-step
-returns-else-gathers-2-clause-step g c m s hands turns =
-    let takes = g.S.Sink.takes in
-    let stops = g.S.Sink.stops in
-    let set = set_of c.args.templates.now in
-    let l = c.args.limits in
-    let unit = c.take_unit-unit in
-    let b = c.gathers.new.self in
-    let sink = c.args.sink.now in
-    let same : b ≡ c.args.self.now = c.if-gathers.ensures.same refl in
-    let none = c.if-gathers-2.ensures.same refl in
-    subst (λ (x : Machine). IsStep takes stops set l m c.args.rest.now s unit.result unit.new.sink x) (sym none)
-    (unit_step takes stops set l m b c.args.rest.now s sink unit.result unit.new.sink unit.new.self
-    (subst (λ (x : Machine). Hands takes stops (turning set l m) s (Ok tt) c.args.sink.now (meaning set l x)) (sym same) hands) unit.ensures.taken
-    (λ way n h. unit.ensures.turns way n (subst (λ (x : Machine). HasTurnsWaiting way set l n x) (sym same) (turns way n h))))
-
-pub returns-then-gathers-2-clause-step : goal.returns-then-gathers-2-clause-step
-returns-then-gathers-2-clause-step g c m s hands turns =
-    let takes = g.S.Sink.takes in
-    let stops = g.S.Sink.stops in
-    let set = set_of c.args.templates.now in
-    let l = c.args.limits in
-    let unit = c.take_unit-unit in
-    let b = c.gathers.new.self in
-    let sink = c.args.sink.now in
-    let same : b ≡ c.args.self.now = c.if-gathers.ensures.same refl in
-    let rest = c.args.rest.now in
-    let left = take (length rest - unit.result.bytes) (drop unit.result.bytes rest) in
-    let is_left : length left ≡ length rest - unit.result.bytes = ap length (take_rest rest unit.result.bytes) ∙ length-drop unit.result.bytes rest in
-    let more = c.if-unit-rest.true in
-    let some : 0 < length left = omega (arith, is_left, more) in
-    let got = c.if-gathers-2.ensures.gathered refl in
-    let all : length rest ≡ unit.result.bytes + length left = omega (arith, is_left, more) in
-    step_and_unit takes stops set l m unit.new.self rest s unit.new.sink unit.result
-    (length left) c.cut-then-gathers-2.result unit.new.sink c.gathers-then-unit-rest.new.self (c.if-waits.ensures.yes refl)
-    (c.cut-then-gathers-2.ensures.bytes ∙ all) c.cut-then-gathers-2.ensures.turn
-    (unit_step takes stops set l m b c.args.rest.now s sink unit.result unit.new.sink unit.new.self
-    (subst (λ (x : Machine). Hands takes stops (turning set l m) s (Ok tt) c.args.sink.now (meaning set l x)) (sym same) hands) unit.ensures.taken
-    (λ way n h. unit.ensures.turns way n (subst (λ (x : Machine). HasTurnsWaiting way set l n x) (sym same) (turns way n h))))
-    (gathered_to takes stops set l unit.new.self c.gathers-then-unit-rest.new.self left c.args.templates.now.nodes_name_later_nodes got
-    some unit.new.sink (length left) (Ok Waits) refl refl)
-    (λ way n h. gathered_turns way set l n n unit.new.self c.gathers-then-unit-rest.new.self left got (omega arith) h)

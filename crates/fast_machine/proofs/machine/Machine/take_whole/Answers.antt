@@ -1,9 +1,14 @@
-use Rattle.std.proofs.Common.{◌≡◌, rules, refl, sym, ap, ◌∙◌}
+use Rattle.std.proofs.Common.{rules, refl, sym, ap, ◌∙◌, subst}
+use Rattle.std.specs.Prelude.{IfSome}
 use mir.Syntax.{w32}
 use Rattle.std.proofs.lemmas.Int.{to_z-of_z}
-use Rattle.fast_units.specs.declared.stages.Stage.TheVariants.{Vector}
 use Rattle.fast_machine.specs.device.Positions.{set_of}
-use Rattle.fast_machine.specs.declared.machine.Waiting.TheVariants.{SegmentMap, Field, Text, Bytes, Mantissa}
+use Rattle.fast_machine.specs.declared.machine.Waiting.TheVariants.{SegmentMap, Field, Mantissa}
+use Rattle.fast_dict.specs.meaning.Dictionary.{Dictionary}
+use Rattle.fast_stream.specs.device.Readers.{Reader}
+use Rattle.fast_machine.specs.device.UnitTaken.{IsTakenTo}
+use Rattle.fast_units.proofs.NextUnits.{none_in_hand}
+use Rattle.fast_machine.proofs.steps.FieldTurns.{meaning_field}
 use Rattle.fast_machine.proofs.steps.TurnCounts.{paid_whole}
 use Rattle.fast_machine.proofs.machine.Machine.take_whole.Goals as goal
 
@@ -13,9 +18,6 @@ returns-in-Mantissa-clause-taken g c = c.take_short_mantissa.ensures.taken
 pub returns-in-SegmentMap-clause-taken : goal.returns-in-SegmentMap-clause-taken
 returns-in-SegmentMap-clause-taken g c = c.open_quickly.ensures.taken
 
-pub returns-in-Text-clause-taken : goal.returns-in-Text-clause-taken
-returns-in-Text-clause-taken g c = c.take_held_ascii.ensures.taken
-
 pub take_short_mantissa-requires-clause-ready : goal.take_short_mantissa-requires-clause-ready
 take_short_mantissa-requires-clause-ready g c = c.requires.ready
 
@@ -24,12 +26,6 @@ open_quickly-requires-clause-ready g c = c.requires.ready
 
 pub take_held_number-requires-clause-ready : goal.take_held_number-requires-clause-ready
 take_held_number-requires-clause-ready g c = c.requires.ready
-
-pub take_held_ascii-requires-clause-ready : goal.take_held_ascii-requires-clause-ready
-take_held_ascii-requires-clause-ready g c = c.requires.ready
-
-pub take_held_vector-requires-clause-ready : goal.take_held_vector-requires-clause-ready
-take_held_vector-requires-clause-ready g c = c.requires.ready
 
 pub returns-in-Mantissa-clause-none : goal.returns-in-Mantissa-clause-none
 returns-in-Mantissa-clause-none g c = c.take_short_mantissa.ensures.none
@@ -57,7 +53,13 @@ pub returns-then-is_empty-clause-none : goal.returns-then-is_empty-clause-none
 returns-then-is_empty-clause-none g c = c.take_short_number.ensures.none
 
 pub returns-then-is_empty-clause-taken : goal.returns-then-is_empty-clause-taken
-returns-then-is_empty-clause-taken g c = c.take_short_number.ensures.taken
+returns-then-is_empty-clause-taken g c =
+    let set = set_of c.args.templates.now in
+    let l = c.args.limits in
+    let m = c.args.self.now in
+    let is = meaning_field set l m c.in-Field.is (none_in_hand m.carry.bytes.text c.if-is_empty.ensures) in
+    subst (λ (r : Reader Dictionary). IfSome c.take_short_number.result (λ q. IsTakenTo g.S.Sink.takes g.S.Sink.stops set l r c.args.rest.now c.args.sink.now
+    q.bytes q.turn c.take_short_number.new.sink c.take_short_number.new.self)) (sym is) c.take_short_number.ensures.taken
 
 pub returns-then-is_empty-clause-on : goal.returns-then-is_empty-clause-on
 returns-then-is_empty-clause-on g c = c.take_short_number.ensures.on
@@ -81,32 +83,6 @@ returns-else-is_empty-clause-turns g c way n h = paid_whole way
     (set_of c.args.templates.now) c.args.limits n c.args.self.now c.take_held_number.new.self c.take_held_number.result Field c.in-Field.is
     refl (c.take_held_number.ensures.turns way n) h
 
-pub returns-in-Text-clause-none : goal.returns-in-Text-clause-none
-returns-in-Text-clause-none g c = c.take_held_ascii.ensures.none
-
-pub returns-in-Text-clause-on : goal.returns-in-Text-clause-on
-returns-in-Text-clause-on g c = c.take_held_ascii.ensures.on
-
-pub returns-in-Text-clause-turns : goal.returns-in-Text-clause-turns
-returns-in-Text-clause-turns g c way n h = paid_whole way
-    (set_of c.args.templates.now) c.args.limits n c.args.self.now c.take_held_ascii.new.self c.take_held_ascii.result Text c.in-Text.is
-    refl (c.take_held_ascii.ensures.turns way n) h
-
-pub returns-in-Bytes-Vector-clause-none : goal.returns-in-Bytes-Vector-clause-none
-returns-in-Bytes-Vector-clause-none g c = c.take_held_vector.ensures.none
-
-pub returns-in-Bytes-Vector-clause-taken : goal.returns-in-Bytes-Vector-clause-taken
-returns-in-Bytes-Vector-clause-taken g c = c.take_held_vector.ensures.taken
-
-pub returns-in-Bytes-Vector-clause-on : goal.returns-in-Bytes-Vector-clause-on
-returns-in-Bytes-Vector-clause-on g c = c.take_held_vector.ensures.on
-
-pub returns-in-Bytes-Vector-clause-turns : goal.returns-in-Bytes-Vector-clause-turns
-returns-in-Bytes-Vector-clause-turns g c way n h =
-    let is : c.args.self.now.waiting ≡ Bytes (Vector c.in-Bytes-Vector.size) = search rules in
-    paid_whole way (set_of c.args.templates.now) c.args.limits n c.args.self.now c.take_held_vector.new.self c.take_held_vector.result
-    (Bytes (Vector c.in-Bytes-Vector.size)) is refl (c.take_held_vector.ensures.turns way n) h
-
 pub take_short_mantissa-requires-clause-waits : goal.take_short_mantissa-requires-clause-waits
 take_short_mantissa-requires-clause-waits g c = c.in-Mantissa.is ∙ sym (ap Mantissa (to_z-of_z w32 c.in-Mantissa.exponent (search rules)))
 
@@ -115,6 +91,3 @@ take_short_number-requires-clause-waits g c = c.in-Field.is
 
 pub take_held_number-requires-clause-waits : goal.take_held_number-requires-clause-waits
 take_held_number-requires-clause-waits g c = c.in-Field.is
-
-pub take_held_ascii-requires-clause-waits : goal.take_held_ascii-requires-clause-waits
-take_held_ascii-requires-clause-waits g c = c.in-Text.is

@@ -1,0 +1,268 @@
+//! The bytes of a field that pieces split. They are carried until the field is complete: each time something more may be decided, it is read
+//! again from its first byte.
+
+ghost use Rattle.std.specs.Prelude.{◌≡◌, ◌≢◌, ◌⊎◌, ◌+◌, ◌<◌, ◌≤◌, ◌++◌, ℕ, [], length, take, true, false, IfOk, IfSome, IfNone};
+ghost use Rattle.fast_value.specs.meaning.Limits.{bounds};
+ghost use Rattle.fast_tree.specs.meaning.Nodes.{field_data};
+ghost use Rattle.fast_dict.specs.meaning.Dictionary.{PreviousData};
+ghost use Rattle.fast_dict.specs.meaning.Operators.{Outcome};
+ghost use Rattle.fast_dict.specs.meaning.Slots.{slots_dictionary, slots_terms};
+ghost use Rattle.fast_stream.specs.device.Readers.{Reader};
+ghost use Rattle.fast_stream.specs.device.GrammarReaders.{reader_of};
+ghost use Rattle.fast_stream.specs.meaning.Fields.{field_term};
+ghost use Rattle.fast_units.specs.device.TextDecisions.{first_reader};
+ghost use Rattle.fast_units.specs.device.Words.{HasTextLimit, HasRoomFor, ServesField};
+ghost use Rattle.fast_fields.specs.device.Carries.{IsCarried, IsCarriedUnit};
+ghost use Rattle.fast_fields.specs.device.Readings.{IsUndecided};
+
+use crate::begun::string_missing;
+use crate::reading::{Missing, Reading, WholeField, read_field};
+use fast_dict::Slots;
+use fast_tree::{FieldInstruction, Operator};
+use fast_units::progress::Progress;
+use fast_units::scratch::Scratch;
+use fast_units::units::has_stop;
+use fast_value::{Kind, Limits};
+use std::alloc::{AllocError, Global};
+
+/// The most bytes of a field beside those of its string: two integers of ten bytes, and two bytes that a string may have more.
+const OTHERS: usize = 22;
+
+/// The bytes of a field that is not complete.
+#[derive(Drop)]
+pub struct Carry {
+    /// The bytes so far.
+    pub bytes: Scratch,
+    /// The bytes that have to follow before anything more is decided.
+    pub missing: Missing,
+}
+
+impl Carry {
+    /// Makes room for the bytes of fields whose strings have at most `max_text` bytes.
+    ///
+    /// # Errors
+    ///
+    /// An allocation failed.
+    pub fn new(alloc: Global, max_text: usize) -> Result<Carry, AllocError>
+        ensures { IfOk result (λ c. c.bytes.capacity ≡ 22 + max_text) }
+    {
+        let capacity = max_text.checked_add(OTHERS).ok_or(AllocError)?;
+        Ok(Carry {
+            bytes: Scratch::new(alloc, capacity)?,
+            missing: Missing {
+                bytes: 1,
+                stops: true,
+            },
+        })
+    }
+
+    /// Begins a field that is in the stream, of which no byte is there.
+    #[inline(always)]
+    pub fn begin(&mut self, field: &FieldInstruction)
+        requires varies { field.now.operator ≢ Operator.Constant }
+        ensures none { self.new.bytes.text ≡ [] }
+        ensures carried { (l : Limits) (p : PreviousData)
+            → IsCarried l (reader_of l.strict (field_term (bounds l) (field_data field.now) p true)) self.new }
+        ensures capacity { self.new.bytes.capacity ≡ self.old.bytes.capacity }
+    {
+        self.bytes.clear();
+        self.missing = Missing {
+            bytes: first_missing(field),
+            stops: true,
+        };
+    }
+
+    /// Appends all of the rest, if it decides nothing more of the field. If the result is `false`, nothing has changed.
+    #[inline(always)]
+    pub fn keeps(&mut self, rest: &[u8]) -> bool
+        requires { length self.old.bytes.text + self.old.missing.bytes ≤ self.old.bytes.capacity }
+        ensures kept { result ≡ true → self.new.bytes.text ≡ self.old.bytes.text ++ rest.now }
+        ensures carried { result ≡ true → (l : Limits) (r : Reader Outcome) → IsCarried l r self.old
+            → IsCarried l r self.new }
+        ensures capacity { self.new.bytes.capacity ≡ self.old.bytes.capacity }
+        ensures same { result ≡ false → self.new ≡ self.old }
+    {
+        if rest.len() >= self.missing.bytes || (self.missing.stops && has_stop(rest)) {
+            return false;
+        }
+        self.bytes.keep(rest);
+        self.missing.bytes -= rest.len();
+        true
+    }
+
+    /// Carries all of the rest, if a look at its first bytes shows that it begins a string of the field which goes on after it. No byte of
+    /// the field is carried yet. If the result is `false`, nothing has changed.
+    #[inline(never)]
+    pub fn begins_string(
+        &mut self,
+        slots: &Slots,
+        field: &FieldInstruction,
+        rest: &[u8],
+        limits: Limits,
+    ) -> bool
+        requires serves { ServesField slots.now field.now }
+        requires limit { HasTextLimit slots.now limits }
+        requires varies { field.now.operator ≢ Operator.Constant }
+        requires capacity { self.old.bytes.capacity ≡ 22 + limits.max_text }
+        requires none { self.old.bytes.text ≡ [] }
+        ensures bytes { result ≡ true → self.new.bytes.text ≡ rest.now }
+        ensures carried { result ≡ true → IsCarried limits (first_reader limits (field_data field.now)
+            (slots_dictionary slots.now)) self.new }
+        ensures capacity { self.new.bytes.capacity ≡ self.old.bytes.capacity }
+        ensures same { result ≡ false → self.new ≡ self.old }
+    {
+        let Some(missing) = string_missing(slots, field, rest, limits) else {
+            return false;
+        };
+        self.bytes.append(rest);
+        self.missing = missing;
+        true
+    }
+
+    /// Returns eight bytes: those that are carried, and as many of the rest as there is room for after them, and the number of the latter.
+    #[inline(always)]
+    pub fn joined(&self, rest: &[u8]) -> Option<([u8; 8], usize)>
+        ensures within { IfSome result (λ r. r.1 ≤ length rest.now) }
+        ensures all { IfSome result (λ r. (r.1 ≡ length rest.now) ⊎ (length self.now.bytes.text + r.1 ≡ 8)) }
+        ensures none { IfNone result (8 < length self.now.bytes.text) }
+        ensures joined { IfSome result (λ r. take (length self.now.bytes.text + r.1) r.0
+            ≡ self.now.bytes.text ++ take r.1 rest.now) }
+    {
+        let held = self.bytes.len();
+        if held > 8 {
+            return None;
+        }
+        let mut cells = [0; 8];
+        cells[..held].copy_from_slice(self.bytes.as_slice());
+        let count = rest.len().min(8 - held);
+        cells[held..held + count].copy_from_slice(&rest[..count]);
+        Some((cells, count))
+    }
+
+    /// Reads the field from the bytes that are carried and those of the rest. If it is cut, all of the rest is carried too. If it is
+    /// complete, and some of its bytes were carried, all of them are there, so that its value can be borrowed from them.
+    pub fn read(
+        &mut self,
+        slots: &mut Slots,
+        text: &mut Scratch,
+        field: &FieldInstruction,
+        rest: &[u8],
+        limits: Limits,
+    ) -> Progress<WholeField>
+        requires serves { ServesField slots.old field.now }
+        requires limit { HasTextLimit slots.old limits }
+        requires room { HasRoomFor slots.old text.old }
+        requires varies { field.now.operator ≢ Operator.Constant }
+        requires capacity { self.old.bytes.capacity ≡ 22 + limits.max_text }
+        requires carried { IsCarried limits (first_reader limits (field_data field.now) (slots_dictionary slots.old))
+            self.old }
+        ensures unit { IsCarriedUnit (first_reader limits (field_data field.now) (slots_dictionary slots.old))
+            (field_data field.now) self.old.bytes.text rest.now (slots_dictionary slots.old)
+            (slots_dictionary slots.new) text.new.text result }
+        ensures held { (found : WholeField) (n : ℕ) → result ≡ Progress.Whole found n → self.old.bytes.text ≢ []
+            → take found.bytes self.new.bytes.text ≡ self.old.bytes.text ++ take n rest.now }
+        ensures cut { result ≡ Progress.Cut → (self.new.bytes.text ≡ self.old.bytes.text ++ rest.now)
+            × IsCarried limits (first_reader limits (field_data field.now) (slots_dictionary slots.old)) self.new }
+        ensures terms { slots_terms slots.new ≡ slots_terms slots.old }
+        ensures capacity { (self.new.bytes.capacity ≡ self.old.bytes.capacity)
+            × (text.new.capacity ≡ text.old.capacity) }
+    {
+        if self.bytes.is_empty() {
+            return self.read_first(slots, text, field, rest, limits);
+        }
+        self.read_again(slots, text, field, rest, limits)
+    }
+
+    /// Reads a field of which no byte is carried.
+    #[inline(always)]
+    fn read_first(
+        &mut self,
+        slots: &mut Slots,
+        text: &mut Scratch,
+        field: &FieldInstruction,
+        rest: &[u8],
+        limits: Limits,
+    ) -> Progress<WholeField>
+        requires serves { ServesField slots.old field.now }
+        requires limit { HasTextLimit slots.old limits }
+        requires room { HasRoomFor slots.old text.old }
+        requires varies { field.now.operator ≢ Operator.Constant }
+        requires capacity { self.old.bytes.capacity ≡ 22 + limits.max_text }
+        requires none { self.old.bytes.text ≡ [] }
+        ensures unit { IsCarriedUnit (first_reader limits (field_data field.now) (slots_dictionary slots.old))
+            (field_data field.now) [] rest.now (slots_dictionary slots.old) (slots_dictionary slots.new) text.new.text
+            result }
+        ensures cut { result ≡ Progress.Cut → (self.new.bytes.text ≡ rest.now)
+            × IsCarried limits (first_reader limits (field_data field.now) (slots_dictionary slots.old)) self.new }
+        ensures terms { slots_terms slots.new ≡ slots_terms slots.old }
+        ensures capacity { (self.new.bytes.capacity ≡ self.old.bytes.capacity)
+            × (text.new.capacity ≡ text.old.capacity) }
+    {
+        match read_field(slots, text, field, rest, limits) {
+            Reading::Whole(found) => Progress::Whole(found, found.bytes),
+            Reading::Wrong(code, bytes) => Progress::Wrong(code, bytes),
+            Reading::More(missing) => {
+                self.bytes.append(rest);
+                self.missing = missing;
+                Progress::Cut
+            }
+        }
+    }
+
+    /// Reads a field of which some bytes are carried, together with as many of the rest as it may have at most.
+    #[inline(always)]
+    fn read_again(
+        &mut self,
+        slots: &mut Slots,
+        text: &mut Scratch,
+        field: &FieldInstruction,
+        rest: &[u8],
+        limits: Limits,
+    ) -> Progress<WholeField>
+        requires serves { ServesField slots.old field.now }
+        requires limit { HasTextLimit slots.old limits }
+        requires room { HasRoomFor slots.old text.old }
+        requires varies { field.now.operator ≢ Operator.Constant }
+        requires capacity { self.old.bytes.capacity ≡ 22 + limits.max_text }
+        requires carried { IsCarried limits (first_reader limits (field_data field.now) (slots_dictionary slots.old))
+            self.old }
+        ensures unit { IsCarriedUnit (first_reader limits (field_data field.now) (slots_dictionary slots.old))
+            (field_data field.now) self.old.bytes.text rest.now (slots_dictionary slots.old)
+            (slots_dictionary slots.new) text.new.text result }
+        ensures held { (found : WholeField) (n : ℕ) → result ≡ Progress.Whole found n
+            → take found.bytes self.new.bytes.text ≡ self.old.bytes.text ++ take n rest.now }
+        ensures cut { result ≡ Progress.Cut → (self.new.bytes.text ≡ self.old.bytes.text ++ rest.now)
+            × IsCarried limits (first_reader limits (field_data field.now) (slots_dictionary slots.old)) self.new }
+        ensures terms { slots_terms slots.new ≡ slots_terms slots.old }
+        ensures capacity { (self.new.bytes.capacity ≡ self.old.bytes.capacity)
+            × (text.new.capacity ≡ text.old.capacity) }
+    {
+        let held = self.bytes.len();
+        let count = rest.len().min(self.bytes.room());
+        self.bytes.append(&rest[..count]);
+        match read_field(slots, text, field, self.bytes.as_slice(), limits) {
+            Reading::Whole(found) => Progress::Whole(found, found.bytes - held),
+            Reading::Wrong(code, bytes) => Progress::Wrong(code, bytes - held),
+            Reading::More(missing) => {
+                self.missing = missing;
+                Progress::Cut
+            }
+        }
+    }
+}
+
+/// Returns after how many bytes without a stop bit something is decided of a field at the most.
+#[inline]
+fn first_missing(field: &FieldInstruction) -> usize
+    requires varies { field.now.operator ≢ Operator.Constant }
+    ensures carried { (l : Limits) (p : PreviousData)
+        → IsUndecided (reader_of l.strict (field_term (bounds l) (field_data field.now) p true)) []
+        (record { bytes = result; stops = true }) }
+    ensures most { result ≤ 10 }
+{
+    if field.kind == Kind::Ascii && field.operator != Operator::Delta {
+        // the first character may be a zero
+        return 1;
+    }
+    10
+}
