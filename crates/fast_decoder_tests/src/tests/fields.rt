@@ -46,7 +46,7 @@ fields = [
 
 /// Lines of a name | the field that is read before, with its bytes, if any | the field | its bytes | the results for none of the bytes, for
 /// the first, for two of them and so on. `+n`: nothing more is decided before a stop bit, or n more bytes; `#n`: before n more bytes;
-/// `=b:n`: a field of n bytes, whose last unit begins at offset b; `D2@10`: this fault, after ten bytes.
+/// `=b:n`: a field of n bytes, whose value begins at offset b, if it is among them; `D2@10`: this fault, after ten bytes.
 const READ: &str = "\
 an integer | | 0 | 01 82 | +10 +9 =0:2
 an integer of ten bytes without a stop bit | | 0 | 00*10 | +10 +9 +8 +7 +6 +5 +4 +3 +2 +1 D2@10
@@ -61,7 +61,7 @@ an empty text, optional | | 2 | 00 80 | +1 +1 =0:2
 a zero in front of a character, optional | | 2 | 00 C1 | +1 +1 R9@2
 a vector | | 3 | 83 41 FF | +10 #2 #1 =1:3
 no vector | | 3 | 80 | +10 =1:1
-an empty vector | | 3 | 81 | +10 =0:1
+an empty vector | | 3 | 81 | +10 =1:1
 a vector that is too long | | 3 | 92 41 | +10 L1@1 L1@1
 a string that is no UTF-8 | | 4 | 82 41 FF | +10 #2 #1 R2@3
 a decimal | | 5 | 82 01 83 | +10 +10 +9 =1:3
