@@ -8,6 +8,7 @@
 //! is two digits, and `00*146` stands for 146 bytes. The events are as `Script` writes them. The end is `between` two messages, `inside` a
 //! message, or a fault with its offset, as `D9@2`.
 
+mod cuts;
 mod encoder;
 mod faults;
 mod fields;

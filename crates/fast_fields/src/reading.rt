@@ -36,7 +36,7 @@ const MAX_ENTITY: usize = 10;
 pub struct WholeField {
     /// The source of its value.
     pub source: ValueSource,
-    /// The offset of its last unit, from which on its value is borrowed if the source is the piece.
+    /// The offset at which its value begins, if the source is the piece: it is borrowed from there on.
     pub from: usize,
     /// The number of its bytes.
     pub bytes: usize,
