@@ -1,41 +1,55 @@
 -- What bytes say of a field, unit after unit.
 use Rattle.std.proofs.Common.{refl, sym, ap, ◌∙◌, subst, arith, append_assoc, length-append}
-use Rattle.std.specs.Prelude.{◌≡◌, ℕ, ◌+◌, ◌<◌, ◌≤◌, Bool, true, List, [], ◌++◌, length, take, drop, Option, Some, None, is_some, unwrap_or}
+use Rattle.std.specs.Prelude.{IfSome, ◌≡◌, ℕ, ◌+◌, ◌-◌, ◌<◌, ◌≤◌, Bool, true, List, ◌++◌, length, take, drop, Option, Some, None, is_some, unwrap_or}
 use Rattle.std.proofs.Math.Seq.{take-add}
 use Rattle.std.proofs.lemmas.List.{take-append-drop, drop-take, drop-drop, length-drop}
 use Rattle.std.proofs.lemmas.List.Elements.{All-append}
 use Rattle.fast_value.specs.declared.settings.Limits.{Limits}
-use Rattle.fast_value.specs.declared.codes.Code.{Code}
 use Rattle.fast_value.specs.meaning.Limits.{Bounds, bounds}
+use Rattle.fast_value.specs.declared.kinds.Kind.{Kind}
 use Rattle.fast_tree.specs.declared.operators.Operator.{Operator}
 use Rattle.fast_tree.specs.meaning.Tree.{FieldData}
 use Rattle.fast_tree.specs.meaning.Entries.{keeps_value}
 use Rattle.fast_dict.specs.meaning.Dictionary.{Dictionary, PreviousData, previous_at}
 use Rattle.fast_dict.specs.meaning.Operators.{Outcome}
+use Rattle.fast_dict.specs.meaning.Slots.{slots_dictionary, slots_terms}
+use Rattle.fast_dict.specs.declared.slots.Slots.{Slots}
 use Rattle.fast_stream.specs.meaning.Fields.{field_term}
 use Rattle.fast_stream.specs.device.Readers.{Reader, Done, Stop}
 use Rattle.fast_stream.specs.device.GrammarReaders.{reader_of}
 use Rattle.fast_stream.specs.device.Machine.{after_bytes}
 use Rattle.fast_units.specs.device.Taking.{Waits, Quiet, Turns, Stays}
 use Rattle.fast_units.specs.device.Stages.{term_behind, IsStageOf, IsFieldUnit}
-use Rattle.fast_units.specs.device.Settling.{IsSettled}
-use Rattle.fast_units.specs.declared.source.ValueSource.{ValueSource}
+use Rattle.fast_units.specs.device.Settling.{IsSettled, IsLastUnit, Serves}
+use Rattle.fast_units.specs.device.Deciding.{source_of}
 use Rattle.fast_units.specs.declared.stages.Stage.{Stage}
 use Rattle.fast_units.specs.declared.stages.FieldStep.{FieldStep}
-use Rattle.fast_units.specs.declared.stages.FieldStep.TheVariants.{Settled, Next}
+use Rattle.fast_units.specs.declared.stages.FieldStep.TheVariants.{Next}
 use Rattle.fast_units.specs.declared.progress.Progress.TheVariants as Progress
 use Rattle.fast_units.proofs.Turning.{after_run, quiet_run, turns_run}
-use Rattle.fast_units.proofs.OpenUnits.{IsOpen, bytes_open}
+use Rattle.fast_units.specs.device.NextUnits.{IsOpen}
+use Rattle.fast_units.proofs.OpenUnits.{bytes_open}
 use Rattle.fast_items.specs.device.TextsAs.{HasBegun}
+use Rattle.fast_items.specs.device.FieldsAs.{IsFieldAs, IsSentItem, reader_in}
+use Rattle.fast_items.specs.declared.taken.TakenItem.{TakenItem}
 use Rattle.fast_fields.specs.declared.reading.Missing.{Missing}
 use Rattle.fast_fields.specs.declared.reading.Reading.{Reading}
 use Rattle.fast_fields.specs.declared.reading.Reading.TheVariants.{Whole, Wrong, More}
-use Rattle.fast_fields.specs.device.Readings.{IsUndecided, IsFieldReading, IsCutInteger, KeepsRun, shifted}
+use Rattle.fast_fields.specs.device.Readings.{IsUndecided, IsFieldReading, KeepsRun, shifted}
 
 -- the entry of an operator that keeps a value, by the number that it has, or any
 pub kept_entry : (o : Operator) (e : Option ℕ) → keeps_value o ≡ is_some e → keeps_value o ≡ true → e ≡ Some (unwrap_or e 0)
 kept_entry o (Some n) h k = refl
 kept_entry o None h k = absurd (cc (sym k ∙ h))
+
+-- An item of each field of the type under the operator is one of this field.
+pub sent_as : (kind : Kind) (optional : Bool) (operator : Operator) (entry : ℕ) (strict : Bool) (rest : List ℕ) (old new : Slots) (f : FieldData)
+    → IsFieldAs f kind optional operator entry → Serves (length (slots_dictionary old)) (slots_terms old) f → (x : Option TakenItem)
+    → IfSome x (IsSentItem kind optional operator entry strict rest old new)
+    → IfSome x (λ r. (l : Bounds) (scratch : List ℕ) → IsLastUnit (reader_in old strict l f) f rest (slots_dictionary old) (slots_dictionary new)
+    scratch (Progress.Whole (source_of r.item) r.bytes))
+sent_as kind optional operator entry strict rest old new f so serves None h = tt
+sent_as kind optional operator entry strict rest old new f so serves (Some r) h = λ l scratch. h f l scratch so serves
 
 -- A reader that has turned to another one waits where that one does.
 stays_run : {A : Type 0} {r q : Reader A} {u v : List ℕ} → Turns r u q → Stays q v → Stays r (u ++ v)
@@ -43,12 +57,6 @@ stays_run {r = r} {u = u} {v = v} h j = record {
   quiet = quiet_run r u v h.quiet (subst (λ x. Quiet x v) (sym h.becomes) j.quiet);
   waits = subst Waits (sym (after_run r u v ∙ ap (λ x. after_bytes x v) h.becomes)) j.waits;
 }
-
--- To say that an integer goes on is to say so with bytes in front.
-pub cut_shifted : (w : List ℕ) (n : ℕ) (x : Reading) → IsCutInteger w x → shifted n x ≡ x
-cut_shifted w n (Whole found) h = absurd h
-cut_shifted w n (Wrong c m) h = absurd h
-cut_shifted w n (More missing) h = refl
 
 module _ (f : FieldData) (old new : Dictionary) (scratch : List ℕ) where
   -- After complete units, what the rest of the bytes says of the rest of the field.
@@ -86,49 +94,27 @@ module _ (f : FieldData) (old new : Dictionary) (scratch : List ℕ) where
   )
 
   -- An integer that goes on.
-  pub cut_reading : (r : Reader Outcome) (w : List ℕ) (x : Reading) → ((v : List ℕ) → IsOpen v → Stays r v) → new ≡ old
-      → IsCutInteger w x → IsFieldReading r f w old new scratch x
-  cut_reading r w (Whole found) waits same h = absurd h
-  cut_reading r w (Wrong c n) waits same h = absurd h
-  cut_reading r w (More missing) waits same (open_front, ten, some, stops) = (
+  pub cut_reading : (r : Reader Outcome) (w : List ℕ) (m : Missing) → ((v : List ℕ) → IsOpen v → Stays r v) → new ≡ old → IsOpen w
+      → m ≡ record { bytes = 10 - length w; stops = true } → IsFieldReading r f w old new scratch (More m)
+  cut_reading r w m waits same goes_on e = subst (λ n. IsFieldReading r f w old new scratch (More n)) (sym e) (
     (
-      some,
+      let few = goes_on.short in omega (arith, few),
       λ v none short. waits (w ++ v) (
           let len = length-append w v in record {
-            no_stop = All-append (λ b. b < 128) w v open_front (none stops);
-            short = omega (arith, len, ten, short);
+            no_stop = All-append (λ b. b < 128) w v goes_on.no_stop (none refl);
+            short = omega (arith, len, short);
           }
           ),
     ),
     same,
   )
 
-  module _ (l : Limits) (r : Reader Outcome) (w front : List ℕ) (none : front ≡ []) (n : ℕ) where
-    -- A unit that completes the field.
-    pub whole_reading : (step : FieldStep) (source : ValueSource) (x : Reading) → step ≡ Settled source
-        → x ≡ Whole (record { source = source; from = 0; bytes = n })
-        → IsFieldUnit l r f front w old new scratch (Progress.Whole step n) → IsFieldReading r f w old new scratch x
-    whole_reading step source x e i h = subst (λ (y : Reading). IsFieldReading r f w old new scratch y) (sym i)
-        (by (subst (λ (u : List ℕ). IsFieldUnit l r f u w old new scratch (Progress.Whole (Settled source) n)) none
-        (subst (λ (s : FieldStep). IsFieldUnit l r f front w old new scratch (Progress.Whole s n)) e h)))
-      where
-        by : IsFieldUnit l r f [] w old new scratch (Progress.Whole (Settled source) n)
-            → IsFieldReading r f w old new scratch (Whole (record { source = source; from = 0; bytes = n }))
-        by (some, within, gives) = (omega arith, (some, within, gives))
-
-    -- A unit after which another follows.
-    pub next_unit : (step : FieldStep) (stage : Stage) → step ≡ Next stage
-        → IsFieldUnit l r f front w old new scratch (Progress.Whole step n)
-        → (0 < n) × (n ≤ length w) × (new ≡ old) × IsStageOf (bounds l) f (previous_at f.entry old) stage
-        × Turns r (take n w) (reader_of l.strict (term_behind (bounds l) f (previous_at f.entry old) stage))
-    next_unit step stage e h =
-        subst (λ (u : List ℕ). IsFieldUnit l r f u w old new scratch (Progress.Whole (Next stage) n)) none
-        (subst (λ (s : FieldStep). IsFieldUnit l r f front w old new scratch (Progress.Whole s n)) e h)
-
-    -- A unit that is wrong.
-    pub wrong_unit : (c : Code) → IsFieldUnit l r f front w old new scratch (Progress.Wrong c n)
-        → (0 < n) × (n ≤ length w) × Turns r (take n w) (Stop c)
-    wrong_unit c h = subst (λ (u : List ℕ). IsFieldUnit l r f u w old new scratch (Progress.Wrong c n)) none h
+  -- A unit after which another follows.
+  pub next_unit : (l : Limits) (r : Reader Outcome) (w : List ℕ) (n : ℕ) (step : FieldStep) (stage : Stage) → step ≡ Next stage
+      → IsFieldUnit l r f w old new scratch (Progress.Whole step n)
+      → (0 < n) × (n ≤ length w) × (new ≡ old) × IsStageOf (bounds l) f (previous_at f.entry old) stage
+      × Turns r (take n w) (reader_of l.strict (term_behind (bounds l) f (previous_at f.entry old) stage))
+  next_unit l r w n step stage e h = subst (λ (s : FieldStep). IsFieldUnit l r f w old new scratch (Progress.Whole s n)) e h
 
 -- A string whose last unit waits for more bytes.
 pub begun_undecided : (s : Bool) (l : Bounds) (f : FieldData) (p : PreviousData) (rest : List ℕ) (stage : Stage) (n : ℕ) (m : Missing)

@@ -1,7 +1,7 @@
 //! The bytes of a field that pieces split. They are carried until the field is complete: each time something more may be decided, it is read
 //! again from its first byte.
 
-ghost use Rattle.std.specs.Prelude.{◌≡◌, ◌≢◌, ◌⊎◌, ◌+◌, ◌<◌, ◌≤◌, ◌++◌, ℕ, [], length, take, true, false, IfOk, IfSome, IfNone};
+ghost use Rattle.std.specs.Prelude.{◌≡◌, ◌≢◌, ◌+◌, ◌≤◌, ◌++◌, ℕ, [], length, take, true, false, IfOk};
 ghost use Rattle.fast_value.specs.meaning.Limits.{bounds};
 ghost use Rattle.fast_tree.specs.meaning.Nodes.{field_data};
 ghost use Rattle.fast_dict.specs.meaning.Dictionary.{PreviousData};
@@ -15,7 +15,7 @@ ghost use Rattle.fast_units.specs.device.Words.{HasTextLimit, HasRoomFor, Serves
 ghost use Rattle.fast_fields.specs.device.Carries.{IsCarried, IsCarriedUnit};
 ghost use Rattle.fast_fields.specs.device.Readings.{IsUndecided};
 
-use crate::begun::string_missing;
+use crate::begun::{is_string, string_missing};
 use crate::reading::{Missing, Reading, WholeField, read_field};
 use fast_dict::Slots;
 use fast_tree::{FieldInstruction, Operator};
@@ -93,7 +93,7 @@ impl Carry {
     /// Carries all of the rest, if a look at its first bytes shows that it begins a string of the field which goes on after it. No byte of
     /// the field is carried yet. If the result is `false`, nothing has changed.
     #[inline(never)]
-    pub fn begins_string(
+    fn begins_string(
         &mut self,
         slots: &Slots,
         field: &FieldInstruction,
@@ -117,26 +117,6 @@ impl Carry {
         self.bytes.append(rest);
         self.missing = missing;
         true
-    }
-
-    /// Returns eight bytes: those that are carried, and as many of the rest as there is room for after them, and the number of the latter.
-    #[inline(always)]
-    pub fn joined(&self, rest: &[u8]) -> Option<([u8; 8], usize)>
-        ensures within { IfSome result (λ r. r.1 ≤ length rest.now) }
-        ensures all { IfSome result (λ r. (r.1 ≡ length rest.now) ⊎ (length self.now.bytes.text + r.1 ≡ 8)) }
-        ensures none { IfNone result (8 < length self.now.bytes.text) }
-        ensures joined { IfSome result (λ r. take (length self.now.bytes.text + r.1) r.0
-            ≡ self.now.bytes.text ++ take r.1 rest.now) }
-    {
-        let held = self.bytes.len();
-        if held > 8 {
-            return None;
-        }
-        let mut cells = [0; 8];
-        cells[..held].copy_from_slice(self.bytes.as_slice());
-        let count = rest.len().min(8 - held);
-        cells[held..held + count].copy_from_slice(&rest[..count]);
-        Some((cells, count))
     }
 
     /// Reads the field from the bytes that are carried and those of the rest. If it is cut, all of the rest is carried too. If it is
@@ -198,6 +178,9 @@ impl Carry {
         ensures capacity { (self.new.bytes.capacity ≡ self.old.bytes.capacity)
             × (text.new.capacity ≡ text.old.capacity) }
     {
+        if is_string(field.kind) && self.begins_string(slots, field, rest, limits) {
+            return Progress::Cut;
+        }
         match read_field(slots, text, field, rest, limits) {
             Reading::Whole(found) => Progress::Whole(found, found.bytes),
             Reading::Wrong(code, bytes) => Progress::Wrong(code, bytes),
@@ -239,7 +222,7 @@ impl Carry {
     {
         let held = self.bytes.len();
         let count = rest.len().min(self.bytes.room());
-        self.bytes.append(&rest[..count]);
+        self.bytes.keep(&rest[..count]);
         match read_field(slots, text, field, self.bytes.as_slice(), limits) {
             Reading::Whole(found) => Progress::Whole(found, found.bytes - held),
             Reading::Wrong(code, bytes) => Progress::Wrong(code, bytes - held),

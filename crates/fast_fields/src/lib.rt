@@ -5,5 +5,6 @@
 
 mod begun;
 pub mod carry;
+mod numbers;
 pub mod reading;
 mod whole;

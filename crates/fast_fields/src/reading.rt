@@ -4,28 +4,31 @@
 //! are read one after the other. Nothing changes before the last one is complete, so a field that is cut is read again from its first byte
 //! once more of it is there.
 
-ghost use Rattle.std.specs.Prelude.{◌≡◌, ◌≢◌, ◌+◌, ◌-◌, ◌≤◌, [], ℕ, length, true, false};
+ghost use Rattle.std.specs.Prelude.{◌≡◌, ◌≢◌, ◌+◌, ◌-◌, ◌≤◌, [], length, true, false, IfSome, IfNone};
 ghost use Rattle.fast_value.specs.meaning.Limits.{bounds};
 ghost use Rattle.fast_tree.specs.meaning.Nodes.{field_data};
 ghost use Rattle.fast_dict.specs.meaning.Slots.{slots_dictionary, slots_terms};
 ghost use Rattle.fast_stream.specs.meaning.Phrases.{cut};
 ghost use Rattle.fast_stream.specs.meaning.Units.{ascii_text as ascii_phrase};
+ghost use Rattle.fast_units.specs.device.NextUnits.{IsOpen};
 ghost use Rattle.fast_units.specs.device.TextDecisions.{first_reader, reader_behind};
 ghost use Rattle.fast_units.specs.device.Stages.{IsStageOf};
-ghost use Rattle.fast_units.specs.device.UnitFronts.{IsAsciiFirst, IsNumberStage, IsRunStage, IsBytesStage, IsNextStage};
+ghost use Rattle.fast_units.specs.device.UnitFronts.{IsAsciiFirst, IsNumberStage, IsRunStage, IsBytesStage};
 ghost use Rattle.fast_units.specs.device.Words.{HasTextLimit, HasRoomFor, ServesField, previous_of};
-ghost use Rattle.fast_fields.specs.device.Readings.{IsFieldReading, IsCutInteger, IsBounded, KeepsText, KeepsRun, ReadsWithin, shifted};
+ghost use Rattle.fast_fields.specs.device.Readings.{IsFieldReading, IsBounded, KeepsText, KeepsRun, ReadsWithin, shifted};
 
+use crate::begun::is_string;
+use crate::numbers::whole_number;
 use crate::whole::whole_string;
 use fast_dict::Slots;
 use fast_tree::{FieldInstruction, Operator};
-use fast_units::pending::Pending;
 use fast_units::progress::Progress;
-use fast_units::scalars::{take_bytes, take_first, take_first_text, take_number};
+use fast_units::scalars::{take_bytes, take_first, take_number};
 use fast_units::scratch::Scratch;
 use fast_units::source::ValueSource;
 use fast_units::stages::{FieldStep, Stage};
 use fast_units::text_outcomes::part_room;
+use fast_units::texts::take_text;
 use fast_value::{Code, Kind, Limits};
 
 /// The most bytes of an integer.
@@ -109,15 +112,16 @@ pub(crate) fn text_missing(bytes: &[u8], nullable: bool, room: usize) -> usize
     }
 }
 
-/// Returns the result for an integer that is cut.
+/// Returns the bytes that have to follow before anything more is decided of an integer that begins with these and goes on.
 #[inline]
-fn cut_integer(pending: &Pending) -> Reading
-    ensures { IsCutInteger pending.now.bytes result }
+fn integer_missing(bytes: &[u8]) -> Missing
+    requires { IsOpen bytes.now }
+    ensures { result ≡ record { bytes = 10 - length bytes.now; stops = true } }
 {
-    Reading::More(Missing {
-        bytes: MAX_ENTITY - pending.len(),
+    Missing {
+        bytes: MAX_ENTITY - bytes.len(),
         stops: true,
-    })
+    }
 }
 
 /// Returns whether a later unit of a field is an integer.
@@ -182,7 +186,6 @@ fn read_run(
     requires limit { HasTextLimit slots.old limits }
     requires room { HasRoomFor slots.old scratch.old }
     requires stage { IsStageOf (bounds limits) (field_data field.now) (previous_of slots.old field.now) stage }
-    requires next { IsNextStage (bounds limits) (field_data field.now) (previous_of slots.old field.now) stage }
     requires run { IsRunStage (field_data field.now) stage }
     ensures reading { IsFieldReading (reader_behind limits (field_data field.now) (slots_dictionary slots.old) stage)
         (field_data field.now) bytes.now (slots_dictionary slots.old) (slots_dictionary slots.new) scratch.new.text
@@ -191,10 +194,8 @@ fn read_run(
     ensures terms { slots_terms slots.new ≡ slots_terms slots.old }
     ensures capacity { scratch.new.capacity ≡ scratch.old.capacity }
 {
-    scratch.clear();
     match take_bytes(slots, scratch, field, stage, bytes, limits) {
-        Progress::Whole(FieldStep::Settled(source), count) => whole(source, count),
-        Progress::Whole(FieldStep::Next(_), _) => unreachable!(),
+        Progress::Whole(source, count) => whole(source, count),
         Progress::Wrong(code, count) => Reading::Wrong(code, count),
         Progress::Cut => Reading::More(run_missing(slots, field, stage, bytes, limits)),
     }
@@ -203,7 +204,6 @@ fn read_run(
 /// Reads a field from its second unit on.
 fn read_later(
     slots: &mut Slots,
-    pending: &mut Pending,
     scratch: &mut Scratch,
     field: &FieldInstruction,
     stage: Stage,
@@ -214,8 +214,6 @@ fn read_later(
     requires limit { HasTextLimit slots.old limits }
     requires room { HasRoomFor slots.old scratch.old }
     requires stage { IsStageOf (bounds limits) (field_data field.now) (previous_of slots.old field.now) stage }
-    requires next { IsNextStage (bounds limits) (field_data field.now) (previous_of slots.old field.now) stage }
-    requires unused { pending.old.bytes ≡ [] }
     ensures reading { IsFieldReading (reader_behind limits (field_data field.now) (slots_dictionary slots.old) stage)
         (field_data field.now) bytes.now (slots_dictionary slots.old) (slots_dictionary slots.new) scratch.new.text
         result }
@@ -226,14 +224,14 @@ fn read_later(
     if !is_number(field, stage) {
         return read_run(slots, scratch, field, stage, bytes, limits);
     }
-    match take_number(slots, pending, scratch, field, stage, bytes, limits) {
+    match take_number(slots, scratch, field, stage, bytes, limits) {
         Progress::Whole(FieldStep::Settled(source), count) => whole(source, count),
         Progress::Whole(FieldStep::Next(next), count) => {
             let reading = read_run(slots, scratch, field, next, &bytes[count..], limits);
             shifted(reading, count, bytes.len())
         }
         Progress::Wrong(code, count) => Reading::Wrong(code, count),
-        Progress::Cut => cut_integer(pending),
+        Progress::Cut => Reading::More(integer_missing(bytes)),
     }
 }
 
@@ -257,10 +255,8 @@ fn read_text(
     ensures terms { slots_terms slots.new ≡ slots_terms slots.old }
     ensures capacity { scratch.new.capacity ≡ scratch.old.capacity }
 {
-    scratch.clear();
-    match take_first_text(slots, scratch, field, bytes, limits) {
-        Progress::Whole(FieldStep::Settled(source), count) => whole(source, count),
-        Progress::Whole(FieldStep::Next(_), _) => unreachable!(),
+    match take_text(slots, scratch, field, bytes, limits) {
+        Progress::Whole(source, count) => whole(source, count),
         Progress::Wrong(code, count) => Reading::Wrong(code, count),
         Progress::Cut => Reading::More(Missing {
             bytes: text_missing(bytes, field.optional, limits.max_text),
@@ -270,6 +266,8 @@ fn read_text(
 }
 
 /// Reads a field that is in the stream unit after unit.
+#[cold]
+#[inline(never)]
 fn read_units(
     slots: &mut Slots,
     scratch: &mut Scratch,
@@ -291,24 +289,49 @@ fn read_units(
     if field.kind == Kind::Ascii && field.operator != Operator::Delta {
         return read_text(slots, scratch, field, bytes, limits);
     }
-    let mut pending = Pending::new();
-    let pending = &mut pending;
-    match take_first(slots, pending, scratch, field, bytes, limits) {
+    match take_first(slots, scratch, field, bytes, limits) {
         Progress::Whole(FieldStep::Settled(source), count) => whole(source, count),
         Progress::Whole(FieldStep::Next(stage), count) => {
             let rest = &bytes[count..];
-            let reading = read_later(slots, pending, scratch, field, stage, rest, limits);
+            let reading = read_later(slots, scratch, field, stage, rest, limits);
             shifted(reading, count, bytes.len())
         }
         Progress::Wrong(code, count) => Reading::Wrong(code, count),
-        Progress::Cut => cut_integer(pending),
+        Progress::Cut => Reading::More(integer_missing(bytes)),
     }
+}
+
+/// Reads a field that is in the stream, if it is complete and one of those that are read at once. Else nothing has changed.
+#[inline(always)]
+fn whole_field(
+    slots: &mut Slots,
+    scratch: &mut Scratch,
+    field: &FieldInstruction,
+    bytes: &[u8],
+    limits: Limits,
+) -> Option<WholeField>
+    requires serves { ServesField slots.old field.now }
+    requires limit { HasTextLimit slots.old limits }
+    requires room { HasRoomFor slots.old scratch.old }
+    requires varies { field.now.operator ≢ Operator.Constant }
+    ensures whole { IfSome result (λ found. IsFieldReading (first_reader limits (field_data field.now)
+        (slots_dictionary slots.old)) (field_data field.now) bytes.now (slots_dictionary slots.old)
+        (slots_dictionary slots.new) scratch.new.text (Reading.Whole found)) }
+    ensures none { IfNone result ((slots.new ≡ slots.old) × (scratch.new ≡ scratch.old)) }
+    ensures terms { slots_terms slots.new ≡ slots_terms slots.old }
+    ensures capacity { scratch.new.capacity ≡ scratch.old.capacity }
+{
+    if is_string(field.kind) {
+        return whole_string(slots, scratch, field, bytes, limits);
+    }
+    whole_number(slots, field, bytes, limits)
 }
 
 /// Reads a field that is in the stream from the bytes that it begins with, all of which are at hand. A string that is neither in the bytes
 /// nor in the field's entry is in `scratch` then.
 ///
 /// Of a field that goes on nothing is kept: it is to be read again from its first byte.
+#[inline(always)]
 pub fn read_field(
     slots: &mut Slots,
     scratch: &mut Scratch,
@@ -327,7 +350,7 @@ pub fn read_field(
     ensures terms { slots_terms slots.new ≡ slots_terms slots.old }
     ensures capacity { scratch.new.capacity ≡ scratch.old.capacity }
 {
-    match whole_string(slots, scratch, field, bytes, limits) {
+    match whole_field(slots, scratch, field, bytes, limits) {
         Some(found) => Reading::Whole(found),
         None => read_units(slots, scratch, field, bytes, limits),
     }

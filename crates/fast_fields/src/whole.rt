@@ -123,7 +123,7 @@ fn whole_vector(
 }
 
 /// Reads a string field that is in the stream, if it is complete and one of those that are read at once.
-#[inline]
+#[inline(never)]
 pub(crate) fn whole_string(
     slots: &mut Slots,
     scratch: &mut Scratch,

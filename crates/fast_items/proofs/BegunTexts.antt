@@ -103,7 +103,7 @@ module _ (s : Bool) (l : Bounds) (f : FieldData) (rest : List ℕ) (d : Dictiona
       subst (λ (x : ℤ). HasBegun s l f p rest (PartVector x size) (a + b)) passed (record {
         some = omega (arith, first);
         within = both_within rest a b goes.1 here;
-        stage = (ap family is.kind ∙ is_text, no_ascii_field, is.operator, (j.kept, step, has_room));
+        stage = (ap family is.kind ∙ is_text, no_ascii_field, is.operator, omega (arith, short), (j.kept, step, has_room));
         bytes = omega (arith, both, behind, short);
         turns = subst (λ w. Turns (reader_of s (field_term l f p true)) w (reader_of s (term_behind l f p (PartVector k size))))
             (in_runs rest a b) (turns_run goes.2 sizes);

@@ -1,6 +1,6 @@
 -- Decimals whose units both stand whole in the piece.
 use Rattle.std.proofs.Common.{refl, sym, ap, ◌∙◌, subst, arith, inl, inr}
-use Rattle.std.specs.Prelude.{◌≡◌, ◌≢◌, ◌⊎◌, ℕ, ◌+◌, ◌-◌, ◌<◌, ◌≤◌, Bool, true, false, if◌then◌else◌, List, [], ◌++◌, length, take, drop, ℤ}
+use Rattle.std.specs.Prelude.{◌≡◌, ◌≢◌, ◌⊎◌, ℕ, ◌+◌, ◌-◌, ◌<◌, ◌≤◌, Bool, true, false, if◌then◌else◌, List, ◌++◌, length, take, drop, ℤ}
 use Rattle.std.specs.Prelude.{◌+ℤ◌, Option, Some, None, IfSome, Ok, Err}
 use Rattle.std.proofs.lemmas.List.{take_rest, length-drop}
 use Rattle.std.proofs.Math.Seq.{take-add}
@@ -34,7 +34,7 @@ use Rattle.fast_units.proofs.Deciding.{value_decided, null_decided, none_decided
 use Rattle.fast_units.proofs.ShortIntegers.{keeps_none}
 use Rattle.fast_units.proofs.Turning.{turns_as, turns_run, term_turns, result_done}
 use Rattle.fast_units.proofs.NextUnits.{first_whole}
-use Rattle.fast_units.proofs.LastUnits.{exponent_field, exponent_delta_field, last_unit}
+use Rattle.fast_units.proofs.LastUnits.{Begins, exponent_field, exponent_delta_field, last_unit}
 
 -- A number that lies in the range.
 pub ranged_within : (range : Range) (c : Code) (x : ℤ) → IsWithin range x → ranged range c x ≡ Ok x
@@ -61,8 +61,8 @@ pub two_units : {A : Type 0} (s : Bool) (r : Reader A) (one two : Range) (nullab
     → (0 < a + b) × (a + b ≤ length rest) × Turns r (take (a + b) rest) (reader_of s (m y))
 two_units s r one two nullable c d k m rest x y a b here next first second =
     let left : List ℕ = take (length rest - a) (drop a rest) in
-    let (some, within, t) = first_whole (λ z. z) s one nullable c [] rest x a refl first in
-    let (more, inside, u) = first_whole (λ z. z) s two false d [] left y b refl second in
+    let (some, within, t) = first_whole (λ z. z) s one nullable c rest x a first in
+    let (more, inside, u) = first_whole (λ z. z) s two false d left y b second in
     let all : take a rest ++ take b left ≡ take (a + b) rest = ap (λ w. take a rest ++ take b w) (take_rest rest a) ∙ sym (take-add a b rest) in
     let size : length left ≡ length rest - a = ap length (take_rest rest a) ∙ length-drop a rest in (
       omega (arith, some),
@@ -78,22 +78,23 @@ no_texts f e i = absurd (cc (e, i))
 -- A decimal, or NULL, that is whole in the piece is its field.
 pub decimal_unit : (s b : Bool) (l : Bounds) (f : FieldData) (rest : List ℕ) (old new : Dictionary) (scratch : List ℕ) (item : Option Number) (n : ℕ)
     → f.kind ≡ Decimal → f.optional ≡ b → f.operator ≢ Op.Delta → f.operator ≢ Op.Constant
-    → IsUnit (reader_of s (integer exponent_range b R1 decimal_from)) sent_number [] rest (Whole item n)
+    → IsUnit (reader_of s (integer exponent_range b R1 decimal_from)) sent_number rest (Whole item n)
     → IsDecided (decide f (previous_at f.entry old) true (sent_number item)) f old new (Ok (source_of item))
-    → IsLastUnit (reader_of s (field_term l f (previous_at f.entry old) true)) f [] rest old new scratch (Whole (source_of item) n)
+    → IsLastUnit (reader_of s (field_term l f (previous_at f.entry old) true)) f rest old new scratch (Whole (source_of item) n)
 decimal_unit s b l f rest old new scratch item n kind optional no_delta no_constant unit decided =
     let p = previous_at f.entry old in
-    last_unit s (integer exponent_range b R1 decimal_from) (λ y. of_result (decide f p true y)) (reader_of s (field_term l f p true))
-    (ap (reader_of s) (exponent_field l f p (ap family kind) no_delta no_constant)
-    ∙ ap (λ o. reader_of s (integer exponent_range o R1 decimal_from >>= (λ y. of_result (decide f p true y)))) optional)
-    f [] rest old new scratch (sent_number item) n (decide f p true (sent_number item)) (Ok (source_of item)) refl decided unit
+    let here : Begins (reader_of s (field_term l f p true)) s (integer exponent_range b R1 decimal_from) (λ y. of_result (decide f p true y)) = record {
+      same = (exponent_field s l f p (ap family kind) no_delta no_constant).same
+          ∙ ap (λ o. reader_of s (integer exponent_range o R1 decimal_from >>= (λ y. of_result (decide f p true y)))) optional;
+    } in
+    last_unit here f rest old new scratch (sent_number item) n (decide f p true (sent_number item)) (Ok (source_of item)) refl decided unit
 
 -- It is kept nowhere where the operator keeps no value.
 pub plain_unit : {e : ℕ} {t : Terms} (s b : Bool) (o : Operator) (at : ℕ) (l : Bounds) (f : FieldData) (rest : List ℕ) (old : Dictionary)
     (scratch : List ℕ) (item : Option Number) (n : ℕ)
     → IsFieldAs f Decimal b o at → Serves e t f → (o ≡ Op.None) ⊎ (o ≡ Op.Default)
-    → IsUnit (reader_of s (integer exponent_range b R1 decimal_from)) sent_number [] rest (Whole item n)
-    → IsLastUnit (reader_of s (field_term l f (previous_at f.entry old) true)) f [] rest old old scratch (Whole (source_of item) n)
+    → IsUnit (reader_of s (integer exponent_range b R1 decimal_from)) sent_number rest (Whole item n)
+    → IsLastUnit (reader_of s (field_term l f (previous_at f.entry old) true)) f rest old old scratch (Whole (source_of item) n)
 plain_unit s b o at l f rest old scratch item n is serves plain unit =
     decimal_unit s b l f rest old old scratch item n is.kind is.optional no_delta no_constant unit (decided item)
   where
@@ -134,19 +135,20 @@ module _ (f : FieldData) (p : PreviousData) (e m : ℤ) (kind : f.kind ≡ Decim
 
 -- A decimal under delta begins with the delta of its exponent.
 delta_here : (s b : Bool) (l : Bounds) (f : FieldData) (p : PreviousData) → f.kind ≡ Decimal → f.optional ≡ b → f.operator ≡ Op.Delta
-    → reader_of s (field_term l f p true) ≡ reader_of s (integer delta_range b D2 give >>= decimal_change f p)
-delta_here s b l f p kind optional delta = ap (reader_of s) (exponent_delta_field l f p (ap family kind) delta)
-    ∙ ap (λ o. reader_of s (integer delta_range o D2 give >>= decimal_change f p)) optional
+    → Begins (reader_of s (field_term l f p true)) s (integer delta_range b D2 give) (decimal_change f p)
+delta_here s b l f p kind optional delta = record {
+  same = (exponent_delta_field s l f p (ap family kind) delta).same ∙ ap (λ o. reader_of s (integer delta_range o D2 give >>= decimal_change f p)) optional;
+}
 
 -- NULL in the place of a delta leaves the entry as it is.
 pub null_unit : (s b : Bool) (l : Bounds) (f : FieldData) (rest : List ℕ) (old : Dictionary) (scratch : List ℕ) (x : Option ℤ) (n : ℕ)
     → f.kind ≡ Decimal → f.optional ≡ b → f.operator ≡ Op.Delta → x ≡ None → IsFirstInt (λ z. z) s delta_range b (First.Whole x n) rest
-    → IsLastUnit (reader_of s (field_term l f (previous_at f.entry old) true)) f [] rest old old scratch (Whole From.Absent n)
+    → IsLastUnit (reader_of s (field_term l f (previous_at f.entry old) true)) f rest old old scratch (Whole From.Absent n)
 null_unit s b l f rest old scratch x n kind optional delta none first =
     let p = previous_at f.entry old in
-    last_unit s (integer delta_range b D2 give) (decimal_change f p) (reader_of s (field_term l f p true)) (delta_here s b l f p kind optional delta)
-    f [] rest old old scratch x n (gives_none p) (Ok From.Absent) (ap (decimal_change f p) none) (none_decided f old)
-    (first_whole (λ z. z) s delta_range b D2 [] rest x n refl first)
+    last_unit (delta_here s b l f p kind optional delta)
+    f rest old old scratch x n (gives_none p) (Ok From.Absent) (ap (decimal_change f p) none) (none_decided f old)
+    (first_whole (λ z. z) s delta_range b D2 rest x n first)
 
 -- The deltas of both units are added to the decimal that the entry holds.
 pub changed_unit : (s b : Bool) (l : Bounds) (f : FieldData) (rest : List ℕ) (old new : Dictionary) (scratch : List ℕ) (e m k j x y : ℤ)
@@ -155,7 +157,7 @@ pub changed_unit : (s b : Bool) (l : Bounds) (f : FieldData) (rest : List ℕ) (
     → d ≡ Some k → IsFirstInt (λ z. z) s delta_range b (First.Whole d a) rest → ranged exponent_range R1 (e +ℤ k) ≡ Ok x
     → IsFirstInt (λ z. z) s delta_range false (First.Whole (Some j) n) (take (length rest - a) (drop a rest)) → ranged (signed_range 63) R1 (m +ℤ j) ≡ Ok y
     → new ≡ write_at f.entry (assigned f.kind (Dec x y)) old
-    → IsLastUnit (reader_of s (field_term l f (previous_at f.entry old) true)) f [] rest old new scratch (Whole (From.Decimal x y) (a + n))
+    → IsLastUnit (reader_of s (field_term l f (previous_at f.entry old) true)) f rest old new scratch (Whole (From.Decimal x y) (a + n))
 changed_unit s b l f rest old new scratch e m k j x y d a n kind optional delta held some first exponent second mantissa kept =
     let p = previous_at f.entry old in
     let next : reader_of s (decimal_change f p d) ≡ reader_of s (integer delta_range false D2 give >>= mantissa_change f p x) =
@@ -163,7 +165,7 @@ changed_unit s b l f rest old new scratch e m k j x y d a n kind optional delta 
     (λ z. integer delta_range false D2 (mantissa_change f p z)) (exponent_stepped f p e m kind held k x exponent) in
     let (has, within, t) = two_units s (reader_of s (field_term l f p true)) delta_range delta_range b D2 D2 (decimal_change f p)
     (mantissa_change f p x) rest d (Some j) a n
-    (delta_here s b l f p kind optional delta) next first second in (
+    ((delta_here s b l f p kind optional delta).same) next first second in (
       has,
       within,
       record {

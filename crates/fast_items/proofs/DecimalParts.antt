@@ -1,6 +1,6 @@
 -- The parts of a decimal by parts: what is known of one without a byte, and one that stands whole.
 use Rattle.std.proofs.Common.{refl, sym, ap, ◌∙◌, subst, arith, inl, inr}
-use Rattle.std.specs.Prelude.{◌≡◌, ◌≢◌, ℕ, Bool, true, false, List, [], take, ℤ, ◌+ℤ◌, Option, Some, None, IfSome, option_map, Result, Ok}
+use Rattle.std.specs.Prelude.{◌≡◌, ◌≢◌, ℕ, Bool, true, false, List, take, ℤ, ◌+ℤ◌, Option, Some, None, IfSome, option_map, Result, Ok}
 use Rattle.fast_fronts.specs.device.Fronts.{IsFirstInt}
 use Rattle.fast_wire.specs.meaning.Integers.{SpellsInt, IsWithin, signed_range, exponent_range, delta_range}
 use Rattle.fast_fronts.specs.declared.fronts.First.TheVariants as First
@@ -102,7 +102,7 @@ module _ (field : FieldInstruction) (strict : Bool) (rest : List ℕ) (seen : Sl
       → IsFirstInt (λ y. y) strict (range_of kind) field.optional (First.Whole x n) rest → IsPartBy true field true strict rest seen x n
   part_whole kind x n same is sent no_delta no_constant first =
       let of_integers : family g.kind ≡ integers (range_of g.kind) = subst (λ k. family k ≡ integers (range_of k)) (sym same) is in (
-        (first_whole (λ y. y) strict (range_of kind) field.optional D2 [] rest x n refl first).0,
+        (first_whole (λ y. y) strict (range_of kind) field.optional D2 rest x n first).0,
         first.0,
         λ old new l scratch there kept.
             item_unit kind field.optional strict l g rest (slots_dictionary old) (slots_dictionary new) scratch x n
@@ -116,7 +116,7 @@ module _ (field : FieldInstruction) (strict : Bool) (rest : List ℕ) (seen : Sl
       → previous_of seen field ≡ assigned Int64 (I base) → base +ℤ j ≡ sum → IsWithin (signed_range 63) sum
       → IsFirstInt (λ y. y) strict delta_range false (First.Whole (Some j) n) rest → IsPartBy true field true strict rest seen (Some sum) n
   part_changed base j sum n kind delta mandatory held summed within first = (
-    (first_whole (λ y. y) strict delta_range false D2 [] rest (Some j) n refl first).0,
+    (first_whole (λ y. y) strict delta_range false D2 rest (Some j) n first).0,
     first.0,
     λ old new l scratch there kept.
         delta_unit false strict l g rest (slots_dictionary old) (slots_dictionary new) scratch (Some j) n

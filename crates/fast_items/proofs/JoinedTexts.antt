@@ -10,7 +10,6 @@ use Rattle.std.proofs.lemmas.Str.{IsUtf8-append, is_utf8-from_IsUtf8, IsUtf8-fro
 use Rattle.std.proofs.lemmas.Bool.{leb-false}
 use Rattle.std.proofs.lemmas.Bool.Decides.{leb_tells}
 use Rattle.std.proofs.lemmas.List.{length-take-le, take-take, get_or-take}
-use Rattle.std.proofs.lemmas.List.Elements.{All-nil}
 use Rattle.fast_value.specs.declared.codes.Code.TheVariants.{D7, R2}
 use Rattle.fast_value.specs.declared.kinds.Kind.{Kind}
 use Rattle.fast_value.specs.declared.kinds.Kind.TheVariants.{UInt32, Int32, UInt64, Int64, Decimal, Ascii, Unicode, Bytes}
@@ -74,7 +73,7 @@ tail_behind base part = by (leb_tells (length part) (length base))
 pub part_spelled : (rest : List ℕ) (last most : ℕ) → BeginsWithCharacter rest → last < length rest
     → ((k : ℕ) → k < last → get_or rest k 0 < 128) → 128 ≤ get_or rest last 0 → get_or rest last 0 < 256
     → length (take last rest ++ (get_or rest last 0 - 128) ∷ []) ≤ most
-    → IsNextText false most [] rest (take last rest ++ (get_or rest last 0 - 128) ∷ []) (Whole true (last + 1))
+    → IsNextText false most rest (take last rest ++ (get_or rest last 0 - 128) ∷ []) (Whole true (last + 1))
 part_spelled rest last most begins within before stop byte fits =
     let front : length (take last rest) ≡ last = length-take-le last rest (omega (arith, within)) in
     let all : length (take last rest ++ (get_or rest last 0 - 128) ∷ []) ≡ length (take last rest) + 1 =
@@ -82,7 +81,7 @@ part_spelled rest last most begins within before stop byte fits =
     let here : length (take (last + 1) rest) ≡ last + 1 = length-take-le (last + 1) rest (omega (arith, within)) in
     let at : (k : ℕ) → k < last + 1 → get_or (take (last + 1) rest) k 0 ≡ get_or rest k 0 = λ k h. get_or-take (last + 1) rest k 0 h in
     let end : get_or (take (last + 1) rest) last 0 ≡ get_or rest last 0 = at last (omega arith) in
-    text_whole false most [] rest (All-nil (λ c. c < 128)) begins (last + 1) last (take last rest) (take last rest ++ (get_or rest last 0 - 128) ∷ [])
+    text_whole false most rest begins (last + 1) last (take last rest) (take last rest ++ (get_or rest last 0 - 128) ∷ [])
     (omega (arith, within)) (omega (arith, fits, all, front)) (omega (arith, here)) (λ k h. rw (at k (omega (arith, h))) (before k h)) (rw end stop) byte
     (sym (take-take last (last + 1) rest (omega arith))) (ap (λ b. take last rest ++ (b - 128) ∷ []) (sym end))
 

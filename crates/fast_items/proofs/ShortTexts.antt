@@ -2,7 +2,6 @@
 use Rattle.std.proofs.Common.{refl, ap, ◌∙◌, arith, get_or}
 use Rattle.std.specs.Prelude.{◌≡◌, ℕ, zero, suc, ◌+◌, ◌-◌, ◌%◌, ◌<◌, ◌≤◌, List, [], ◌∷◌, ◌++◌, length, map, take}
 use Rattle.std.proofs.lemmas.List.{length-take-le, get_or-take}
-use Rattle.std.proofs.lemmas.List.Elements.{All-nil}
 use Rattle.fast_units.specs.device.NextUnits.{BeginsWithCharacter}
 use Rattle.fast_items.specs.device.TextItems.{without_stops, IsShortText}
 use Rattle.fast_units.proofs.NextTexts.{text_whole}
@@ -28,7 +27,7 @@ short_text rest last begins long within before stop byte = (
   omega arith,
   long,
   λ nullable room fits.
-      text_whole nullable room [] rest (All-nil (λ b. b < 128)) begins 16 last (take last here)
+      text_whole nullable room rest begins 16 last (take last here)
       (take (last + 1) (without_stops here)) long fits inside ahead top byte refl (stripped last here inside ahead top low),
 )
   where

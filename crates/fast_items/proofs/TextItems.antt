@@ -18,8 +18,6 @@ use Rattle.fast_dict.specs.meaning.Operators.{decide, decide_by, nothing, unsent
 use Rattle.fast_dict.specs.meaning.Held.{text_size}
 use Rattle.fast_dict.specs.meaning.Slots.{slots_dictionary, slots_texts_fit, HoldsAscii}
 use Rattle.fast_stream.specs.meaning.Fields.{sent_text}
-use Rattle.fast_stream.specs.meaning.Grammar.{give, ascii_text}
-use Rattle.fast_stream.specs.device.GrammarReaders.{reader_of}
 use Rattle.fast_units.specs.device.Deciding.{IsDecided}
 use Rattle.fast_items.specs.device.FieldsAs.{IsFieldAs, GivesWhole, reader_in}
 use Rattle.fast_units.specs.device.NextUnits.{IsNextText, text_or_null}
@@ -32,7 +30,7 @@ use Rattle.fast_units.proofs.Deciding.{decided_as, copy_decided, absent_decided,
 use Rattle.fast_units.proofs.NextUnits.{text_unit}
 use Rattle.fast_units.proofs.TextOutcomes.{absent_emptied, absent_left, ascii_is_text, checked_ascii, checked_is, decided_as as text_as}
 use Rattle.fast_units.proofs.TextOutcomes.{decided_copy, decided_plain, decided_tail-ok, length-with_tail, text_given, text_kept}
-use Rattle.fast_units.proofs.TextUnits.{text_field, text_last, behind_text}
+use Rattle.fast_units.proofs.TextUnits.{text_field, text_last}
 
 -- Nothing is sent under copy or tail.
 module _ (f : FieldData) (d : Dictionary) (kind : Kind) (optional : Bool) (operator : Operator) (entry : ℕ)
@@ -78,31 +76,29 @@ sends_other Op.Tail h = (λ e. absurd (cc e), λ e. absurd (cc e))
 -- A text, or NULL, of a field stands whole in the bytes, and is decided so.
 given_whole : (f : FieldData) (strict : Bool) (l : Bounds) (optional : Bool) (operator : Operator) (entry : ℕ) (rest : List ℕ)
     (old new : Slots) (scratch : List ℕ) (source : ValueSource) (text : List ℕ) (is_text : Bool) (n : ℕ)
-    → SendsText operator → IsFieldAs f Ascii optional operator entry → IsNextText optional l.max_text [] rest text (Whole is_text n)
+    → SendsText operator → IsFieldAs f Ascii optional operator entry → IsNextText optional l.max_text rest text (Whole is_text n)
     → IsTextDecided (decide f (previous_at f.entry (slots_dictionary old)) true (sent_text f.kind (text_or_null text is_text))) f
     (slots_dictionary old) (slots_dictionary new) scratch (take n rest) (Ok source)
     → GivesWhole (reader_in old strict l f) f rest (slots_dictionary old) (slots_dictionary new) scratch source 0 n
 given_whole f strict l optional operator entry rest old new scratch source text is_text n sends said next decided =
     let p = previous_at f.entry (slots_dictionary old) in
     let (no_delta, no_constant) = sends_other operator sends in
-    let here : reader_in old strict l f ≡ _ = ap (reader_of strict)
-    (text_field l f p said.kind (λ h. no_delta (sym said.operator ∙ h)) (λ h. no_constant (sym said.operator ∙ h))) in
-    let g = ascii_text f.optional l.max_text give in
+    let here = text_field strict l f p said.kind (λ h. no_delta (sym said.operator ∙ h)) (λ h. no_constant (sym said.operator ∙ h)) in
     let x = text_or_null text is_text in
-    let unit : IsNextText f.optional l.max_text [] rest text (Whole is_text n) =
-    subst (λ b. IsNextText b l.max_text [] rest text (Whole is_text n)) (sym said.optional) next in
-    text_last strict g (behind_text l f p) (reader_in old strict l f) here f [] rest (slots_dictionary old) (slots_dictionary new) scratch n x
-    (text_unit strict f.optional l.max_text [] rest text (Whole is_text n) unit)
+    let unit : IsNextText f.optional l.max_text rest text (Whole is_text n) =
+    subst (λ b. IsNextText b l.max_text rest text (Whole is_text n)) (sym said.optional) next in
+    text_last here f rest (slots_dictionary old) (slots_dictionary new) scratch n x
+    (text_unit strict f.optional l.max_text rest text (Whole is_text n) unit)
     (decide f p true (sent_text f.kind x)) (Ok source) _ refl refl decided
 
 -- A text, or NULL, stands whole in the bytes, and is put where it stays.
 pub sent_whole : (optional : Bool) (operator : Operator) (entry room : ℕ) (rest : List ℕ) (old new : Slots) (scratch : List ℕ)
     (source : ValueSource) (text : List ℕ) (is_text : Bool) (n : ℕ)
-    → IsNextText optional room [] rest text (Whole is_text n) → IsPutText operator entry (text_or_null text is_text) old new scratch source
+    → IsNextText optional room rest text (Whole is_text n) → IsPutText operator entry (text_or_null text is_text) old new scratch source
     → IsSentText Ascii optional operator entry room rest old new scratch (record { source = source; from = 0; bytes = n })
 sent_whole optional operator entry room rest old new scratch source text is_text n next (sends, stands, held, put) f strict l e said serves =
     given_whole f strict l optional operator entry rest old new scratch source text is_text n sends said
-    (subst (λ m. IsNextText optional m [] rest text (Whole is_text n)) (sym e) next) (put f optional (take n rest) said serves)
+    (subst (λ m. IsNextText optional m rest text (Whole is_text n)) (sym e) next) (put f optional (take n rest) said serves)
 
 -- The base of a tail where nothing is held, and of one without initial value.
 base_of : (f : FieldData) (p : PreviousData) → HoldsNothing p → tail_base f p ≡ Ok (start_value f)
@@ -181,13 +177,13 @@ module _ (f : FieldData) (optional : Bool) (operator : Operator) (entry : ℕ) (
 
 -- A first tail of a field without initial value stands whole in the bytes, and the entry keeps it.
 pub first_whole : (optional : Bool) (entry room : ℕ) (rest : List ℕ) (old new : Slots) (scratch text : List ℕ) (n : ℕ)
-    → IsNextText optional room [] rest text (Whole true n) → entry < length (slots_dictionary old)
+    → IsNextText optional room rest text (Whole true n) → entry < length (slots_dictionary old)
     → HoldsNothing (previous_at (Some entry) (slots_dictionary old))
     → slots_dictionary new ≡ write_at (Some entry) (assigned Ascii (AsciiText text)) (slots_dictionary old)
     → IsFirstTail Ascii optional entry room rest old new scratch (text_taken Op.Tail n)
 first_whole optional entry room rest old new scratch text n next within nothing_held written f strict l none e said serves =
     given_whole f strict l optional Op.Tail entry rest old new scratch From.Entry text true n tt said
-    (subst (λ m. IsNextText optional m [] rest text (Whole true n)) (sym e) next)
+    (subst (λ m. IsNextText optional m rest text (Whole true n)) (sym e) next)
     (first_kept f optional Op.Tail entry (slots_dictionary old) (slots_dictionary new) scratch (take n rest) text said refl none within nothing_held written)
 
 -- The text is put where it stays.

@@ -1,6 +1,6 @@
 -- Deltas and tails of texts of which all units stand whole in the piece, at entries that hold texts of their kinds.
 use Rattle.std.proofs.Common.{refl, sym, ap, ◌∙◌, subst, arith}
-use Rattle.std.specs.Prelude.{◌≡◌, ◌≢◌, ℕ, ◌+◌, ◌-◌, ◌<◌, ◌≤◌, Bool, true, false, if◌then◌else◌, List, [], length, take, drop, ℤ, pos}
+use Rattle.std.specs.Prelude.{◌≡◌, ◌≢◌, ℕ, ◌+◌, ◌-◌, ◌<◌, ◌≤◌, Bool, true, false, if◌then◌else◌, List, length, take, drop, ℤ, pos}
 use Rattle.std.specs.Prelude.{Option, Some, None, option_map, Ok, Err}
 use Rattle.std.proofs.lemmas.List.{length-take-le}
 use Rattle.fast_fronts.specs.device.Fronts.{IsFirstInt}
@@ -19,9 +19,9 @@ use Rattle.fast_dict.specs.meaning.Operators.{Outcome, null, decide, checked_tex
 use Rattle.fast_dict.specs.meaning.Operators.{text_step, tail_base, with_tail, ◌>>=◌, null_empties}
 use Rattle.fast_dict.proofs.Extended.{text_of_text}
 use Rattle.fast_stream.specs.device.Readers.{Reader}
-use Rattle.fast_stream.specs.meaning.Grammar.{give, integer, ascii_text, raw, of_result}
+use Rattle.fast_stream.specs.meaning.Grammar.{of_result}
 use Rattle.fast_stream.specs.device.GrammarReaders.{reader_of}
-use Rattle.fast_stream.specs.meaning.Fields.{field_term, part_change, text_change}
+use Rattle.fast_stream.specs.meaning.Fields.{field_term, text_change}
 use Rattle.fast_units.specs.device.Taking.{Turns}
 use Rattle.fast_units.specs.device.NextUnits.{IsNextText}
 use Rattle.fast_units.specs.device.Settling.{GivesField}
@@ -69,11 +69,10 @@ pub part_size_turns : (s : Bool) (l : Bounds) (f : FieldData) (p : PreviousData)
     → (0 < a) × (a ≤ length rest) × Turns (reader_of s (term_behind l f p (Part k))) (take a rest) (reader_of s (term_behind l f p (PartVector k size)))
 part_size_turns s l f p k kept rest size a step no_ascii given room =
     let first : Reader Outcome = reader_of s (term_behind l f p (Part k)) in
-    let (some, within, t) = first_whole (λ y. option_map pos y) s (unsigned_range 32) false D2 [] rest (Some size) a refl given in
+    let (some, within, t) = first_whole (λ y. option_map pos y) s (unsigned_range 32) false D2 rest (Some size) a given in
     let (same, fits, next) = part_size_fits l f p kept size size (room_tells size (l.max_text - kept_length kept) room) in
     let go : Turns first (take a rest) (reader_of s (behind_part_size l f p kept (Some (pos size))))
-    = unit_goes s (integer (unsigned_range 32) false D2 give) (behind_part_size l f p kept) first
-    (ap (reader_of s) (part_size_field l f p k kept step no_ascii)) (take a rest) (Some (pos size)) t in
+    = unit_goes (part_size_field s l f p k kept step no_ascii) (take a rest) (Some (pos size)) t in
     (some, within, subst (λ (q : Reader Outcome). Turns first (take a rest) q) (ap (reader_of s) (next ∙ part_vector_here l f p kept k size step)) go)
 
 -- The part of a delta that is joined to its entry's text.
@@ -95,14 +94,13 @@ module _ (s : Bool) (l : Bounds) (f : FieldData) (old new : Dictionary) (scratch
   behind : Reader Outcome
   behind = reader_of s (term_behind l f (previous_at f.entry old) (Part k))
 
-  pub gives_ascii : (rest : List ℕ) (n : ℕ) → kind ≡ K.Ascii → IsNextText false (l.max_text - kept_length j.kept) [] rest part (Whole true n)
+  pub gives_ascii : (rest : List ℕ) (n : ℕ) → kind ≡ K.Ascii → IsNextText false (l.max_text - kept_length j.kept) rest part (Whole true n)
       → GivesField (reader_of s (term_behind l f (previous_at f.entry old) (Part k))) (take n rest) f From.Entry old new scratch piece
   gives_ascii rest n e h =
       let p : PreviousData = previous_at f.entry old in
-      let (some, within, t) = text_unit s false (l.max_text - kept_length j.kept) [] rest part (Whole true n) h in
-      gives_unit f old new scratch piece From.Entry s (ascii_text false (l.max_text - kept_length j.kept) give) (part_change f p j.kept)
-      (reader_of s (term_behind l f p (Part k))) (take n rest) (Some part) (text_step f j.kept part)
-      (ap (reader_of s) (part_field l f p k j.kept step (is_kind ∙ e))) t refl decided
+      let (some, within, t) = text_unit s false (l.max_text - kept_length j.kept) rest part (Whole true n) h in
+      gives_unit f old new scratch piece From.Entry (part_field s l f p k j.kept (l.max_text - kept_length j.kept) step refl (is_kind ∙ e))
+      (take n rest) (Some part) (text_step f j.kept part) t refl decided
 
   pub gives_vector : (rest : List ℕ) (size a : ℕ) → kind ≢ K.Ascii
       → IsFirstInt (λ y. option_map pos y) s (unsigned_range 32) false (First.Whole (Some size) a) rest → size ≤ length (drop a rest)
@@ -116,9 +114,8 @@ module _ (s : Bool) (l : Bounds) (f : FieldData) (old new : Dictionary) (scratch
       let room : size ≤ l.max_text - kept_length j.kept = (let h = j.fits in omega (arith, len, long, h)) in
       let (some, here, go) = part_size_turns s l f p k j.kept rest size a step (λ e. no_ascii (sym is_kind ∙ e)) given room in
       gives_run f old new scratch piece From.Entry (in_runs rest a size) go
-      (gives_unit f old new scratch piece From.Entry s (raw size give) (λ v. part_change f p j.kept (Some v))
-      (reader_of s (term_behind l f p (PartVector k size))) text text (text_step f j.kept part)
-      (ap (reader_of s) (part_vector_field l f p k j.kept size step)) (run_whole s size text len) (ap (λ t. of_result (text_step f j.kept t)) same) decided)
+      (gives_unit f old new scratch piece From.Entry (part_vector_field s l f p k j.kept size step) text text (text_step f j.kept part)
+      (run_whole s size text len) (ap (λ t. of_result (text_step f j.kept t)) same) decided)
 
 -- The subtraction length stands whole: then comes the part.
 pub subtraction_turns : (s : Bool) (l : Bounds) (f : FieldData) (p : PreviousData) (rest : List ℕ) (k : ℤ) (a : ℕ) → family f.kind ≡ texts
@@ -126,10 +123,9 @@ pub subtraction_turns : (s : Bool) (l : Bounds) (f : FieldData) (p : PreviousDat
     → (0 < a) × (a ≤ length rest) × Turns (reader_of s (field_term l f p true)) (take a rest) (reader_of s (term_behind l f p (Part k)))
 subtraction_turns s l f p rest k a is_text is_delta given =
     let first : Reader Outcome = reader_of s (field_term l f p true) in
-    let (some, within, t) = first_whole (λ y. y) s (signed_range 31) f.optional D7 [] rest (Some k) a refl given in
+    let (some, within, t) = first_whole (λ y. y) s (signed_range 31) f.optional D7 rest (Some k) a given in
     let go : Turns first (take a rest) (reader_of s (text_change l f p (Some k)))
-    = unit_goes s (integer (signed_range 31) f.optional D7 give) (text_change l f p) first
-    (ap (reader_of s) (subtraction_field l f p is_text is_delta)) (take a rest) (Some k) t in
+    = unit_goes (subtraction_field s l f p is_text is_delta) (take a rest) (Some k) t in
     (some, within, subst (λ (q : Reader Outcome). Turns first (take a rest) q) (ap (reader_of s) (part_here l f p k)) go)
 
 -- The subtraction length, or NULL, and then the part.
@@ -140,12 +136,11 @@ module _ (s : Bool) (l : Bounds) (f : FieldData) (rest : List ℕ) (old new : Di
   delta_null_whole a given =
       let p : PreviousData = previous_at f.entry old in
       let piece : List ℕ = drop a (take a rest) in
-      let (some, within, t) = first_whole (λ y. y) s (signed_range 31) f.optional D7 [] rest None a refl given in (
+      let (some, within, t) = first_whole (λ y. y) s (signed_range 31) f.optional D7 rest None a given in (
         some,
         within,
-        gives_unit f old old scratch piece From.Absent s (integer (signed_range 31) f.optional D7 give) (text_change l f p)
-            (reader_of s (field_term l f p true)) (take a rest) None (decide f p true null)
-            (ap (reader_of s) (subtraction_field l f p is_text is_delta)) t (delta_null f p is_delta)
+        gives_unit f old old scratch piece From.Absent (subtraction_field s l f p is_text is_delta) (take a rest) None (decide f p true null)
+            t (delta_null f p is_delta)
             (absent_left f old old scratch piece (λ e. let i : Op.Delta ≡ Op.Constant = sym is_delta ∙ e in absurd (cc i)) (ap null_empties is_delta) refl),
       )
 

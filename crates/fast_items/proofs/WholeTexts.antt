@@ -1,6 +1,6 @@
 -- Fields of texts of which all units stand whole in the piece.
 use Rattle.std.proofs.Common.{refl, sym, ap, ◌∙◌, subst, arith, inl, inr}
-use Rattle.std.specs.Prelude.{◌≡◌, ◌≢◌, ◌⊎◌, ℕ, ◌+◌, ◌-◌, ◌<◌, ◌≤◌, Bool, true, false, nat_le, if◌then◌else◌, List, [], ◌++◌, length, take}
+use Rattle.std.specs.Prelude.{◌≡◌, ◌≢◌, ◌⊎◌, ℕ, ◌+◌, ◌-◌, ◌<◌, ◌≤◌, Bool, true, false, nat_le, if◌then◌else◌, List, ◌++◌, length, take}
 use Rattle.std.specs.Prelude.{drop, ℤ, pos, Option, Some, None, option_map, Ok, Err}
 use Rattle.std.proofs.Math.Seq.{take-add}
 use Rattle.std.proofs.lemmas.Bool.Decides.{leb_tells}
@@ -19,7 +19,7 @@ use Rattle.fast_tree.specs.meaning.Entries.{keeps_value}
 use Rattle.fast_dict.specs.meaning.Dictionary.{Dictionary, PreviousData, previous_at}
 use Rattle.fast_dict.specs.meaning.Operators.{Outcome, null, decide, checked_text, null_empties}
 use Rattle.fast_stream.specs.device.Readers.{Reader, Done}
-use Rattle.fast_stream.specs.meaning.Grammar.{Grammar, give, integer, raw, ◌>>=◌}
+use Rattle.fast_stream.specs.meaning.Grammar.{Grammar, give, integer, raw}
 use Rattle.fast_stream.specs.device.GrammarReaders.{reader_of}
 use Rattle.fast_stream.specs.meaning.Fields.{sent_text, field_term}
 use Rattle.fast_units.specs.device.Taking.{Turns}
@@ -32,7 +32,7 @@ use Rattle.fast_units.specs.declared.source.ValueSource.{ValueSource}
 use Rattle.fast_units.specs.declared.source.ValueSource.TheVariants as From
 use Rattle.fast_units.proofs.Turning.{turns_as, turns_run}
 use Rattle.fast_units.proofs.NextUnits.{first_whole, run_whole}
-use Rattle.fast_units.proofs.LastUnits.{unit_goes}
+use Rattle.fast_units.proofs.LastUnits.{Begins, unit_goes}
 use Rattle.fast_units.proofs.TextOutcomes.{absent_left, decided_as, decided_plain, text_given}
 use Rattle.fast_units.proofs.TextUnits.{size_field, size_fits, vector_field, behind_text, gives_unit}
 
@@ -78,26 +78,26 @@ module _ (s : Bool) (l : Bounds) (f : FieldData) (rest : List ℕ) (old new : Di
   behind : Option ℤ → Grammar Outcome
   behind = behind_size l f (previous_at f.entry old)
 
-  size_here : first ≡ reader_of s (integer (unsigned_range 32) f.optional D2 give >>= behind)
+  size_here : Begins first s (integer (unsigned_range 32) f.optional D2 give) behind
   unfolding first behind
-  size_here = ap (reader_of s) (size_field l f (previous_at f.entry old) is_text no_ascii no_delta no_constant)
+  size_here = size_field s l f (previous_at f.entry old) is_text no_ascii no_delta no_constant
 
   size_turns : (x : Option ℕ) (a : ℕ) → IsFirstInt (λ y. option_map pos y) s (unsigned_range 32) f.optional (First.Whole x a) rest
       → (0 < a) × (a ≤ length rest) × Turns first (take a rest) (reader_of s (behind (option_map pos x)))
   size_turns x a given =
-      let (some, within, t) = first_whole (λ y. option_map pos y) s (unsigned_range 32) f.optional D2 [] rest x a refl given in
-      (some, within, unit_goes s (integer (unsigned_range 32) f.optional D2 give) behind first size_here (take a rest) (option_map pos x) t)
+      let (some, within, t) = first_whole (λ y. option_map pos y) s (unsigned_range 32) f.optional D2 rest x a given in
+      (some, within, unit_goes size_here (take a rest) (option_map pos x) t)
 
   pub null_whole : (a : ℕ) → IsFirstInt (λ y. option_map pos y) s (unsigned_range 32) f.optional (First.Whole None a) rest
       → ((piece : List ℕ) → IsTextDecided (decide f (previous_at f.entry old) true null) f old new scratch piece (Ok source))
       → GivesWhole (reader_of s (field_term l f (previous_at f.entry old) true)) f rest old new scratch source a a
   unfolding first behind
   null_whole a given h =
-      let (some, within, t) = first_whole (λ y. option_map pos y) s (unsigned_range 32) f.optional D2 [] rest None a refl given in (
+      let (some, within, t) = first_whole (λ y. option_map pos y) s (unsigned_range 32) f.optional D2 rest None a given in (
         some,
         within,
-        gives_unit f old new scratch (drop a (take a rest)) source s (integer (unsigned_range 32) f.optional D2 give) behind first
-            (take a rest) None (decide f (previous_at f.entry old) true null) size_here t refl (h (drop a (take a rest))),
+        gives_unit f old new scratch (drop a (take a rest)) source size_here
+            (take a rest) None (decide f (previous_at f.entry old) true null) t refl (h (drop a (take a rest))),
       )
 
   pub vector_whole : (size a : ℕ) → IsFirstInt (λ y. option_map pos y) s (unsigned_range 32) f.optional (First.Whole (Some size) a) rest
@@ -110,10 +110,11 @@ module _ (s : Bool) (l : Bounds) (f : FieldData) (rest : List ℕ) (old new : Di
       let p : PreviousData = previous_at f.entry old in
       let text : List ℕ = take size (drop a rest) in
       let (same, fits, next) = size_fits l f p size size (room_tells size l.max_text room) in
+      let vector : Begins (reader_of s (behind (Some (pos size)))) s (raw size give) (λ v. behind_text l f p (Some v)) =
+      record { same = ap (reader_of s) next ∙ (vector_field s l f p size).same } in
       gives_whole f rest old new scratch source a size (size_turns (Some size) a given) within
-      (gives_unit f old new scratch text source s (raw size give) (λ v. behind_text l f p (Some v))
-      (reader_of s (behind (Some (pos size)))) text text (decide f p true (sent_text f.kind (Some text)))
-      (ap (reader_of s) (next ∙ vector_field l f p size)) (run_whole s size text (length-take-le size (drop a rest) within)) refl h)
+      (gives_unit f old new scratch text source vector text text (decide f p true (sent_text f.kind (Some text)))
+      (run_whole s size text (length-take-le size (drop a rest) within)) refl h)
 
   -- The bytes after its size are too few.
   pub vector_begun : (size a : ℕ) → IsFirstInt (λ y. option_map pos y) s (unsigned_range 32) f.optional (First.Whole (Some size) a) rest
@@ -127,7 +128,7 @@ module _ (s : Bool) (l : Bounds) (f : FieldData) (rest : List ℕ) (old new : Di
       record {
         some = some;
         within = within;
-        stage = (is_text, no_ascii, no_delta, no_constant, room);
+        stage = (is_text, no_ascii, no_delta, no_constant, room, omega (arith, short));
         bytes = let len : length (drop a rest) ≡ length rest - a = length-drop a rest in omega (arith, len, short);
         turns = turns_as refl (sym (ap (reader_of s) next)) turns;
       }

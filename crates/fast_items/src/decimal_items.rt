@@ -4,7 +4,7 @@
 //!
 //! `None` stands for all others, faults included: nothing has changed then, and the general path decodes them.
 
-ghost use Rattle.std.specs.Prelude.{◌≡◌, ◌<◌, ◌+ℤ◌, ◌≤ℤ◌, Bool, false, [], ℤ, pos, neg_ℤ, Some, Ok, IfSome, IfNone, length};
+ghost use Rattle.std.specs.Prelude.{◌≡◌, ◌<◌, ◌+ℤ◌, ◌≤ℤ◌, Bool, false, ℤ, pos, neg_ℤ, Some, Ok, IfSome, IfNone, length};
 ghost use Rattle.fast_fronts.specs.device.Fronts.{IsFirstInt};
 ghost use Rattle.fast_wire.specs.meaning.Integers.{signed_range, delta_range, exponent_range};
 ghost use Rattle.fast_fronts.specs.declared.fronts.First.TheVariants.{Whole};
@@ -71,7 +71,7 @@ pub(crate) fn whole_mantissa(rest: Rest<'_>, strict: bool) -> Option<(i64, usize
 #[inline(always)]
 fn whole_decimal(rest: Rest<'_>, optional: bool, strict: bool) -> Option<TakenItem>
     ensures { IfSome result (λ r. IsUnit (reader_of strict (integer exponent_range optional Code.R1 decimal_from))
-        sent_number [] rest.entry.bytes.now (Progress.Whole r.item r.bytes)) }
+        sent_number rest.entry.bytes.now (Progress.Whole r.item r.bytes)) }
 {
     let item = short_exponent(rest, optional)?;
     match item {

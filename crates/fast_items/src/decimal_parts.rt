@@ -19,8 +19,7 @@ use crate::decimal_items::{exponent_in, short_exponent, whole_mantissa};
 use fast_dict::{Entry, Slots};
 use fast_fronts::Rest;
 use fast_tree::{FieldInstruction, Operator};
-use fast_units::fields::{Number, assign_empty, needs_bytes, number_under};
-use fast_units::short_integers::keep_integer;
+use fast_units::fields::{Number, assign_empty, keep_number, needs_bytes, number_under};
 use fast_value::{Kind, Value};
 
 /// Returns the contents of the field's entry, if that is a signed integer of the type, or empty.
@@ -301,7 +300,7 @@ pub fn keep_part(
         return;
     }
     match number {
-        Some(number) => keep_integer(slots, field, kind, Number::Signed(number)),
+        Some(number) => keep_number(slots, field, kind, Number::Signed(number)),
         None => assign_empty(slots, field),
     }
 }

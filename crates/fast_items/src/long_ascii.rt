@@ -137,7 +137,7 @@ fn put_text(
 fn whole_characters(rest: &[u8], max_text: usize) -> Option<(&[u8], u8)>
     requires begins { BeginsWithCharacter rest.now }
     ensures fits { IfSome result (λ r. length (with_last r.0.now (Some r.1)) ≤ max_text) }
-    ensures next { IfSome result (λ r. (nullable : Bool) → IsNextText nullable max_text [] rest.now
+    ensures next { IfSome result (λ r. (nullable : Bool) → IsNextText nullable max_text rest.now
         (with_last r.0.now (Some r.1)) (Whole true (length r.0.now + 1))) }
 {
     let here = &rest[..rest.len().min(max_text)];

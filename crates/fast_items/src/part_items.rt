@@ -3,7 +3,7 @@
 //!
 //! `None` stands for all others, faults included: nothing has changed then, and the general path decodes them.
 
-ghost use Rattle.std.specs.Prelude.{◌≡◌, ◌+◌, ◌<◌, ◌≤◌, [], ℕ, List, length, take, drop, slice_index, option_map, pos, true, false, Some, IfSome, IfNone};
+ghost use Rattle.std.specs.Prelude.{◌≡◌, ◌+◌, ◌<◌, ◌≤◌, ℕ, List, length, take, drop, slice_index, option_map, pos, true, false, Some, IfSome, IfNone};
 ghost use Rattle.fast_wire.specs.meaning.Integers.{signed_range, unsigned_range};
 ghost use Rattle.fast_fronts.specs.device.Fronts.{IsFirstInt};
 ghost use Rattle.fast_fronts.specs.declared.fronts.First.TheVariants.{Whole};
@@ -71,7 +71,7 @@ fn ascii_part(
     requires joined { room ≤ joined.old.capacity }
     ensures part { IfSome result (λ n. (part : List ℕ)
         × IsJoined Kind.Ascii entry subtraction part room (slots_dictionary slots.old) (slots_dictionary slots.new)
-        × ((most : ℕ) → length part ≤ most → IsNextText false most [] rest.now part (Progress.Whole true n))) }
+        × ((most : ℕ) → length part ≤ most → IsNextText false most rest.now part (Progress.Whole true n))) }
     ensures within { IfSome result (λ n. n ≤ length rest.now) }
     ensures none { IfNone result ((slots.new ≡ slots.old) × (joined.new ≡ joined.old)) }
     ensures terms { slots_terms slots.new ≡ slots_terms slots.old }

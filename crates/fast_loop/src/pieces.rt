@@ -13,7 +13,7 @@ use crate::start_arms::begin_first;
 use crate::walking::walk;
 use fast_fronts::Rest;
 use fast_machine::machine::{Machine, Turn};
-use fast_machine::quick_units::UnitTaken;
+use fast_machine::taking::UnitTaken;
 use fast_stream::{FaultCode, Sink};
 use fast_template::Templates;
 use fast_value::Limits;
@@ -162,7 +162,7 @@ fn take_other<'t, S: Sink>(
     ensures turns { (way : Way) → IsCountedBy result.outcome way (set_of templates.now) limits.now result.bytes machine.old
         machine.new }
 {
-    let unit = machine.take_next(templates, *limits, rest, sink);
+    let unit = machine.take_unit(templates, *limits, rest, sink);
     match unit.turn {
         Err(code) => PieceTaken {
             bytes: unit.bytes,

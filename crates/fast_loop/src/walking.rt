@@ -26,7 +26,7 @@ use crate::vector_arms::{part_arm, tail_arm, vector_arm};
 use fast_cursor::place::Place;
 use fast_fronts::Rest;
 use fast_machine::machine::{Machine, Turn};
-use fast_machine::quick_units::UnitTaken;
+use fast_machine::taking::UnitTaken;
 use fast_program::{Code, Op};
 use fast_stream::{FaultCode, Sink};
 use fast_template::{Operator, Templates};
@@ -70,14 +70,10 @@ fn general_step<'t, S: Sink>(
         machine.new }
     ensures waits { (t : Turn) → result.turn ≡ Ok t → t ≢ Turn.Waits → machine.new.waiting ≡ Waiting.Field }
 {
-    if let Some(quick) = machine.take_next_number(templates, *limits, rest, sink) {
-        return quick;
-    }
-    if machine.waits_at_once(templates, *limits, sink) {
-        return machine.take_slowly(templates, *limits, rest, sink);
-    }
-    if let Some(quick) = machine.step_by_length(templates, *limits, rest, sink) {
-        return quick;
+    if !rest.is_empty() {
+        if let Some((node, field)) = machine.sent_field(templates, *limits) {
+            return machine.step_by_field(templates, *limits, node, field, rest, sink);
+        }
     }
     machine.step_by_turn(templates, *limits, rest, sink)
 }

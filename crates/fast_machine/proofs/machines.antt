@@ -6,6 +6,5 @@ pub mod ShortMaps
 pub mod StartMaps
 pub mod Ahead
 pub mod KnownStarts
-pub mod SentItems
 pub mod FieldTakes
 pub mod Gathers

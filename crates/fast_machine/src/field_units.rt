@@ -8,7 +8,7 @@ ghost use Rattle.fast_machine.specs.device.Words.{TakesUnit, IsServedBy, PaysTur
 ghost use Rattle.fast_machine.specs.device.Positions.{set_of, run_in, IsBodyOf, IsAtField, IsAtParts, IsAtSequence, IsReady};
 
 use crate::machine::{Machine, Waiting};
-use crate::quick_units::UnitTaken;
+use crate::taking::UnitTaken;
 use fast_stream::Sink;
 use fast_template::{FieldInstruction, Shape, Templates};
 use fast_units::progress::Progress;
@@ -48,7 +48,7 @@ impl<'t> Machine<'t> {
 
     /// Reads bytes of the next instruction, a field.
     #[inline(always)]
-    fn take_field<S: Sink>(
+    pub(crate) fn take_field<S: Sink>(
         &mut self,
         templates: &'t Templates,
         limits: Limits,

@@ -23,8 +23,8 @@ ghost use Rattle.fast_machine.specs.device.Positions.{set_of, CanTurn, GoesOn, I
 
 use crate::machine::{Machine, Turn, Waiting};
 use crate::quick_starts::template_with;
-use crate::quick_units::UnitTaken;
 use crate::settling::hand;
+use crate::taking::UnitTaken;
 use crate::turns::Turns;
 use fast_cursor::pending::MapFront;
 use fast_dict::operators::integers::integer_of;

@@ -14,7 +14,7 @@ ghost use Rattle.fast_machine.specs.device.TurnsLeft.{Way, HasTurns, HasTurnsBeh
 
 use crate::heads::walk_to;
 use crate::machine::{Machine, Turn, Waiting};
-use crate::quick_units::UnitTaken;
+use crate::taking::UnitTaken;
 use crate::turns::Turns;
 use fast_dict::Entry;
 use fast_fronts::{Rest, whole_unsigned};
@@ -24,36 +24,6 @@ use fast_template::Templates;
 use fast_value::Limits;
 
 impl<'t> Machine<'t> {
-    /// Reads the presence map of a group or an element, if it is one byte: a map of one byte is never overlong. It emits nothing; set,
-    /// limits and sink are arguments for the clauses on the turn.
-    #[inline(always)]
-    pub fn open_quickly<S: Sink>(
-        &mut self,
-        templates: &'t Templates,
-        limits: Limits,
-        rest: &[u8],
-        sink: &mut S,
-    ) -> Option<UnitTaken>
-        requires waits { (width : ℕ) × (self.old.waiting ≡ Waiting.SegmentMap width) }
-        requires ready { IsReady (set_of templates.now) limits self.old }
-        ensures none { IfNone result ((self.new ≡ self.old) × (sink.new ≡ sink.old)) }
-        ensures taken { IfSome result
-            (λ q. IsTakenTo S.takes S.stops (set_of templates.now) limits
-            (meaning (set_of templates.now) limits self.old) rest.now sink.old q.bytes q.turn sink.new self.new) }
-        ensures on { IfSome result (λ q. q.turn ≢ Ok Turn.Waits) }
-        ensures turns { (way : Way) (n : ℕ) → HasTurns way (set_of templates.now) limits 0 n self.old
-            → IfSome result (λ q. HasTurnsBehind q.turn way (set_of templates.now) limits (1 + n) self.new) }
-    {
-        if !self.cursor.take_byte(rest) {
-            return None;
-        }
-        self.turns = Turns::after(&self.turns);
-        Some(UnitTaken {
-            bytes: 1,
-            turn: Ok(Turn::Silent),
-        })
-    }
-
     /// Returns the start of the latest template, if it has the identifier that the identifier's entry holds. The set is an argument for the
     /// clauses.
     #[inline(always)]

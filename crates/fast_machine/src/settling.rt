@@ -16,7 +16,6 @@ ghost use Rattle.fast_stream.specs.device.GrammarReaders.{reader_of};
 ghost use Rattle.fast_stream.specs.device.Readers.{Reader};
 ghost use Rattle.fast_machine.specs.device.Moving.{Moves};
 ghost use Rattle.fast_units.specs.device.Settling.{value_at};
-ghost use Rattle.fast_units.specs.device.Deciding.{number_data};
 ghost use Rattle.fast_machine.specs.device.Passing.{IsPast, value_then};
 ghost use Rattle.fast_machine.specs.device.Positions.{Set, IsMapWhole, bit_of, state_in, going_on};
 
@@ -26,7 +25,7 @@ use fast_dict::operators::integers::integer_of;
 use fast_fields::reading::WholeField;
 use fast_stream::{Event, FaultCode, Sink};
 use fast_template::FieldInstruction;
-use fast_units::fields::{Number, value_at};
+use fast_units::fields::value_at;
 use fast_units::source::ValueSource;
 use fast_value::Scalar;
 
@@ -127,7 +126,7 @@ impl<'t> Machine<'t> {
     }
 
     /// Moves past the next instruction as [`Machine::finish`] does. All bytes of the field are carried, and its value may be among them.
-    #[inline(never)]
+    #[inline(always)]
     pub fn finish_carried<S: Sink>(
         &mut self,
         node: u32,
@@ -162,36 +161,6 @@ impl<'t> Machine<'t> {
             found.source,
         );
         emit_value(&mut self.cursor, node, field.uses_bit(), value, sink)
-    }
-
-    /// Moves past the next instruction, an integer field whose number or NULL is known, and emits the number. Of the field only the use of
-    /// a presence bit has to be known.
-    #[inline(always)]
-    pub fn finish_item<S: Sink>(
-        &mut self,
-        node: u32,
-        has_bit: bool,
-        item: Option<Number>,
-        sink: &mut S,
-    ) -> Result<Turn, FaultCode>
-        requires left { 0 < length self.old.cursor.left }
-        ensures moves { (set : Set) (l : Bounds) (strict : Bool) (waits : Reader Dictionary) (f : FieldData)
-            → has_bit ≡ uses_bit f → Moves S.takes S.stops
-            (reader_of strict (value_then set l node (option_map number_data item) f
-            (slots_dictionary self.old.slots) self.old.counted self.old.cursor))
-            sink.old result sink.new
-            (reader_of strict (going_on set l (slots_dictionary self.new.slots) self.new.counted self.new.cursor))
-            waits }
-        ensures past { OnOk result (IsPast self.old.cursor self.new.cursor) }
-        ensures same { self.new ≡ record self.old { cursor = self.new.cursor } }
-        ensures rests { resting self.new.cursor ≡ resting self.old.cursor }
-        ensures on { result ≢ Ok Turn.Waits }
-    {
-        let value = match item {
-            Some(number) => Some(number.as_scalar()),
-            None => None,
-        };
-        emit_value(&mut self.cursor, node, has_bit, value, sink)
     }
 
     /// Borrows the value of a field.

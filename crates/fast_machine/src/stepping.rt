@@ -1,19 +1,24 @@
-//! Steps on the general path: a turn of the machine, and the unit that it waits for, if the fast path has a case for it.
+//! Steps on the general path: a field that is in the stream, or a turn of the machine and the unit that it waits for then.
 
-ghost use Rattle.std.specs.Prelude.{◌≡◌, ◌≢◌, ◌<◌, ℕ, true, false, Ok, Err, IfSome, IfNone};
+ghost use Rattle.std.specs.Prelude.{◌≡◌, ◌≢◌, ◌<◌, ℕ, length, true, false, Ok, Err, IfSome};
 ghost use Rattle.fast_machine.specs.declared.machine.Waiting.{Waiting};
 ghost use Rattle.fast_stream.specs.declared.faults.FaultCode.{FaultCode};
 ghost use Rattle.fast_machine.specs.device.Handing.{Hands};
-ghost use Rattle.fast_machine.specs.device.Positions.{set_of, CanTurn, IsReady, turning, meaning};
+ghost use Rattle.fast_tree.specs.meaning.Nodes.{field_data};
+ghost use Rattle.fast_dict.specs.meaning.Slots.{slots_dictionary};
+ghost use Rattle.fast_units.specs.device.UnitFronts.{IsSent};
+ghost use Rattle.fast_machine.specs.device.Words.{IsServedBy};
+ghost use Rattle.fast_machine.specs.device.Positions.{set_of, state_in, bit_of, IsAtField, CanTurn, IsReady, turning, meaning};
 ghost use Rattle.fast_machine.specs.device.TurnsLeft.{Way, HasTurns, HasTurnsWaiting};
 ghost use Rattle.fast_machine.specs.declared.machine.Machine.{Machine};
 ghost use Rattle.fast_machine.specs.device.Steps.{IsStep};
 ghost use Rattle.fast_machine.specs.declared.machine.Turn.{Turn};
 
 use crate::machine::{Machine, Turn, Waiting};
-use crate::quick_units::UnitTaken;
+use crate::taking::UnitTaken;
+use crate::turns::Turns;
 use fast_stream::{FaultCode, Sink};
-use fast_template::{Shape, Templates};
+use fast_template::{FieldInstruction, Shape, Templates};
 use fast_units::fields::needs_bytes;
 use fast_value::Limits;
 
@@ -47,6 +52,98 @@ impl UnitTaken {
 }
 
 impl<'t> Machine<'t> {
+    /// Waits for the first unit of the next instruction. The machine most often does so already, and nothing is written then.
+    #[inline(always)]
+    pub fn wait_for_field(&mut self)
+        ensures { self.new ≡ record self.old { waiting = Waiting.Field } }
+    {
+        match self.waiting {
+            Waiting::Field => {}
+            _ => self.waiting = Waiting::Field,
+        }
+    }
+
+    /// Returns the next instruction and its node, if it is a field that is in the stream.
+    #[inline(always)]
+    pub fn sent_field(
+        &self,
+        templates: &'t Templates,
+        limits: Limits,
+    ) -> Option<(u32, &'t FieldInstruction)>
+        requires turn { CanTurn (set_of templates.now) limits self.now }
+        ensures next { IfSome result
+            (λ r. IsAtField (set_of templates.now) self.now.cursor r.0 (field_data r.1.now)) }
+        ensures sent { IfSome result (λ r. IsSent (field_data r.1.now) (bit_of (field_data r.1.now)
+            (state_in (slots_dictionary self.now.slots) self.now.counted self.now.cursor))) }
+        ensures serves { IfSome result (λ r. IsServedBy (set_of templates.now) self.now (field_data r.1.now)) }
+    {
+        let _ = limits;
+        let number = self.cursor.next()?;
+        let Shape::Field(field) = &templates.node(number).shape else {
+            return None;
+        };
+        if !needs_bytes(field, self.presence(field)) {
+            return None;
+        }
+        Some((number, field))
+    }
+
+    /// Reads the next instruction, a field that is in the stream, or the part of it that is there.
+    #[inline(always)]
+    fn take_sent_field<S: Sink>(
+        &mut self,
+        templates: &'t Templates,
+        limits: Limits,
+        node: u32,
+        field: &FieldInstruction,
+        rest: &[u8],
+        sink: &mut S,
+    ) -> UnitTaken
+        requires turn { CanTurn (set_of templates.now) limits self.old }
+        requires next { IsAtField (set_of templates.now) self.old.cursor node (field_data field.now) }
+        requires sent { IsSent (field_data field.now) (bit_of (field_data field.now)
+            (state_in (slots_dictionary self.old.slots) self.old.counted self.old.cursor)) }
+        requires serves { IsServedBy (set_of templates.now) self.old (field_data field.now) }
+        requires some { 0 < length rest.now }
+        ensures step { IsStep S.takes S.stops (set_of templates.now) limits self.old rest.now sink.old result sink.new
+            self.new }
+    {
+        self.wait_first(field);
+        if self.gathers(templates, limits, rest) {
+            return UnitTaken::cut(rest);
+        }
+        self.turns = Turns::after(&self.turns);
+        self.take_field(templates, limits, node, field, rest, sink)
+    }
+
+    /// Reads the next instruction as [`Machine::take_sent_field`] does. If the machine goes on, it waits for a field.
+    #[inline(always)]
+    pub fn step_by_field<S: Sink>(
+        &mut self,
+        templates: &'t Templates,
+        limits: Limits,
+        node: u32,
+        field: &FieldInstruction,
+        rest: &[u8],
+        sink: &mut S,
+    ) -> UnitTaken
+        requires turn { CanTurn (set_of templates.now) limits self.old }
+        requires next { IsAtField (set_of templates.now) self.old.cursor node (field_data field.now) }
+        requires sent { IsSent (field_data field.now) (bit_of (field_data field.now)
+            (state_in (slots_dictionary self.old.slots) self.old.counted self.old.cursor)) }
+        requires serves { IsServedBy (set_of templates.now) self.old (field_data field.now) }
+        requires some { 0 < length rest.now }
+        ensures step { IsStep S.takes S.stops (set_of templates.now) limits self.old rest.now sink.old result sink.new
+            self.new }
+        ensures waits { (t : Turn) → result.turn ≡ Ok t → t ≢ Turn.Waits → self.new.waiting ≡ Waiting.Field }
+    {
+        let unit = self.take_sent_field(templates, limits, node, field, rest, sink);
+        if unit.goes_on() {
+            self.wait_for_field();
+        }
+        unit
+    }
+
     /// Returns whether the next instruction is a field that is in the stream: the machine then waits for its first unit. Nothing is
     /// emitted; the sink is an argument for the clauses on the step.
     #[inline(always)]
@@ -65,41 +162,11 @@ impl<'t> Machine<'t> {
             → HasTurnsWaiting way (set_of templates.now) limits n self.new }
         ensures same { sink.new ≡ sink.old }
     {
-        let Some(number) = self.cursor.next() else {
+        let Some((_, field)) = self.sent_field(templates, limits) else {
             return false;
         };
-        let Shape::Field(field) = &templates.node(number).shape else {
-            return false;
-        };
-        if !needs_bytes(field, self.presence(field)) {
-            return false;
-        }
         self.wait_first(field);
         true
-    }
-
-    /// Reads the length of the next instruction, a sequence, if it is in the stream and complete.
-    #[inline(always)]
-    pub fn step_by_length<S: Sink>(
-        &mut self,
-        templates: &'t Templates,
-        limits: Limits,
-        rest: &[u8],
-        sink: &mut S,
-    ) -> Option<UnitTaken>
-        requires waits { self.old.waiting ≡ Waiting.Field }
-        requires turn { CanTurn (set_of templates.now) limits self.old }
-        ensures none { IfNone result ((self.new ≡ self.old) × (sink.new ≡ sink.old)) }
-        ensures step { IfSome result (λ q. IsStep S.takes S.stops (set_of templates.now) limits self.old rest.now
-            sink.old q sink.new self.new) }
-        ensures waits { IfSome result (λ q. (t : Turn) → q.turn ≡ Ok t → t ≢ Turn.Waits
-            → self.new.waiting ≡ Waiting.Field) }
-    {
-        let unit = self.take_short_length(templates, limits, rest, sink)?;
-        if unit.goes_on() {
-            self.wait_for_field();
-        }
-        Some(unit)
     }
 
     /// Makes a turn of the machine, and reads the unit that it waits for after that, or the part of it that is there.
@@ -138,31 +205,6 @@ impl<'t> Machine<'t> {
     /// Reads the unit that the machine waits for after a turn, or the part of it that is there.
     #[inline(always)]
     pub fn take_behind<S: Sink>(
-        &mut self,
-        templates: &'t Templates,
-        limits: Limits,
-        rest: &[u8],
-        sink: &mut S,
-    ) -> UnitTaken
-        requires ready { IsReady (set_of templates.now) limits self.old }
-        ensures step { (m : Machine) (s : S)
-            → Hands S.takes S.stops (turning (set_of templates.now) limits m) s (Ok tt) sink.old
-            (meaning (set_of templates.now) limits self.old)
-            → ((way : Way) (n : ℕ) → HasTurns way (set_of templates.now) limits 0 n m
-            → HasTurnsWaiting way (set_of templates.now) limits n self.old)
-            → IsStep S.takes S.stops (set_of templates.now) limits m rest.now s result sink.new self.new }
-        ensures waits { (t : Turn) → result.turn ≡ Ok t → t ≢ Turn.Waits → self.new.waiting ≡ Waiting.Field }
-    {
-        if let Some(quick) = self.take_whole(templates, limits, rest, sink) {
-            self.wait_for_field();
-            return quick;
-        }
-        self.take_slowly(templates, limits, rest, sink)
-    }
-
-    /// Reads the unit that the machine waits for after a turn, or the part of it that is there, if the fast path has no case for it.
-    #[inline(always)]
-    pub fn take_slowly<S: Sink>(
         &mut self,
         templates: &'t Templates,
         limits: Limits,

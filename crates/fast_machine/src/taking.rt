@@ -9,11 +9,19 @@ ghost use Rattle.fast_machine.specs.device.TurnsLeft.{Way, HasTurnsWaiting, HasT
 ghost use Rattle.fast_machine.specs.device.Positions.{set_of, tree_in, IsReady};
 
 use crate::machine::{Machine, Turn, Waiting};
-use crate::quick_units::UnitTaken;
 use crate::turns::Turns;
 use fast_stream::{FaultCode, Sink};
-use fast_template::{Shape, Templates};
+use fast_template::Templates;
 use fast_value::{Code, Limits};
+
+/// A unit, or the part of it that is there, and the turn after it.
+#[derive(Clone, Copy, Debug)]
+pub struct UnitTaken {
+    /// The number of bytes that were read.
+    pub bytes: usize,
+    /// The end of the turn. After a unit that is split the machine waits.
+    pub turn: Result<Turn, FaultCode>,
+}
 
 impl UnitTaken {
     /// Returns the result for a unit that is split: all bytes of the rest are read.
@@ -58,27 +66,6 @@ impl<'t> Machine<'t> {
         }
     }
 
-    /// Buffers all of the rest, if the machine waits for a string, and a look at its first bytes shows that it goes on after the rest. If the
-    /// result is `false`, nothing has changed.
-    #[inline(always)]
-    fn begins_string(&mut self, templates: &'t Templates, limits: Limits, rest: &[u8]) -> bool
-        requires ready { IsReady (set_of templates.now) limits self.old }
-        ensures gathered { result ≡ true → IsGatheredBy (set_of templates.now) limits self.old self.new rest.now }
-        ensures same { result ≡ false → self.new ≡ self.old }
-    {
-        match self.waiting {
-            Waiting::Field if self.carry.bytes.is_empty() => {}
-            _ => return false,
-        }
-        let Some(number) = self.cursor.next() else {
-            return false;
-        };
-        let Shape::Field(field) = &templates.node(number).shape else {
-            return false;
-        };
-        self.carry.begins_string(&self.slots, field, rest, limits)
-    }
-
     /// Returns the number of bytes of the rest that are buffered: all of them, if they are known to be bytes of the unit that the machine
     /// waits for, of which none is the last one, else none.
     #[inline(always)]
@@ -97,31 +84,7 @@ impl<'t> Machine<'t> {
         0
     }
 
-    /// Reads one unit, or the part of it that is there, on the fast path, if that has a case for it.
-    #[inline(always)]
-    pub fn take_next<S: Sink>(
-        &mut self,
-        templates: &'t Templates,
-        limits: Limits,
-        rest: &[u8],
-        sink: &mut S,
-    ) -> UnitTaken
-        requires ready { IsReady (set_of templates.now) limits self.old }
-        requires some { 0 < length rest.now }
-        ensures taken { TakesUnit S.takes S.stops (set_of templates.now) limits self.old rest.now sink.old result
-            sink.new self.new }
-        ensures turns { (way : Way) (n : ℕ) → HasTurnsWaiting way (set_of templates.now) limits n self.old
-            → HasTurnsBehind result.turn way (set_of templates.now) limits
-            (1 + n + turns_begun_at self.old.waiting self.old.cursor.map way (tree_in (set_of templates.now)) limits)
-            self.new }
-    {
-        match self.take_whole(templates, limits, rest, sink) {
-            Some(quick) => quick,
-            None => self.take_unit(templates, limits, rest, sink),
-        }
-    }
-
-    /// Reads one unit, or the part of it that is there, on the general path.
+    /// Reads one unit, or the part of it that is there.
     #[inline(never)]
     pub fn take_unit<S: Sink>(
         &mut self,
@@ -139,9 +102,6 @@ impl<'t> Machine<'t> {
             (1 + n + turns_begun_at self.old.waiting self.old.cursor.map way (tree_in (set_of templates.now)) limits)
             self.new }
     {
-        if self.begins_string(templates, limits, rest) {
-            return UnitTaken::cut(rest);
-        }
         self.turns = Turns::after(&self.turns);
         self.take_awaited(templates, limits, rest, sink)
     }

@@ -10,4 +10,3 @@ pub mod TextUnits
 pub mod TextSizes
 pub mod OpenUnits
 pub mod ScalarTakes
-pub mod Gathered

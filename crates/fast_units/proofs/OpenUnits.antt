@@ -25,6 +25,7 @@ use Rattle.fast_stream.specs.meaning.Fields.{field_by, field_term}
 use Rattle.fast_stream.specs.device.Machine.{behind_kept, behind_part_size, stage_term}
 use Rattle.fast_units.specs.device.Stages.{term_behind, IsStageOf}
 use Rattle.fast_units.specs.device.UnitFronts.{IsAsciiFirst, IsNumberStage, IsBytesStage}
+use Rattle.fast_units.specs.device.NextUnits.{IsOpen}
 use Rattle.fast_units.specs.device.Taking.{Stays}
 use Rattle.fast_units.specs.declared.stages.Stage.{Stage}
 use Rattle.fast_units.specs.declared.stages.Stage.TheVariants.{Mantissa, MantissaDelta, Vector, Part, PartVector}
@@ -32,11 +33,6 @@ use Rattle.fast_stream.proofs.readers.Integers.{reads-integer, reads-map}
 use Rattle.fast_stream.proofs.readers.TextReaders.{reads-raw, reads-ascii}
 use Rattle.fast_units.proofs.NextUnits.{runs_cut}
 use Rattle.fast_units.proofs.Turning.{stays_as, term_stays, result_done}
-
--- bytes of an integer that is cut
-pub record IsOpen (w : List ℕ) : Type 0 where
-  pub no_stop : HaveNoStop w
-  pub short : length w < 10
 
 pub integer_open : {A : Type 0} (s : Bool) (range : Range) (nullable : Bool) (c : Code) (g : Option ℤ → Grammar A) (w : List ℕ) → IsOpen w
     → Stays (reader_of s (integer range nullable c g)) w
@@ -141,10 +137,10 @@ unfolding stage_term
 bytes_open s l f p (Mantissa e) w h i = absurd i
 bytes_open s l f p (MantissaDelta e) w h i = absurd i
 bytes_open s l f p (Vector n) w h i = raw_open s n (λ v. of_result (decide f p true (sent_text f.kind (Some v)))) w i
-bytes_open s l f p (Part k) w h (ascii, (kept, e, open_front)) =
+bytes_open s l f p (Part k) w h (ascii, (kept, e, goes_on)) =
     stays_as (result_done s (subtraction_step f p k) (λ x. stage_term l f p (behind_kept x)) e)
     (term_stays s (text f.kind false (l.max_text - kept_length kept)) (part_change f p kept)
-    (text_open s f.kind false (l.max_text - kept_length kept) w ascii open_front))
-bytes_open s l f p (PartVector k n) w (fam, other, delta, (kept, e, fits)) i =
+    (text_open s f.kind false (l.max_text - kept_length kept) w ascii goes_on))
+bytes_open s l f p (PartVector k n) w (fam, other, delta, some, (kept, e, fits)) i =
     stays_as (result_done s (subtraction_step f p k) (λ x. stage_term l f p (behind_part_size x n)) e)
     (raw_open s n (λ v. part_change f p kept (Some v)) w i)

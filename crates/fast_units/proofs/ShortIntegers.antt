@@ -1,6 +1,6 @@
--- Fields of integers in the quick way.
+-- Fields of integers, each a single unit.
 use Rattle.std.proofs.Common.{refl, sym, ap, ◌∙◌, subst, inl, inr}
-use Rattle.std.specs.Prelude.{◌≡◌, ◌≢◌, ◌⊎◌, ℕ, Bool, true, false, List, [], ℤ, Option, Some, None, Result, Ok}
+use Rattle.std.specs.Prelude.{◌≡◌, ◌≢◌, ◌⊎◌, ℕ, Bool, true, false, List, ℤ, Option, Result, Ok}
 use Rattle.fast_fronts.specs.device.Fronts.{IsFirstInt}
 use Rattle.fast_wire.specs.meaning.Integers.{delta_range}
 use Rattle.fast_fronts.specs.declared.fronts.First.TheVariants as First
@@ -13,19 +13,16 @@ use Rattle.fast_tree.specs.declared.operators.Operator.{Operator}
 use Rattle.fast_tree.specs.declared.operators.Operator.TheVariants as Op
 use Rattle.fast_tree.specs.meaning.Entries.{keeps_value}
 use Rattle.fast_tree.specs.meaning.Tree.{FieldData}
-use Rattle.fast_dict.specs.meaning.Dictionary.{Dictionary, PreviousData, empty, assigned, previous_at, write_at}
-use Rattle.fast_dict.specs.meaning.Stores.{Terms}
+use Rattle.fast_dict.specs.meaning.Dictionary.{Dictionary, previous_at}
 use Rattle.fast_dict.specs.meaning.Operators.{decide, range_of, Outcome, Sent}
 use Rattle.fast_stream.specs.meaning.Fields.{field_term, sent_integer, integer_change}
-use Rattle.fast_stream.specs.meaning.Grammar.{give, integer, of_result}
+use Rattle.fast_stream.specs.meaning.Grammar.{of_result}
 use Rattle.fast_stream.specs.device.GrammarReaders.{reader_of}
-use Rattle.fast_units.specs.device.Settling.{Serves, IsLastUnit}
-use Rattle.fast_units.specs.device.Deciding.{number_data, sent_number, source_of, IsDecided}
-use Rattle.fast_units.specs.declared.fields.Number.{Number}
+use Rattle.fast_units.specs.device.Settling.{IsLastUnit}
+use Rattle.fast_units.specs.device.Deciding.{IsDecided}
 use Rattle.fast_units.specs.declared.source.ValueSource.{ValueSource}
 use Rattle.fast_units.specs.declared.progress.Progress.TheVariants.{Whole}
-use Rattle.fast_units.proofs.Deciding.{value_decided, null_decided, item_value}
-use Rattle.fast_units.proofs.LastUnits.{behind_integer, integer_here, integer_delta_field, last_unit}
+use Rattle.fast_units.proofs.LastUnits.{integer_here, integer_delta_field, last_unit}
 use Rattle.fast_units.proofs.NextUnits.{first_whole}
 
 -- A field of integers is none of texts.
@@ -38,18 +35,17 @@ pub item_unit : (k : Kind) (b strict : Bool) (l : Bounds) (f : FieldData) (rest 
     → k ≡ f.kind → b ≡ f.optional → family f.kind ≡ integers (range_of f.kind) → f.operator ≢ Op.Delta → f.operator ≢ Op.Constant
     → IsFirstInt (λ y. y) strict (range_of k) b (First.Whole x n) rest → sent ≡ sent_integer k x
     → IsDecided (decide f (previous_at f.entry old) true sent) f old new (Ok source)
-    → IsLastUnit (reader_of strict (field_term l f (previous_at f.entry old) true)) f [] rest old new scratch (Whole source n)
+    → IsLastUnit (reader_of strict (field_term l f (previous_at f.entry old) true)) f rest old new scratch (Whole source n)
 item_unit k b strict l f rest old new scratch x n sent source ke be is no_delta no_constant given as_kind decided =
     let p = previous_at f.entry old in
     let first : IsFirstInt (λ y. y) strict (range_of f.kind) f.optional (First.Whole x n) rest =
     subst (λ (q : Kind). IsFirstInt (λ y. y) strict (range_of q) f.optional (First.Whole x n) rest) ke
     (subst (λ (q : Bool). IsFirstInt (λ y. y) strict (range_of k) q (First.Whole x n) rest) be given) in
     let same : sent ≡ sent_integer f.kind x = as_kind ∙ ap (λ q. sent_integer q x) ke in
-    last_unit strict (integer (range_of f.kind) f.optional D2 give) (behind_integer l f p) (reader_of strict (field_term l f p true))
-    (integer_here strict l f p (range_of f.kind) refl is no_delta no_constant)
-    f [] rest old new scratch x n (decide f p true sent) (Ok source)
+    last_unit (integer_here strict l f p (range_of f.kind) refl is no_delta no_constant)
+    f rest old new scratch x n (decide f p true sent) (Ok source)
     (ap (λ v. of_result (decide f p true v)) (sym same)) decided
-    (first_whole (λ y. y) strict (range_of f.kind) f.optional D2 [] rest x n refl first)
+    (first_whole (λ y. y) strict (range_of f.kind) f.optional D2 rest x n first)
 
 -- So is a delta, or NULL.
 pub delta_unit : (b strict : Bool) (l : Bounds) (f : FieldData) (rest : List ℕ) (old new : Dictionary) (scratch : List ℕ) (x : Option ℤ)
@@ -57,27 +53,16 @@ pub delta_unit : (b strict : Bool) (l : Bounds) (f : FieldData) (rest : List ℕ
     → b ≡ f.optional → family f.kind ≡ integers (range_of f.kind) → f.operator ≡ Op.Delta
     → IsFirstInt (λ y. y) strict delta_range b (First.Whole x n) rest → integer_change f (previous_at f.entry old) x ≡ of_result d
     → IsDecided d f old new (Ok source)
-    → IsLastUnit (reader_of strict (field_term l f (previous_at f.entry old) true)) f [] rest old new scratch (Whole source n)
+    → IsLastUnit (reader_of strict (field_term l f (previous_at f.entry old) true)) f rest old new scratch (Whole source n)
 delta_unit b strict l f rest old new scratch x n d source be is delta given same decided =
     let p = previous_at f.entry old in
     let first : IsFirstInt (λ y. y) strict delta_range f.optional (First.Whole x n) rest =
     subst (λ (q : Bool). IsFirstInt (λ y. y) strict delta_range q (First.Whole x n) rest) be given in
-    last_unit strict (integer delta_range f.optional D2 give) (integer_change f p) (reader_of strict (field_term l f p true))
-    (ap (reader_of strict) (integer_delta_field l f p (range_of f.kind) is delta))
-    f [] rest old new scratch x n d (Ok source) same decided
-    (first_whole (λ y. y) strict delta_range f.optional D2 [] rest x n refl first)
+    last_unit (integer_delta_field strict l f p (range_of f.kind) is delta)
+    f rest old new scratch x n d (Ok source) same decided
+    (first_whole (λ y. y) strict delta_range f.optional D2 rest x n first)
 
 -- A field without an operator, or under default, keeps no value.
 pub keeps_none : (o o' : Operator) → o ≡ o' → (o ≡ Op.None) ⊎ (o ≡ Op.Default) → keeps_value o' ≡ false
 keeps_none o o' same (inl e) = ap keeps_value (sym same ∙ e)
 keeps_none o o' same (inr e) = ap keeps_value (sym same ∙ e)
-
--- A number, or NULL, that is sent under no delta, and is not kept.
-pub item_decided : {n : ℕ} {t : Terms} (f : FieldData) → Serves n t f → family f.kind ≡ integers (range_of f.kind)
-    → (old new : Dictionary) (item : Option Number)
-    → f.operator ≢ Op.Delta → f.operator ≢ Op.Constant → ((q : PreviousData) → new ≡ write_at f.entry q old)
-    → IsDecided (decide f (previous_at f.entry old) true (sent_number item)) f old new (Ok (source_of item))
-item_decided f serves is old new None no_delta no_constant same = null_decided f serves (no_texts f is) old new no_delta no_constant (same empty)
-item_decided f serves is old new (Some x) no_delta no_constant same =
-    value_decided f serves (no_texts f is) old new (number_data x) (source_of (Some x)) no_delta no_constant
-    (same (assigned f.kind (number_data x))) (item_value (Some x) f)

@@ -1,7 +1,7 @@
 -- The units of text fields: the terms that they stand in front of, and what they make of the field.
 use Rattle.std.proofs.Common.{refl, sym, ap, ◌∙◌, subst, arith, inl, inr}
-use Rattle.std.specs.Prelude.{◌≡◌, ◌≢◌, ◌⊎◌, ℕ, ◌-◌, ◌<◌, ◌≤◌, Bool, true, false, nat_le, if◌then◌else◌, List, [], ◌++◌, length, take, ℤ}
-use Rattle.std.specs.Prelude.{pos, Option, Some, Result, Ok, Err, IfOk}
+use Rattle.std.specs.Prelude.{◌≡◌, ◌≢◌, ◌⊎◌, ℕ, ◌-◌, ◌<◌, ◌≤◌, Bool, true, false, nat_le, if◌then◌else◌, List, [], length, take, ℤ}
+use Rattle.std.specs.Prelude.{pos, Option, Some, Result, Ok, Err}
 use Rattle.std.proofs.lemmas.Bool.Decides.{leb_tells}
 use Rattle.fast_wire.specs.meaning.Integers.{unsigned_range, signed_range}
 use Rattle.fast_value.specs.declared.codes.Code.{Code}
@@ -20,71 +20,70 @@ use Rattle.fast_stream.specs.device.Readers.{Reader, Done, Stop}
 use Rattle.fast_stream.specs.device.Machine.{behind_size as size_stage, behind_part_size as part_stage, stage_term}
 use Rattle.fast_stream.specs.meaning.Grammar.{Grammar, give, fault, integer, ascii_text, raw, ◌>>=◌, of_result}
 use Rattle.fast_stream.specs.device.GrammarReaders.{reader_of}
-use Rattle.fast_stream.specs.meaning.Fields.{text, sized, sent_text, item_in, part_change, text_change, change_in, sent, field_by, field_term}
+use Rattle.fast_stream.specs.meaning.Fields.{text, sized, sent_text, item_in, part_change, text_change, change_in, field_by, field_term}
 use Rattle.fast_units.specs.device.Taking.{Turns}
 use Rattle.fast_units.specs.device.Settling.{IsSettled, GivesField, IsLastUnit}
 use Rattle.fast_units.specs.device.Stages.{term_behind, IsFieldUnit}
-use Rattle.fast_units.specs.device.TextDecisions.{IsTextDecided, IsStepped, behind_size, behind_part_size, answered, settled}
+use Rattle.fast_units.specs.device.TextDecisions.{IsTextDecided, IsStepped, behind_size, behind_part_size, settled}
+use Rattle.fast_units.specs.device.Deciding.{answered}
+use Rattle.fast_units.specs.device.NextUnits.{IsShort, IfCut}
 use Rattle.fast_units.specs.declared.progress.Progress.{Progress}
-use Rattle.fast_units.specs.declared.progress.Progress.TheVariants.{Whole, Wrong, Cut}
+use Rattle.fast_units.specs.declared.progress.Progress.TheVariants.{Whole}
 use Rattle.fast_units.specs.declared.source.ValueSource.{ValueSource}
-use Rattle.fast_units.specs.declared.stages.Stage.{Stage}
 use Rattle.fast_units.specs.declared.stages.Stage.TheVariants.{Vector, Part, PartVector}
 use Rattle.fast_units.specs.declared.stages.FieldStep.{FieldStep}
 use Rattle.fast_units.specs.declared.stages.FieldStep.TheVariants.{Settled, Next}
 use Rattle.fast_units.proofs.Turning.{turns_as, term_turns}
+use Rattle.fast_units.proofs.LastUnits.{Begins, sent_by}
 
--- A unit g in front of what is read behind it.
-module _ {X : Type 0} (s : Bool) (g : Grammar X) (k : X → Grammar Outcome) (r : Reader Outcome) (here : r ≡ reader_of s (g >>= k))
-    (f : FieldData) (front rest : List ℕ) (old new : Dictionary) (scratch : List ℕ) (n : ℕ) (x : X)
-    (unit : (0 < n) × (n ≤ length rest) × Turns (reader_of s g) (front ++ take n rest) (Done x)) where
-  turned : (q : Reader Outcome) → reader_of s (k x) ≡ q → Turns r (front ++ take n rest) q
-  turned q e = turns_as here (sym e) (term_turns s g k unit.2)
+-- The unit at which a field begins.
+module _ {X : Type 0} {s : Bool} {g : Grammar X} {k : X → Grammar Outcome} {r : Reader Outcome} (here : Begins r s g k)
+    (f : FieldData) (rest : List ℕ) (old new : Dictionary) (scratch : List ℕ) (n : ℕ) (x : X)
+    (unit : (0 < n) × (n ≤ length rest) × Turns (reader_of s g) (take n rest) (Done x)) where
+  turned : (q : Reader Outcome) → reader_of s (k x) ≡ q → Turns r (take n rest) q
+  turned q e = turns_as here.same (sym e) (term_turns s g k unit.2)
 
   gives : (source : ValueSource) (o : Outcome) → reader_of s (k x) ≡ Done o → IsSettled o f source old new scratch (take n rest)
-      → GivesField r (front ++ take n rest) f source old new scratch (take n rest)
+      → GivesField r (take n rest) f source old new scratch (take n rest)
   gives source o e h = record { outcome = o; turns = turned (Done o) e; settled = h }
 
   last_by : (d : Result Outcome Code) (answer : Result ValueSource Code) → k x ≡ of_result d
-      → IsTextDecided d f old new scratch (take n rest) answer → IsLastUnit r f front rest old new scratch (answered answer n)
+      → IsTextDecided d f old new scratch (take n rest) answer → IsLastUnit r f rest old new scratch (answered answer n)
   last_by d (Ok source) e (o, i, h) = (unit.0, unit.1, gives source o (ap (reader_of s) e ∙ ap (λ q. reader_of s (of_result q)) i) h)
   last_by d (Err c) e i = (unit.0, unit.1, turned (Stop c) (ap (reader_of s) e ∙ ap (λ q. reader_of s (of_result q)) i))
 
-  -- The unit is the last one of the field.
+  -- It is the last one of the field.
   pub text_last : (d : Result Outcome Code) (answer : Result ValueSource Code) (result : Progress ValueSource) → result ≡ answered answer n
       → k x ≡ of_result d → IsTextDecided d f old new scratch (take n rest) answer
-      → IsLastUnit r f front rest old new scratch result
-  text_last d answer result a e h = subst (λ q. IsLastUnit r f front rest old new scratch q) (sym a) (last_by d answer e h)
+      → IsLastUnit r f rest old new scratch result
+  text_last d answer result a e h = subst (λ q. IsLastUnit r f rest old new scratch q) (sym a) (last_by d answer e h)
 
--- The same of a unit that another one may follow.
-module _ {X : Type 0} (l : Limits) (g : Grammar X) (k : X → Grammar Outcome) (r : Reader Outcome) (here : r ≡ reader_of l.strict (g >>= k))
-    (f : FieldData) (front rest : List ℕ) (old new : Dictionary) (scratch : List ℕ) (n : ℕ) (x : X)
-    (unit : (0 < n) × (n ≤ length rest) × Turns (reader_of l.strict g) (front ++ take n rest) (Done x)) where
+-- Another one may follow.
+module _ {X : Type 0} (l : Limits) {g : Grammar X} {k : X → Grammar Outcome} {r : Reader Outcome} (here : Begins r l.strict g k)
+    (f : FieldData) (rest : List ℕ) (old new : Dictionary) (scratch : List ℕ) (n : ℕ) (x : X)
+    (unit : (0 < n) × (n ≤ length rest) × Turns (reader_of l.strict g) (take n rest) (Done x)) where
   next_by : (answer : Result FieldStep Code) → IsStepped l (reader_of l.strict (k x)) f old new scratch (take n rest) answer
-      → IsFieldUnit l r f front rest old new scratch (answered answer n)
-  next_by (Ok (Settled source)) (o, e, h) = (unit.0, unit.1, gives l.strict g k r here f front rest old new scratch n x unit source o e h)
-  next_by (Ok (Next stage)) (same, is_stage, e) = (unit.0, unit.1, same, is_stage, turned l.strict g k r here f front rest old new scratch n x unit _ e)
-  next_by (Err c) e = (unit.0, unit.1, turned l.strict g k r here f front rest old new scratch n x unit (Stop c) e)
+      → IsFieldUnit l r f rest old new scratch (answered answer n)
+  next_by (Ok (Settled source)) (o, e, h) = (unit.0, unit.1, gives here f rest old new scratch n x unit source o e h)
+  next_by (Ok (Next stage)) (same, is_stage, e) = (unit.0, unit.1, same, is_stage, turned here f rest old new scratch n x unit _ e)
+  next_by (Err c) e = (unit.0, unit.1, turned here f rest old new scratch n x unit (Stop c) e)
 
   pub text_next : (answer : Result FieldStep Code) (result : Progress FieldStep) → result ≡ answered answer n
       → IsStepped l (reader_of l.strict (k x)) f old new scratch (take n rest) answer
-      → IsFieldUnit l r f front rest old new scratch result
-  text_next answer result a h = subst (λ q. IsFieldUnit l r f front rest old new scratch q) (sym a) (next_by answer h)
+      → IsFieldUnit l r f rest old new scratch result
+  text_next answer result a h = subst (λ q. IsFieldUnit l r f rest old new scratch q) (sym a) (next_by answer h)
 
   pub text_settled : (d : Result Outcome Code) (source : ValueSource) → k x ≡ of_result d
       → IsTextDecided d f old new scratch (take n rest) (Ok source)
-      → IsFieldUnit l r f front rest old new scratch (Whole (Settled source) n)
+      → IsFieldUnit l r f rest old new scratch (Whole (Settled source) n)
   text_settled d source e (o, i, h) = (
     unit.0,
     unit.1,
-    gives l.strict g k r here f front rest old new scratch n x unit source o
+    gives here f rest old new scratch n x unit source o
         (ap (reader_of l.strict) e ∙ ap (λ q. reader_of l.strict (of_result q)) i) h,
   )
 
--- A kind of texts.
-pub ascii_is_text : (kind : Kind) → kind ≡ Ascii → family kind ≡ texts
-ascii_is_text kind e = ap family e
-
+-- The kinds of texts.
 text_ascii : (kind : Kind) (nullable : Bool) (room : ℕ) → kind ≡ Ascii → text kind nullable room ≡ ascii_text nullable room give
 text_ascii kind nullable room e = rw e refl
 
@@ -98,67 +97,69 @@ text_vector Ascii nullable room n = absurd (n refl)
 text_vector Unicode nullable room n = refl
 text_vector Bytes nullable room n = refl
 
-sent_by : (o : Operator) (l : Bounds) (f : FieldData) (p : PreviousData) → o ≢ Op.Delta → o ≢ Op.Constant → field_by o true l f p ≡ sent l f p
-sent_by Op.None l f p i j = refl
-sent_by Op.Constant l f p i j = absurd (j refl)
-sent_by Op.Default l f p i j = refl
-sent_by Op.Copy l f p i j = refl
-sent_by Op.Increment l f p i j = refl
-sent_by Op.Delta l f p i j = absurd (i refl)
-sent_by Op.Tail l f p i j = refl
-
 -- The terms of text fields, as a unit in front of what is read behind it.
 module _ (l : Bounds) (f : FieldData) (p : PreviousData) where
   -- what is decided of a text, or NULL
   abbrev pub behind_text : Option (List ℕ) → Grammar Outcome
   behind_text x = of_result (decide f p true (sent_text f.kind x))
 
+module _ (s : Bool) (l : Bounds) (f : FieldData) (p : PreviousData) where
   item_field : family f.kind ≡ texts → f.operator ≢ Op.Delta → f.operator ≢ Op.Constant
       → field_term l f p true ≡ (text f.kind f.optional l.max_text >>= (λ v. give (sent_text f.kind v))) >>= (λ x. of_result (decide f p true x))
   unfolding field_term
   item_field e i j = sent_by f.operator l f p i j ∙ ap (λ q. item_in q l f >>= (λ x. of_result (decide f p true x))) e
 
   pub text_field : f.kind ≡ Ascii → f.operator ≢ Op.Delta → f.operator ≢ Op.Constant
-      → field_term l f p true ≡ ascii_text f.optional l.max_text give >>= behind_text
-  text_field e i j = item_field (ascii_is_text f.kind e) i j
-      ∙ ap (λ q. (q >>= (λ v. give (sent_text f.kind v))) >>= (λ x. of_result (decide f p true x)))
-      (text_ascii f.kind f.optional l.max_text e)
+      → Begins (reader_of s (field_term l f p true)) s (ascii_text f.optional l.max_text give) (behind_text l f p)
+  text_field e i j = record {
+    same = ap (reader_of s) (item_field (ap family e) i j
+        ∙ ap (λ q. (q >>= (λ v. give (sent_text f.kind v))) >>= (λ x. of_result (decide f p true x))) (text_ascii f.kind f.optional l.max_text e));
+  }
 
   pub size_field : family f.kind ≡ texts → f.kind ≢ Ascii → f.operator ≢ Op.Delta → f.operator ≢ Op.Constant
-      → field_term l f p true ≡ integer (unsigned_range 32) f.optional D2 give >>= behind_size l f p
-  size_field e n i j = item_field e i j ∙ ap (λ q. (q >>= (λ v. give (sent_text f.kind v))) >>= (λ x. of_result (decide f p true x)))
-      (text_vector f.kind f.optional l.max_text n)
+      → Begins (reader_of s (field_term l f p true)) s (integer (unsigned_range 32) f.optional D2 give) (behind_size l f p)
+  size_field e n i j = record {
+    same = ap (reader_of s) (item_field e i j
+        ∙ ap (λ q. (q >>= (λ v. give (sent_text f.kind v))) >>= (λ x. of_result (decide f p true x))) (text_vector f.kind f.optional l.max_text n));
+  }
 
   pub subtraction_field : family f.kind ≡ texts → f.operator ≡ Op.Delta
-      → field_term l f p true ≡ integer (signed_range 31) f.optional D7 give >>= text_change l f p
+      → Begins (reader_of s (field_term l f p true)) s (integer (signed_range 31) f.optional D7 give) (text_change l f p)
   unfolding field_term
-  subtraction_field e i = ap (λ o. field_by o true l f p) i ∙ ap (λ q. change_in q l f p) e
+  subtraction_field e i = record { same = ap (reader_of s) (ap (λ o. field_by o true l f p) i ∙ ap (λ q. change_in q l f p) e) }
 
-  pub vector_field : (n : ℕ) → term_behind l f p (Vector n) ≡ raw n give >>= (λ v. behind_text (Some v))
+  pub vector_field : (n : ℕ) → Begins (reader_of s (term_behind l f p (Vector n))) s (raw n give) (λ v. behind_text l f p (Some v))
   unfolding stage_term
-  vector_field n = refl
-
-  pub part_here : (k : ℤ) → text_change l f p (Some k) ≡ term_behind l f p (Part k)
-  unfolding stage_term
-  part_here k = refl
+  vector_field n = record { same = refl }
 
   kept_field : (k : ℤ) (kept : Kept) → subtraction_step f p k ≡ Ok kept
       → term_behind l f p (Part k) ≡ text f.kind false (l.max_text - kept_length kept) >>= part_change f p kept
   unfolding stage_term
   kept_field k kept e = rw e refl
 
-  pub part_field : (k : ℤ) (kept : Kept) → subtraction_step f p k ≡ Ok kept → f.kind ≡ Ascii
-      → term_behind l f p (Part k) ≡ ascii_text false (l.max_text - kept_length kept) give >>= part_change f p kept
-  part_field k kept e i = kept_field k kept e ∙ ap (λ q. q >>= part_change f p kept) (text_ascii f.kind false (l.max_text - kept_length kept) i)
+  pub part_field : (k : ℤ) (kept : Kept) (room : ℕ) → subtraction_step f p k ≡ Ok kept → room ≡ l.max_text - kept_length kept → f.kind ≡ Ascii
+      → Begins (reader_of s (term_behind l f p (Part k))) s (ascii_text false room give) (part_change f p kept)
+  part_field k kept room e same i = record {
+    same = ap (reader_of s) (kept_field k kept e
+        ∙ ap (λ q. q >>= part_change f p kept) (text_ascii f.kind false (l.max_text - kept_length kept) i)
+        ∙ ap (λ most. ascii_text false most give >>= part_change f p kept) (sym same));
+  }
 
   pub part_size_field : (k : ℤ) (kept : Kept) → subtraction_step f p k ≡ Ok kept → f.kind ≢ Ascii
-      → term_behind l f p (Part k) ≡ integer (unsigned_range 32) false D2 give >>= behind_part_size l f p kept
-  part_size_field k kept e n = kept_field k kept e ∙ ap (λ q. q >>= part_change f p kept) (text_vector f.kind false (l.max_text - kept_length kept) n)
+      → Begins (reader_of s (term_behind l f p (Part k))) s (integer (unsigned_range 32) false D2 give) (behind_part_size l f p kept)
+  part_size_field k kept e n = record {
+    same = ap (reader_of s) (kept_field k kept e ∙ ap (λ q. q >>= part_change f p kept) (text_vector f.kind false (l.max_text - kept_length kept) n));
+  }
 
   pub part_vector_field : (k : ℤ) (kept : Kept) (n : ℕ) → subtraction_step f p k ≡ Ok kept
-      → term_behind l f p (PartVector k n) ≡ raw n give >>= (λ v. part_change f p kept (Some v))
+      → Begins (reader_of s (term_behind l f p (PartVector k n))) s (raw n give) (λ v. part_change f p kept (Some v))
   unfolding stage_term
-  part_vector_field k kept n e = rw e refl
+  part_vector_field k kept n e = record { same = rw e refl }
+
+module _ (l : Bounds) (f : FieldData) (p : PreviousData) where
+  pub part_here : (k : ℤ) → text_change l f p (Some k) ≡ term_behind l f p (Part k)
+  unfolding stage_term
+  part_here k = refl
 
   -- Behind a size: there is room for the bytes, or there is not.
   pub size_fits : (n size : ℕ) → (if nat_le n l.max_text then Ok n else Err L1) ≡ Ok size
@@ -171,15 +172,6 @@ module _ (l : Bounds) (f : FieldData) (p : PreviousData) where
           → (size ≡ n) × (n ≤ l.max_text) × (behind_size l f p (Some (pos n)) ≡ stage_term l f p (size_stage n))
       by (inl t) e = let i : Ok n ≡ Ok size = rw t.0 at e in let j : n ≡ size = cc i in (sym j, t.1, rw t.0 refl)
       by (inr t) e = let i : Err L1 ≡ Ok size = rw t.0 at e in absurd (cc i)
-
-  pub size_wrong : (n : ℕ) (c : Code) → (if nat_le n l.max_text then Ok n else Err L1) ≡ Err c → behind_size l f p (Some (pos n)) ≡ fault c
-  size_wrong n c = by (leb_tells n l.max_text)
-    where
-      by : ((nat_le n l.max_text ≡ true) × (n ≤ l.max_text)) ⊎ ((nat_le n l.max_text ≡ false) × (l.max_text < n))
-          → (if nat_le n l.max_text then Ok n else Err L1) ≡ Err c
-          → behind_size l f p (Some (pos n)) ≡ fault c
-      by (inl t) e = let i : Ok n ≡ Err c = rw t.0 at e in absurd (cc i)
-      by (inr t) e = let i : Err L1 ≡ Err c = rw t.0 at e in let j : L1 ≡ c = cc i in rw t.0 (ap fault j)
 
   module _ (kept : Kept) where
     pub part_size_fits : (n size : ℕ) → (if nat_le n (l.max_text - kept_length kept) then Ok n else Err L1) ≡ Ok size
@@ -244,26 +236,21 @@ part_vector_here l f p kept k n e = sym (ap (λ r. of_result r >>= (λ q. stage_
 
 -- The last unit of a field, and what is decided behind it.
 module _ (f : FieldData) (old new : Dictionary) (scratch piece : List ℕ) (source : ValueSource) where
-  pub gives_unit : {X : Type 0} (s : Bool) (g : Grammar X) (k : X → Grammar Outcome) (r : Reader Outcome) (w : List ℕ) (x : X)
-      (d : Result Outcome Code) → r ≡ reader_of s (g >>= k) → Turns (reader_of s g) w (Done x)
+  pub gives_unit : {X : Type 0} {s : Bool} {g : Grammar X} {k : X → Grammar Outcome} {r : Reader Outcome} → Begins r s g k → (w : List ℕ) (x : X)
+      (d : Result Outcome Code) → Turns (reader_of s g) w (Done x)
       → k x ≡ of_result d → IsTextDecided d f old new scratch piece (Ok source) → GivesField r w f source old new scratch piece
-  gives_unit s g k r w x d here t e (o, i, h) = record {
+  gives_unit {s = s} {g = g} {k = k} here w x d t e (o, i, h) = record {
     outcome = o;
-    turns = turns_as here (sym (ap (reader_of s) e ∙ ap (λ q. reader_of s (of_result q)) i)) (term_turns s g k t);
+    turns = turns_as here.same (sym (ap (reader_of s) e ∙ ap (λ q. reader_of s (of_result q)) i)) (term_turns s g k t);
     settled = h;
   }
 
--- An answer behind a unit is none of a unit that is cut, and what it is is the unit's.
-pub answered_whole : {T : Type 0} (r : Result T Code) (n : ℕ) → answered r n ≡ Cut → ⊥
-answered_whole (Ok x) n e = cc e
-answered_whole (Err c) n e = cc e
-
-pub answered_more : {T : Type 0} (P : T → Type 0) (r : Result T Code) (m : ℕ) → IfOk r P → (x : T) (n : ℕ) → answered r m ≡ Whole x n → P x
-answered_more P (Ok y) m h x n e = let same : y ≡ x = cc e in subst P same h
-answered_more P (Err c) m h x n e = absurd (cc e)
-
 -- An answer behind a short unit is short.
-pub short_answer : (r : Result FieldStep Code) (result : Progress FieldStep) (m : ℕ) → result ≡ answered r m → m ≤ 10
-    → (stage : Stage) (n : ℕ) → result ≡ Whole (Next stage) n → n ≤ 10
-short_answer (Ok x) result m a h stage n e = let i : Whole x m ≡ Whole (Next stage) n = sym a ∙ e in let same : m ≡ n = cc i in subst (λ k. k ≤ 10) same h
-short_answer (Err c) result m a h stage n e = let i : Wrong c m ≡ Whole (Next stage) n = sym a ∙ e in absurd (cc i)
+pub short_answer : {T : Type 0} (rest : List ℕ) (r : Result T Code) (p : Progress T) (n : ℕ) → p ≡ answered r n → n ≤ 10 → IsShort rest p
+short_answer rest (Ok x) p n e h = subst (IsShort rest) (sym e) h
+short_answer rest (Err c) p n e h = subst (IsShort rest) (sym e) tt
+
+-- It is none of a unit that is cut.
+pub uncut : {T : Type 0} (P : Type 0) (r : Result T Code) (p : Progress T) (n : ℕ) → p ≡ answered r n → IfCut p P
+uncut P (Ok x) p n e = subst (λ q. IfCut q P) (sym e) tt
+uncut P (Err c) p n e = subst (λ q. IfCut q P) (sym e) tt

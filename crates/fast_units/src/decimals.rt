@@ -1,20 +1,20 @@
 //! Decimals: their two units, exponent and mantissa, and their effect on the dictionary.
 
-ghost use Rattle.std.specs.Prelude.{false, Some, ◌≡◌, ◌≢◌, ℕ, ◌<◌, ◌≤◌, List, [], ℤ, pos, neg_ℤ, ◌≤ℤ◌, Ok};
+ghost use Rattle.std.specs.Prelude.{false, Some, ◌≡◌, ◌≢◌, ℕ, List, ℤ, pos, neg_ℤ, ◌≤ℤ◌, Ok};
 ghost use Rattle.fast_value.specs.meaning.Kinds.{Dec, decimals, family, signed_range};
 ghost use Rattle.fast_value.specs.meaning.Limits.{bounds};
 ghost use Rattle.fast_tree.specs.meaning.Nodes.{field_data};
 ghost use Rattle.fast_dict.specs.meaning.Operators.{mantissa_step, range_of};
 ghost use Rattle.fast_dict.specs.meaning.Slots.{slots_terms};
 ghost use Rattle.fast_stream.specs.device.GrammarReaders.{reader_of};
+ghost use Rattle.fast_units.specs.device.NextUnits.{IsShort};
 ghost use Rattle.fast_units.specs.device.Stages.{term_behind, IsStageOf};
 ghost use Rattle.fast_units.specs.device.Deciding.{number_data};
-ghost use Rattle.fast_units.specs.device.Words.{ServesField, previous_of, sent_reader, IsLastUnitOf, IsUnitOf, IsDecidedIn, IsKeptCut};
+ghost use Rattle.fast_units.specs.device.Words.{ServesField, previous_of, sent_reader, IsLastUnitOf, IsUnitOf, IsDecidedIn};
 
 use crate::fields::{Number, keep, previous};
-use crate::numbers::{DELTA, MANTISSA, range_on_wire, received, settled};
-use crate::pending::Pending;
-use crate::progress::Progress;
+use crate::numbers::{DELTA, MANTISSA, range_on_wire, received};
+use crate::progress::{Progress, answered};
 use crate::source::ValueSource;
 use crate::stages::{FieldStep, Stage};
 use crate::units::next_integer;
@@ -29,7 +29,6 @@ use fast_value::{Code, Kind, Limits};
 #[inline(always)]
 pub fn take_exponent(
     slots: &mut Slots,
-    pending: &mut Pending,
     field: &FieldInstruction,
     rest: &[u8],
     limits: Limits,
@@ -38,22 +37,19 @@ pub fn take_exponent(
     requires decimals { family field.now.kind ≡ decimals }
     requires sent { field.now.operator ≢ Operator.Constant }
     ensures unit { (scratch : List ℕ) → IsUnitOf limits (sent_reader limits.strict (bounds limits) slots.old field.now)
-        field.now pending.old.bytes rest.now slots.old slots.new scratch result }
-    ensures whole { (s : FieldStep) (n : ℕ) → result ≡ Progress.Whole s n → pending.new.bytes ≡ [] }
-    ensures short { (stage : Stage) (n : ℕ) → result ≡ Progress.Whole (FieldStep.Next stage) n → n ≤ 10 }
-    ensures cut { IsKeptCut pending.old.bytes rest.now pending.new.bytes result }
+        field.now rest.now slots.old slots.new scratch result }
+    ensures short { IsShort rest.now result }
     ensures terms { slots_terms slots.new ≡ slots_terms slots.old }
 {
     match field.operator {
-        Operator::Delta => take_exponent_delta(slots, pending, field, rest, limits),
-        _ => take_exponent_item(slots, pending, field, rest, limits),
+        Operator::Delta => take_exponent_delta(slots, field, rest, limits),
+        _ => take_exponent_item(slots, field, rest, limits),
     }
 }
 
 /// Reads the exponent of a decimal, or NULL, under an operator other than delta.
 fn take_exponent_item(
     slots: &mut Slots,
-    pending: &mut Pending,
     field: &FieldInstruction,
     rest: &[u8],
     limits: Limits,
@@ -63,21 +59,12 @@ fn take_exponent_item(
     requires no_delta { field.now.operator ≢ Operator.Delta }
     requires no_constant { field.now.operator ≢ Operator.Constant }
     ensures unit { (scratch : List ℕ) → IsUnitOf limits (sent_reader limits.strict (bounds limits) slots.old field.now)
-        field.now pending.old.bytes rest.now slots.old slots.new scratch result }
-    ensures whole { (s : FieldStep) (n : ℕ) → result ≡ Progress.Whole s n → pending.new.bytes ≡ [] }
-    ensures short { (stage : Stage) (n : ℕ) → result ≡ Progress.Whole (FieldStep.Next stage) n → n ≤ 10 }
-    ensures cut { IsKeptCut pending.old.bytes rest.now pending.new.bytes result }
+        field.now rest.now slots.old slots.new scratch result }
+    ensures short { IsShort rest.now result }
     ensures terms { slots_terms slots.new ≡ slots_terms slots.old }
 {
     let range = range_on_wire(field.kind);
-    match next_integer(
-        pending,
-        rest,
-        limits.strict,
-        range,
-        field.optional,
-        Code::R1,
-    ) {
+    match next_integer(rest, limits.strict, range, field.optional, Code::R1) {
         Progress::Whole(Some(integer), bytes) => {
             Progress::Whole(FieldStep::Next(Stage::Mantissa(exponent(integer))), bytes)
         }
@@ -102,7 +89,6 @@ fn exponent(exponent: i128) -> i32
 /// Reads the delta of a decimal's exponent, or NULL, which leaves the entry unchanged and does not look at it.
 fn take_exponent_delta(
     slots: &mut Slots,
-    pending: &mut Pending,
     field: &FieldInstruction,
     rest: &[u8],
     limits: Limits,
@@ -111,20 +97,11 @@ fn take_exponent_delta(
     requires decimals { family field.now.kind ≡ decimals }
     requires delta { field.now.operator ≡ Operator.Delta }
     ensures unit { (scratch : List ℕ) → IsUnitOf limits (sent_reader limits.strict (bounds limits) slots.old field.now)
-        field.now pending.old.bytes rest.now slots.old slots.new scratch result }
-    ensures whole { (s : FieldStep) (n : ℕ) → result ≡ Progress.Whole s n → pending.new.bytes ≡ [] }
-    ensures short { (stage : Stage) (n : ℕ) → result ≡ Progress.Whole (FieldStep.Next stage) n → n ≤ 10 }
-    ensures cut { IsKeptCut pending.old.bytes rest.now pending.new.bytes result }
+        field.now rest.now slots.old slots.new scratch result }
+    ensures short { IsShort rest.now result }
     ensures terms { slots_terms slots.new ≡ slots_terms slots.old }
 {
-    match next_integer(
-        pending,
-        rest,
-        limits.strict,
-        DELTA,
-        field.optional,
-        Code::D2,
-    ) {
+    match next_integer(rest, limits.strict, DELTA, field.optional, Code::D2) {
         Progress::Whole(Some(delta), bytes) => {
             match exponent_delta(field, previous(slots, field), delta) {
                 Ok(exponent) => Progress::Whole(
@@ -146,7 +123,6 @@ fn take_exponent_delta(
 /// Reads the second unit of a decimal, after its exponent: the mantissa.
 pub fn take_mantissa(
     slots: &mut Slots,
-    pending: &mut Pending,
     field: &FieldInstruction,
     exponent: i32,
     rest: &[u8],
@@ -157,12 +133,11 @@ pub fn take_mantissa(
         (Stage.Mantissa exponent) }
     ensures unit { (scratch : List ℕ) → IsLastUnitOf (reader_of limits.strict
         (term_behind (bounds limits) (field_data field.now) (previous_of slots.old field.now)
-        (Stage.Mantissa exponent))) field.now pending.old.bytes rest.now slots.old slots.new scratch result }
-    ensures whole { (s : ValueSource) (n : ℕ) → result ≡ Progress.Whole s n → pending.new.bytes ≡ [] }
-    ensures cut { IsKeptCut pending.old.bytes rest.now pending.new.bytes result }
+        (Stage.Mantissa exponent))) field.now rest.now slots.old slots.new scratch result }
+    ensures short { IsShort rest.now result }
     ensures terms { slots_terms slots.new ≡ slots_terms slots.old }
 {
-    match next_integer(pending, rest, limits.strict, MANTISSA, false, Code::R1) {
+    match next_integer(rest, limits.strict, MANTISSA, false, Code::R1) {
         Progress::Whole(Some(mantissa), bytes) => {
             let number = decimal(exponent, mantissa);
             Progress::Whole(received(slots, field, Some(number)), bytes)
@@ -189,7 +164,6 @@ pub fn decimal(exponent: i32, mantissa: i128) -> Number
 /// Reads the second unit of a decimal under delta, after its exponent: the delta of the mantissa.
 pub fn take_mantissa_delta(
     slots: &mut Slots,
-    pending: &mut Pending,
     field: &FieldInstruction,
     exponent: i32,
     rest: &[u8],
@@ -200,14 +174,13 @@ pub fn take_mantissa_delta(
         (Stage.MantissaDelta exponent) }
     ensures unit { (scratch : List ℕ) → IsLastUnitOf (reader_of limits.strict
         (term_behind (bounds limits) (field_data field.now) (previous_of slots.old field.now)
-        (Stage.MantissaDelta exponent))) field.now pending.old.bytes rest.now slots.old slots.new scratch result }
-    ensures whole { (s : ValueSource) (n : ℕ) → result ≡ Progress.Whole s n → pending.new.bytes ≡ [] }
-    ensures cut { IsKeptCut pending.old.bytes rest.now pending.new.bytes result }
+        (Stage.MantissaDelta exponent))) field.now rest.now slots.old slots.new scratch result }
+    ensures short { IsShort rest.now result }
     ensures terms { slots_terms slots.new ≡ slots_terms slots.old }
 {
-    match next_integer(pending, rest, limits.strict, DELTA, false, Code::D2) {
+    match next_integer(rest, limits.strict, DELTA, false, Code::D2) {
         Progress::Whole(Some(delta), bytes) => {
-            settled(change_mantissa(slots, field, exponent, delta), bytes)
+            answered(change_mantissa(slots, field, exponent, delta), bytes)
         }
         Progress::Whole(None, bytes) => Progress::Whole(ValueSource::Absent, bytes),
         Progress::Wrong(code, bytes) => Progress::Wrong(code, bytes),

@@ -173,6 +173,21 @@ pub fn assign_empty(slots: &mut Slots, field: &FieldInstruction)
     }
 }
 
+/// Stores a number at the field's entry, if it has one.
+#[inline(always)]
+pub fn keep_number(slots: &mut Slots, field: &FieldInstruction, kind: Kind, number: Number)
+    requires kind { kind ≡ field.now.kind }
+    requires within { HasEntryOf slots.old field.now }
+    ensures entry { slots_dictionary slots.new
+        ≡ write_at (field_data field.now).entry (assigned field.now.kind (number_data number))
+        (slots_dictionary slots.old) }
+    ensures terms { slots_terms slots.new ≡ slots_terms slots.old }
+{
+    if let Some(entry) = field.entry {
+        slots.set_number(entry as usize, number.held_under(kind));
+    }
+}
+
 /// Stores a number at the field's entry, if it has one, and returns its source.
 #[inline]
 pub fn keep(slots: &mut Slots, field: &FieldInstruction, number: Number) -> ValueSource
@@ -184,7 +199,7 @@ pub fn keep(slots: &mut Slots, field: &FieldInstruction, number: Number) -> Valu
         (slots_dictionary slots.old) }
     ensures terms { slots_terms slots.new ≡ slots_terms slots.old }
 {
-    assign(slots, field, number.as_scalar());
+    keep_number(slots, field, field.kind, number);
     number.source()
 }
 

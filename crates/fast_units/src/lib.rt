@@ -7,12 +7,9 @@
 pub mod decimals;
 pub mod fields;
 pub mod numbers;
-pub mod pending;
 pub mod progress;
 pub mod scalars;
 pub mod scratch;
-pub mod short_decimals;
-pub mod short_integers;
 pub mod source;
 pub mod stages;
 pub mod text_deltas;

@@ -1,18 +1,17 @@
 //! Fields of integers: the values of their units, and their effect on the dictionary; and the code that decimals share with them.
 
-ghost use Rattle.std.specs.Prelude.{Some, ◌≡◌, ◌≢◌, ℕ, ◌<◌, true, List, [], Ok};
+ghost use Rattle.std.specs.Prelude.{IfErr, IfSome, Some, ◌≡◌, ◌≢◌, ℕ, true, List, Ok};
 ghost use Rattle.fast_value.specs.meaning.Kinds.{integers, texts, family};
 ghost use Rattle.fast_value.specs.meaning.Limits.{Bounds};
 ghost use Rattle.fast_tree.specs.meaning.Nodes.{field_data};
 ghost use Rattle.fast_dict.specs.meaning.Operators.{decide, integer_step, range_of};
 ghost use Rattle.fast_dict.specs.meaning.Slots.{slots_terms};
-ghost use Rattle.fast_units.specs.device.NextUnits.{range_data};
-ghost use Rattle.fast_units.specs.device.Deciding.{sent_number, base_integer, progress_of};
-ghost use Rattle.fast_units.specs.device.Words.{ServesField, HasEntryOf, previous_of, sent_reader, IsLastUnitOf, IsDecidedIn, IsKeptCut};
+ghost use Rattle.fast_units.specs.device.NextUnits.{range_data, IsShort};
+ghost use Rattle.fast_units.specs.device.Deciding.{sent_number, base_integer};
+ghost use Rattle.fast_units.specs.device.Words.{ServesField, HasEntryOf, previous_of, sent_reader, IsLastUnitOf, IsDecidedIn};
 
-use crate::fields::{Number, assign_empty, keep, previous};
-use crate::pending::Pending;
-use crate::progress::Progress;
+use crate::fields::{Number, assign_empty, keep, number_under, previous};
+use crate::progress::{Progress, answered};
 use crate::source::ValueSource;
 use crate::units::{IntegerRange, next_integer};
 use fast_dict::Slots;
@@ -72,9 +71,32 @@ pub(crate) fn received(
     }
 }
 
-/// Returns the integer that a delta is added to.
+/// Returns the integer that the field's entry holds under the field's type, to which a delta is added.
+#[inline(always)]
+fn held_integer(slots: &Slots, field: &FieldInstruction) -> Option<i128>
+    requires within { HasEntryOf slots.now field.now }
+    ensures { IfSome result (λ base. base_integer (field_data field.now) (previous_of slots.now field.now) ≡ Ok base) }
+{
+    let number = number_under(field.kind, slots.held(field.entry? as usize))?;
+    Some(integer_of(number.as_scalar()))
+}
+
+/// Returns the integer that a delta is added to. That the entry holds one is by far the most common.
 #[inline(always)]
 pub(crate) fn base_integer(slots: &Slots, field: &FieldInstruction) -> Result<i128, Code>
+    requires within { HasEntryOf slots.now field.now }
+    ensures { result ≡ base_integer (field_data field.now) (previous_of slots.now field.now) }
+{
+    match held_integer(slots, field) {
+        Some(base) => Ok(base),
+        None => other_integer(slots, field),
+    }
+}
+
+/// Returns the integer that a delta is added to, whatever the entry holds.
+#[cold]
+#[inline(never)]
+fn other_integer(slots: &Slots, field: &FieldInstruction) -> Result<i128, Code>
     requires within { HasEntryOf slots.now field.now }
     ensures { result ≡ base_integer (field_data field.now) (previous_of slots.now field.now) }
 {
@@ -83,7 +105,7 @@ pub(crate) fn base_integer(slots: &Slots, field: &FieldInstruction) -> Result<i1
 
 /// Adds a delta to the base of an integer field. The entry then holds the sum.
 #[inline(always)]
-fn change_integer(
+pub fn change_integer(
     slots: &mut Slots,
     field: &FieldInstruction,
     delta: i128,
@@ -91,6 +113,7 @@ fn change_integer(
     requires serves { ServesField slots.old field.now }
     ensures decided { IsDecidedIn (integer_step (field_data field.now) (previous_of slots.old field.now) delta)
         field.now slots.old slots.new result }
+    ensures same { IfErr result (λ _. slots.new ≡ slots.old) }
     ensures terms { slots_terms slots.new ≡ slots_terms slots.old }
 {
     let base = base_integer(slots, field)?;
@@ -99,24 +122,10 @@ fn change_integer(
     Ok(keep(slots, field, Number::of_integer(field.kind, sum)))
 }
 
-/// Returns the result that is decided by this number of bytes.
-#[inline(always)]
-pub(crate) fn settled(answer: Result<ValueSource, Code>, bytes: usize) -> Progress<ValueSource>
-    ensures { result ≡ progress_of answer bytes }
-{
-    match answer {
-        Ok(source) => Progress::Whole(source, bytes),
-        Err(code) => Progress::Wrong(code, bytes),
-    }
-}
-
-/// Reads the one unit of an integer field that is in the stream.
-///
-/// Nothing changes before the unit is complete, except the buffered bytes.
+/// Reads the one unit of an integer field that is in the stream. Nothing changes before it is complete.
 #[inline(always)]
 pub fn take_integer(
     slots: &mut Slots,
-    pending: &mut Pending,
     field: &FieldInstruction,
     rest: &[u8],
     strict: bool,
@@ -125,14 +134,13 @@ pub fn take_integer(
     requires integers { family field.now.kind ≡ integers (range_of field.now.kind) }
     requires sent { field.now.operator ≢ Operator.Constant }
     ensures unit { (l : Bounds) (scratch : List ℕ) → IsLastUnitOf (sent_reader strict l slots.old field.now) field.now
-        pending.old.bytes rest.now slots.old slots.new scratch result }
-    ensures whole { (s : ValueSource) (n : ℕ) → result ≡ Progress.Whole s n → pending.new.bytes ≡ [] }
-    ensures cut { IsKeptCut pending.old.bytes rest.now pending.new.bytes result }
+        rest.now slots.old slots.new scratch result }
+    ensures short { IsShort rest.now result }
     ensures terms { slots_terms slots.new ≡ slots_terms slots.old }
 {
     match field.operator {
-        Operator::Delta => take_integer_delta(slots, pending, field, rest, strict),
-        _ => take_integer_item(slots, pending, field, rest, strict),
+        Operator::Delta => take_integer_delta(slots, field, rest, strict),
+        _ => take_integer_item(slots, field, rest, strict),
     }
 }
 
@@ -140,7 +148,6 @@ pub fn take_integer(
 #[inline(always)]
 fn take_integer_item(
     slots: &mut Slots,
-    pending: &mut Pending,
     field: &FieldInstruction,
     rest: &[u8],
     strict: bool,
@@ -150,13 +157,12 @@ fn take_integer_item(
     requires no_delta { field.now.operator ≢ Operator.Delta }
     requires no_constant { field.now.operator ≢ Operator.Constant }
     ensures unit { (l : Bounds) (scratch : List ℕ) → IsLastUnitOf (sent_reader strict l slots.old field.now) field.now
-        pending.old.bytes rest.now slots.old slots.new scratch result }
-    ensures whole { (s : ValueSource) (n : ℕ) → result ≡ Progress.Whole s n → pending.new.bytes ≡ [] }
-    ensures cut { IsKeptCut pending.old.bytes rest.now pending.new.bytes result }
+        rest.now slots.old slots.new scratch result }
+    ensures short { IsShort rest.now result }
     ensures terms { slots_terms slots.new ≡ slots_terms slots.old }
 {
     let range = range_on_wire(field.kind);
-    match next_integer(pending, rest, strict, range, field.optional, Code::D2) {
+    match next_integer(rest, strict, range, field.optional, Code::D2) {
         Progress::Whole(Some(integer), bytes) => {
             let number = Number::of_integer(field.kind, integer);
             Progress::Whole(received(slots, field, Some(number)), bytes)
@@ -171,7 +177,6 @@ fn take_integer_item(
 #[inline(always)]
 fn take_integer_delta(
     slots: &mut Slots,
-    pending: &mut Pending,
     field: &FieldInstruction,
     rest: &[u8],
     strict: bool,
@@ -180,13 +185,12 @@ fn take_integer_delta(
     requires integers { family field.now.kind ≡ integers (range_of field.now.kind) }
     requires delta { field.now.operator ≡ Operator.Delta }
     ensures unit { (l : Bounds) (scratch : List ℕ) → IsLastUnitOf (sent_reader strict l slots.old field.now) field.now
-        pending.old.bytes rest.now slots.old slots.new scratch result }
-    ensures whole { (s : ValueSource) (n : ℕ) → result ≡ Progress.Whole s n → pending.new.bytes ≡ [] }
-    ensures cut { IsKeptCut pending.old.bytes rest.now pending.new.bytes result }
+        rest.now slots.old slots.new scratch result }
+    ensures short { IsShort rest.now result }
     ensures terms { slots_terms slots.new ≡ slots_terms slots.old }
 {
-    match next_integer(pending, rest, strict, DELTA, field.optional, Code::D2) {
-        Progress::Whole(Some(delta), bytes) => settled(change_integer(slots, field, delta), bytes),
+    match next_integer(rest, strict, DELTA, field.optional, Code::D2) {
+        Progress::Whole(Some(delta), bytes) => answered(change_integer(slots, field, delta), bytes),
         Progress::Whole(None, bytes) => Progress::Whole(ValueSource::Absent, bytes),
         Progress::Wrong(code, bytes) => Progress::Wrong(code, bytes),
         Progress::Cut => Progress::Cut,

@@ -1,11 +1,11 @@
-//! A buffer for strings that are split across pieces.
+//! A buffer for bytes, such as those of a string.
 
 ghost use Rattle.std.specs.Prelude.{◌≡◌, ◌+◌, ◌<◌, ◌≤◌, ◌==◌, [], ◌∷◌, ◌++◌, length, take, IfOk};
 
 use std::alloc::{AllocError, Global};
 use std::marker::Model;
 
-/// The buffered bytes of a string, with room for more. It allocates memory only when it is made.
+/// Bytes in order, with room for more. It allocates memory only when it is made.
 #[derive(Drop)]
 pub struct Scratch {
     cells: Vec<u8>,

@@ -1,38 +1,35 @@
 //! Deltas of strings: the subtraction length, and then the part, an ASCII string or a vector's size and its bytes.
 
-ghost use Rattle.std.specs.Prelude.{◌≡◌, ◌≢◌, ◌-◌, ◌<◌, ◌≤◌, ◌++◌, ℕ, List, [], length, false, Ok, Some, pos, IfOk};
+ghost use Rattle.std.specs.Prelude.{◌≡◌, ◌≢◌, ℕ, List, Ok, Some, pos};
 ghost use Rattle.fast_wire.specs.meaning.Integers.{IsWithin, signed_range};
 ghost use Rattle.fast_value.specs.meaning.Kinds.{texts, family};
 ghost use Rattle.fast_value.specs.meaning.Limits.{bounds};
 ghost use Rattle.fast_tree.specs.meaning.Nodes.{field_data};
-ghost use Rattle.fast_dict.specs.meaning.Operators.{Kept as KeptData, subtraction_step, kept_length};
+ghost use Rattle.fast_dict.specs.meaning.Operators.{Kept as KeptData, subtraction_step};
 ghost use Rattle.fast_dict.specs.meaning.Slots.{slots_dictionary, slots_terms};
-ghost use Rattle.fast_stream.specs.meaning.Phrases.{cut};
 ghost use Rattle.fast_stream.specs.meaning.Fields.{text_change};
-ghost use Rattle.fast_stream.specs.meaning.Units.{ascii_text as ascii_phrase};
 ghost use Rattle.fast_stream.specs.device.GrammarReaders.{reader_of};
+ghost use Rattle.fast_units.specs.device.NextUnits.{IsShort, IfCut};
 ghost use Rattle.fast_units.specs.device.Stages.{IsStageOf};
-ghost use Rattle.fast_units.specs.device.TextDecisions.{IsStepped, first_reader, reader_behind, behind_part_size, answered, settled, HasBytes};
-ghost use Rattle.fast_units.specs.device.UnitFronts.{IsRunStage};
-ghost use Rattle.fast_units.specs.device.Words.{HasTextLimit, HasRoomFor, ServesField, previous_of, IsLastUnitOf, IsUnitOf, IsKeptCut};
+ghost use Rattle.fast_units.specs.device.TextDecisions.{IsStepped, first_reader, reader_behind, behind_part_size, settled};
+ghost use Rattle.fast_units.specs.device.UnitFronts.{IsRunStage, IsBytesStage};
+ghost use Rattle.fast_units.specs.device.Words.{HasTextLimit, HasRoomFor, ServesField, previous_of, IsLastUnitOf, IsUnitOf};
 
-use crate::pending::Pending;
-use crate::progress::Progress;
+use crate::progress::{Progress, answered};
 use crate::scratch::Scratch;
 use crate::source::ValueSource;
 use crate::stages::{FieldStep, Stage};
 use crate::text_outcomes::{finish_absent, finish_part, kept, part_room};
-use crate::texts::{TOP_SIZE, answered, settled, size_of};
-use crate::units::{IntegerRange, Run, next_ascii, next_integer, next_raw, next_unsigned};
+use crate::texts::{TOP_SIZE, settled, size_of};
+use crate::units::{IntegerRange, next_ascii, next_integer, next_unsigned};
 use fast_dict::Slots;
 use fast_dict::operators::sized;
 use fast_tree::{FieldInstruction, Operator};
 use fast_value::{Code, Kind, Limits};
 
-/// Reads bytes of the subtraction length of a delta: the first unit of its field.
+/// Reads the subtraction length of a delta: the first unit of its field.
 pub fn take_subtraction(
     slots: &mut Slots,
-    pending: &mut Pending,
     field: &FieldInstruction,
     rest: &[u8],
     limits: Limits,
@@ -42,22 +39,12 @@ pub fn take_subtraction(
     requires text { family field.now.kind ≡ texts }
     requires delta { field.now.operator ≡ Operator.Delta }
     ensures unit { (scratch : List ℕ) → IsUnitOf limits (first_reader limits (field_data field.now)
-        (slots_dictionary slots.old)) field.now pending.old.bytes rest.now slots.old slots.new scratch result }
-    ensures more { (step : FieldStep) (n : ℕ) → result ≡ Progress.Whole step n → HasBytes step }
-    ensures whole { (step : FieldStep) (n : ℕ) → result ≡ Progress.Whole step n → pending.new.bytes ≡ [] }
-    ensures short { (stage : Stage) (n : ℕ) → result ≡ Progress.Whole (FieldStep.Next stage) n → n ≤ 10 }
-    ensures cut { IsKeptCut pending.old.bytes rest.now pending.new.bytes result }
+        (slots_dictionary slots.old)) field.now rest.now slots.old slots.new scratch result }
+    ensures short { IsShort rest.now result }
     ensures terms { slots_terms slots.new ≡ slots_terms slots.old }
 {
     let range = IntegerRange::Signed(-2_147_483_648, 2_147_483_647);
-    match next_integer(
-        pending,
-        rest,
-        limits.strict,
-        range,
-        field.optional,
-        Code::D7,
-    ) {
+    match next_integer(rest, limits.strict, range, field.optional, Code::D7) {
         Progress::Whole(Some(length), bytes) => {
             answered(part_next(slots, field, length_of(length)), bytes)
         }
@@ -83,17 +70,16 @@ fn part_next(slots: &Slots, field: &FieldInstruction, subtraction: i32) -> Resul
     requires serves { ServesField slots.now field.now }
     requires text { family field.now.kind ≡ texts }
     requires delta { field.now.operator ≡ Operator.Delta }
-    ensures step { (limits : Limits) (scratch piece : List ℕ)
+    ensures { (limits : Limits) (scratch piece : List ℕ)
         → IsStepped limits (reader_of limits.strict (text_change (bounds limits) (field_data field.now)
         (previous_of slots.now field.now) (Some subtraction))) (field_data field.now) (slots_dictionary slots.now)
         (slots_dictionary slots.now) scratch piece result }
-    ensures more { IfOk result HasBytes }
 {
     kept(slots, field, subtraction)?;
     Ok(FieldStep::Next(Stage::Part(subtraction)))
 }
 
-/// Reads bytes of the part of an ASCII delta, after the subtraction length.
+/// Reads the part of an ASCII delta, after the subtraction length.
 pub fn take_part(
     slots: &mut Slots,
     scratch: &mut Scratch,
@@ -107,14 +93,11 @@ pub fn take_part(
     requires stage { IsStageOf (bounds limits) (field_data field.now) (previous_of slots.old field.now)
         (Stage.Part subtraction) }
     requires kind { field.now.kind ≡ Kind.Ascii }
-    requires open { (kept : KeptData) → subtraction_step (field_data field.now) (previous_of slots.old field.now)
-        subtraction ≡ Ok kept → ascii_phrase false (limits.max_text - kept_length kept) scratch.old.text [] cut }
     requires scratch { HasRoomFor slots.old scratch.old }
     ensures unit { IsLastUnitOf (reader_behind limits (field_data field.now) (slots_dictionary slots.old)
-        (Stage.Part subtraction)) field.now scratch.old.text rest.now slots.old slots.new scratch.new.text result }
-    ensures cut { result ≡ Progress.Cut → (scratch.new.text ≡ scratch.old.text ++ rest.now)
-        × ((kept : KeptData) → subtraction_step (field_data field.now) (previous_of slots.old field.now) subtraction
-        ≡ Ok kept → ascii_phrase false (limits.max_text - kept_length kept) scratch.new.text [] cut) }
+        (Stage.Part subtraction)) field.now rest.now slots.old slots.new scratch.new.text result }
+    ensures cut { IfCut result (IsBytesStage (bounds limits) (field_data field.now) (previous_of slots.old field.now)
+        (Stage.Part subtraction) rest.now) }
     ensures terms { slots_terms slots.new ≡ slots_terms slots.old }
     ensures scratch { scratch.new.capacity ≡ scratch.old.capacity }
 {
@@ -129,11 +112,10 @@ pub fn take_part(
     }
 }
 
-/// Reads bytes of the size of a vector delta's part, after the subtraction length. An empty part has no bytes after it: it is joined at
-/// once, in the scratch.
+/// Reads the size of a vector delta's part, after the subtraction length. An empty part has no bytes after it: it is joined at once, in
+/// the scratch.
 pub fn take_part_size(
     slots: &mut Slots,
-    pending: &mut Pending,
     scratch: &mut Scratch,
     field: &FieldInstruction,
     subtraction: i32,
@@ -147,18 +129,15 @@ pub fn take_part_size(
     requires kind { field.now.kind ≢ Kind.Ascii }
     requires scratch { HasRoomFor slots.old scratch.old }
     ensures unit { (text : List ℕ) → IsUnitOf limits (reader_behind limits (field_data field.now)
-        (slots_dictionary slots.old) (Stage.Part subtraction)) field.now pending.old.bytes rest.now slots.old slots.new
+        (slots_dictionary slots.old) (Stage.Part subtraction)) field.now rest.now slots.old slots.new
         text result }
-    ensures more { (step : FieldStep) (n : ℕ) → result ≡ Progress.Whole step n → HasBytes step }
-    ensures whole { (step : FieldStep) (n : ℕ) → result ≡ Progress.Whole step n → pending.new.bytes ≡ [] }
-    ensures short { (stage : Stage) (n : ℕ) → result ≡ Progress.Whole (FieldStep.Next stage) n → n ≤ 10 }
     ensures run { (stage : Stage) (n : ℕ) → result ≡ Progress.Whole (FieldStep.Next stage) n
         → IsRunStage (field_data field.now) stage }
-    ensures cut { IsKeptCut pending.old.bytes rest.now pending.new.bytes result }
+    ensures short { IsShort rest.now result }
     ensures terms { slots_terms slots.new ≡ slots_terms slots.old }
     ensures scratch { scratch.new.capacity ≡ scratch.old.capacity }
 {
-    match next_unsigned(pending, rest, limits.strict, TOP_SIZE) {
+    match next_unsigned(rest, limits.strict, TOP_SIZE) {
         Progress::Whole(size, bytes) => {
             let size = size_of(i128::from(size));
             answered(
@@ -191,7 +170,6 @@ fn part_vector_next(
         → IsStepped limits (reader_of limits.strict (behind_part_size (bounds limits) (field_data field.now)
         (previous_of slots.old field.now) kept (Some (pos size)))) (field_data field.now) (slots_dictionary slots.old)
         (slots_dictionary slots.new) text piece result }
-    ensures more { IfOk result HasBytes }
     ensures run { (stage : Stage) → result ≡ Ok (FieldStep.Next stage)
         → IsRunStage (field_data field.now) stage }
     ensures terms { slots_terms slots.new ≡ slots_terms slots.old }
@@ -206,7 +184,7 @@ fn part_vector_next(
     settled(finish_part(slots, scratch, field, subtraction))
 }
 
-/// Reads bytes of a vector delta's part, after its size.
+/// Reads a vector delta's part, after its size.
 pub fn take_part_vector(
     slots: &mut Slots,
     scratch: &mut Scratch,
@@ -220,25 +198,18 @@ pub fn take_part_vector(
     requires limit { HasTextLimit slots.old limits }
     requires stage { IsStageOf (bounds limits) (field_data field.now) (previous_of slots.old field.now)
         (Stage.PartVector subtraction size) }
-    requires more { length scratch.old.text < size }
     requires scratch { HasRoomFor slots.old scratch.old }
     ensures unit { IsLastUnitOf (reader_behind limits (field_data field.now) (slots_dictionary slots.old)
-        (Stage.PartVector subtraction size)) field.now scratch.old.text rest.now slots.old slots.new scratch.new.text
+        (Stage.PartVector subtraction size)) field.now rest.now slots.old slots.new scratch.new.text
         result }
-    ensures cut { result ≡ Progress.Cut
-        → (scratch.new.text ≡ scratch.old.text ++ rest.now) × (length scratch.new.text < size) }
+    ensures cut { IfCut result (IsBytesStage (bounds limits) (field_data field.now) (previous_of slots.old field.now)
+        (Stage.PartVector subtraction size) rest.now) }
     ensures terms { slots_terms slots.new ≡ slots_terms slots.old }
     ensures scratch { scratch.new.capacity ≡ scratch.old.capacity }
 {
-    match next_raw(scratch, rest, size) {
-        Progress::Whole(Run::Piece, bytes) => {
-            scratch.set(&rest[..bytes]);
-            answered(finish_part(slots, scratch, field, subtraction), bytes)
-        }
-        Progress::Whole(Run::Scratch, bytes) => {
-            answered(finish_part(slots, scratch, field, subtraction), bytes)
-        }
-        Progress::Wrong(code, bytes) => Progress::Wrong(code, bytes),
-        Progress::Cut => Progress::Cut,
+    if rest.len() < size {
+        return Progress::Cut;
     }
+    scratch.set(&rest[..size]);
+    answered(finish_part(slots, scratch, field, subtraction), size)
 }

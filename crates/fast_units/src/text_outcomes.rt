@@ -3,7 +3,7 @@
 //! A string of two parts is joined in the scratch, which holds the part that was sent: the bytes kept of the base are copied to its front,
 //! or to its end. The entry then takes the whole.
 
-ghost use Rattle.std.specs.Prelude.{◌≡◌, ◌≢◌, ◌+◌, ◌-◌, ◌<◌, ◌≤◌, ◌++◌, ℕ, List, length, true, Ok, Err, Some, MatchResult};
+ghost use Rattle.std.specs.Prelude.{◌≡◌, ◌≢◌, ◌+◌, ◌-◌, ◌≤◌, ℕ, List, length, true, Ok, Err, Some, MatchResult};
 ghost use Rattle.fast_value.specs.meaning.Kinds.{ScalarData, texts, family, text_of, value_of_text};
 ghost use Rattle.fast_value.specs.declared.kinds.Kind.{Kind};
 ghost use Rattle.fast_tree.specs.meaning.Nodes.{field_data};

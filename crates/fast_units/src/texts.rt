@@ -1,9 +1,8 @@
 //! String fields in the stream: ASCII and Unicode strings and byte vectors, sent complete and as tails.
 //!
-//! A unit at a time: an ASCII string, or the size of a vector and then its bytes. If a piece splits a unit, its bytes are buffered in the
-//! pending integer or in the scratch, and nothing else changes.
+//! A unit at a time: an ASCII string, or the size of a vector and then its bytes. Nothing changes before a unit is complete.
 
-ghost use Rattle.std.specs.Prelude.{◌≡◌, ◌≢◌, ◌<◌, ◌≤◌, ◌++◌, ℕ, List, [], length, false, true, Ok, Some, pos, IfOk};
+ghost use Rattle.std.specs.Prelude.{◌≡◌, ◌≢◌, ℕ, List, [], true, Ok, Some, pos};
 ghost use Rattle.fast_wire.specs.meaning.Integers.{IsWithin, unsigned_range};
 ghost use Rattle.fast_value.specs.meaning.Kinds.{texts, family, value_of_text};
 ghost use Rattle.fast_value.specs.meaning.Limits.{bounds};
@@ -13,17 +12,18 @@ ghost use Rattle.fast_dict.specs.meaning.Slots.{slots_dictionary, slots_terms};
 ghost use Rattle.fast_stream.specs.meaning.Phrases.{cut};
 ghost use Rattle.fast_stream.specs.meaning.Units.{ascii_text as ascii_phrase};
 ghost use Rattle.fast_stream.specs.device.GrammarReaders.{reader_of};
+ghost use Rattle.fast_units.specs.device.NextUnits.{IsShort, IfCut};
 ghost use Rattle.fast_units.specs.device.Stages.{IsStageOf};
-ghost use Rattle.fast_units.specs.device.TextDecisions.{IsStepped, first_reader, reader_behind, behind_size, answered, settled, HasBytes};
-ghost use Rattle.fast_units.specs.device.Words.{HasTextLimit, HasRoomFor, ServesField, previous_of, IsLastUnitOf, IsUnitOf, IsKeptCut};
+ghost use Rattle.fast_units.specs.device.TextDecisions.{IsStepped, first_reader, reader_behind, behind_size, settled};
+ghost use Rattle.fast_units.specs.device.UnitFronts.{IsBytesStage};
+ghost use Rattle.fast_units.specs.device.Words.{HasTextLimit, HasRoomFor, ServesField, previous_of, IsLastUnitOf, IsUnitOf};
 
-use crate::pending::Pending;
-use crate::progress::Progress;
+use crate::progress::{Progress, answered};
 use crate::scratch::Scratch;
 use crate::source::ValueSource;
 use crate::stages::{FieldStep, Stage};
 use crate::text_outcomes::{finish_absent, finish_ascii, finish_held, finish_here};
-use crate::units::{IntegerRange, Run, next_ascii, next_integer, next_raw};
+use crate::units::{IntegerRange, next_ascii, next_integer};
 use fast_dict::Slots;
 use fast_dict::operators::{is_utf8, sized};
 use fast_tree::{FieldInstruction, Operator};
@@ -31,17 +31,6 @@ use fast_value::{Code, Kind, Limits};
 
 /// The greatest size of a vector that can be encoded.
 pub const TOP_SIZE: u64 = 4_294_967_295;
-
-/// Returns the result that is decided by this number of bytes.
-#[inline]
-pub(crate) fn answered<T>(answer: Result<T, Code>, bytes: usize) -> Progress<T>
-    ensures { result ≡ answered answer bytes }
-{
-    match answer {
-        Ok(value) => Progress::Whole(value, bytes),
-        Err(code) => Progress::Wrong(code, bytes),
-    }
-}
 
 /// Returns the step of a field's last unit.
 #[inline(always)]
@@ -71,7 +60,7 @@ pub fn is_text_of(kind: Kind, text: &[u8]) -> bool
     }
 }
 
-/// Reads bytes of an ASCII string that is not a delta: the first unit of its field, and the last.
+/// Reads an ASCII string that is not a delta, the only unit of its field.
 pub fn take_text(
     slots: &mut Slots,
     scratch: &mut Scratch,
@@ -84,13 +73,10 @@ pub fn take_text(
     requires kind { field.now.kind ≡ Kind.Ascii }
     requires sent { field.now.operator ≢ Operator.Constant }
     requires whole { field.now.operator ≢ Operator.Delta }
-    requires open { ascii_phrase field.now.optional limits.max_text scratch.old.text [] cut }
     requires scratch { HasRoomFor slots.old scratch.old }
     ensures unit { IsLastUnitOf (first_reader limits (field_data field.now) (slots_dictionary slots.old)) field.now
-        scratch.old.text rest.now slots.old slots.new scratch.new.text result }
-    ensures cut { result ≡ Progress.Cut
-        → (scratch.new.text ≡ scratch.old.text ++ rest.now)
-        × ascii_phrase field.now.optional limits.max_text scratch.new.text [] cut }
+        rest.now slots.old slots.new scratch.new.text result }
+    ensures cut { IfCut result (ascii_phrase field.now.optional limits.max_text rest.now [] cut) }
     ensures terms { slots_terms slots.new ≡ slots_terms slots.old }
     ensures scratch { scratch.new.capacity ≡ scratch.old.capacity }
 {
@@ -102,10 +88,9 @@ pub fn take_text(
     }
 }
 
-/// Reads bytes of the size of a vector that is not a delta: the first unit of its field. An empty vector has no bytes after it.
+/// Reads the size of a vector that is not a delta: the first unit of its field. An empty vector has no bytes after it.
 pub fn take_size(
     slots: &mut Slots,
-    pending: &mut Pending,
     scratch: &mut Scratch,
     field: &FieldInstruction,
     rest: &[u8],
@@ -117,26 +102,15 @@ pub fn take_size(
     requires kind { field.now.kind ≢ Kind.Ascii }
     requires sent { field.now.operator ≢ Operator.Constant }
     requires whole { field.now.operator ≢ Operator.Delta }
-    requires none { scratch.old.text ≡ [] }
     requires scratch { HasRoomFor slots.old scratch.old }
     ensures unit { IsUnitOf limits (first_reader limits (field_data field.now) (slots_dictionary slots.old)) field.now
-        pending.old.bytes rest.now slots.old slots.new scratch.new.text result }
-    ensures more { (step : FieldStep) (n : ℕ) → result ≡ Progress.Whole step n → HasBytes step }
-    ensures whole { (step : FieldStep) (n : ℕ) → result ≡ Progress.Whole step n → pending.new.bytes ≡ [] }
-    ensures short { (stage : Stage) (n : ℕ) → result ≡ Progress.Whole (FieldStep.Next stage) n → n ≤ 10 }
-    ensures cut { IsKeptCut pending.old.bytes rest.now pending.new.bytes result }
+        rest.now slots.old slots.new scratch.new.text result }
+    ensures short { IsShort rest.now result }
     ensures terms { slots_terms slots.new ≡ slots_terms slots.old }
     ensures scratch { scratch.new.capacity ≡ scratch.old.capacity }
 {
     let range = IntegerRange::Unsigned(TOP_SIZE);
-    match next_integer(
-        pending,
-        rest,
-        limits.strict,
-        range,
-        field.optional,
-        Code::D2,
-    ) {
+    match next_integer(rest, limits.strict, range, field.optional, Code::D2) {
         Progress::Whole(Some(size), bytes) => {
             answered(
                 vector_next(slots, scratch, field, size_of(size), limits),
@@ -165,12 +139,10 @@ fn vector_next(
     requires kind { field.now.kind ≢ Kind.Ascii }
     requires sent { field.now.operator ≢ Operator.Constant }
     requires whole { field.now.operator ≢ Operator.Delta }
-    requires none { scratch.old.text ≡ [] }
     requires scratch { HasRoomFor slots.old scratch.old }
     ensures step { (piece : List ℕ) → IsStepped limits (reader_of limits.strict
         (behind_size (bounds limits) (field_data field.now) (previous_of slots.old field.now) (Some (pos size))))
         (field_data field.now) (slots_dictionary slots.old) (slots_dictionary slots.new) scratch.new.text piece result }
-    ensures more { IfOk result HasBytes }
     ensures terms { slots_terms slots.new ≡ slots_terms slots.old }
     ensures scratch { scratch.new.capacity ≡ scratch.old.capacity }
 {
@@ -178,10 +150,11 @@ fn vector_next(
     if size > 0 {
         return Ok(FieldStep::Next(Stage::Vector(size)));
     }
+    scratch.clear();
     settled(finish_held(slots, scratch, field))
 }
 
-/// Reads bytes of a vector that is not a delta, after its size.
+/// Reads a vector that is not a delta, after its size.
 pub fn take_vector(
     slots: &mut Slots,
     scratch: &mut Scratch,
@@ -194,24 +167,16 @@ pub fn take_vector(
     requires limit { HasTextLimit slots.old limits }
     requires stage { IsStageOf (bounds limits) (field_data field.now) (previous_of slots.old field.now)
         (Stage.Vector size) }
-    requires more { length scratch.old.text < size }
     requires scratch { HasRoomFor slots.old scratch.old }
     ensures unit { IsLastUnitOf (reader_behind limits (field_data field.now) (slots_dictionary slots.old)
-        (Stage.Vector size)) field.now scratch.old.text rest.now slots.old slots.new scratch.new.text result }
-    ensures cut { result ≡ Progress.Cut
-        → (scratch.new.text ≡ scratch.old.text ++ rest.now) × (length scratch.new.text < size) }
+        (Stage.Vector size)) field.now rest.now slots.old slots.new scratch.new.text result }
+    ensures cut { IfCut result (IsBytesStage (bounds limits) (field_data field.now) (previous_of slots.old field.now)
+        (Stage.Vector size) rest.now) }
     ensures terms { slots_terms slots.new ≡ slots_terms slots.old }
     ensures scratch { scratch.new.capacity ≡ scratch.old.capacity }
 {
-    match next_raw(scratch, rest, size) {
-        Progress::Whole(Run::Piece, bytes) => {
-            let text = &rest[..bytes];
-            answered(finish_here(slots, scratch, field, text), bytes)
-        }
-        Progress::Whole(Run::Scratch, bytes) => {
-            answered(finish_held(slots, scratch, field), bytes)
-        }
-        Progress::Wrong(code, bytes) => Progress::Wrong(code, bytes),
-        Progress::Cut => Progress::Cut,
+    if rest.len() < size {
+        return Progress::Cut;
     }
+    answered(finish_here(slots, scratch, field, &rest[..size]), size)
 }

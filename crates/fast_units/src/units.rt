@@ -1,20 +1,16 @@
-//! The units of fields: an integer, an ASCII string, a run of bytes. If a piece splits a unit, its bytes are buffered, and nothing else
-//! changes before it is complete.
+//! The units of fields, read from the bytes that they begin with: an integer, and an ASCII string.
 
-ghost use Rattle.std.specs.Prelude.{◌≡◌, ℕ, ◌<◌, ◌≤◌, Bool, true, false, [], ◌∷◌, ◌++◌, length, ℤ, Option, Some, pos, option_map, IfSome, IfNone};
+ghost use Rattle.std.specs.Prelude.{◌≡◌, ℕ, ◌<◌, ◌≤◌, Bool, true, false, [], length, Some, pos, option_map, IfSome, IfNone};
 ghost use Rattle.fast_wire.specs.meaning.Entities.{HaveNoStop};
 ghost use Rattle.fast_wire.specs.meaning.Integers.{Range, unsigned_up_to};
 ghost use Rattle.fast_wire.specs.meaning.Faulty.{IsWrongInt};
 ghost use Rattle.fast_fronts.specs.device.Fronts.{IsFirstInt};
-ghost use Rattle.fast_stream.specs.meaning.Phrases.{cut};
-ghost use Rattle.fast_stream.specs.meaning.Units.{WrongInt, BeginsWithZero, ascii_text as ascii_phrase};
-ghost use Rattle.fast_stream.specs.meaning.Grammar.{give, integer, ascii_text, raw};
+ghost use Rattle.fast_stream.specs.meaning.Units.{WrongInt, BeginsWithZero};
+ghost use Rattle.fast_stream.specs.meaning.Grammar.{give, integer};
 ghost use Rattle.fast_stream.specs.device.GrammarReaders.{reader_of};
 ghost use Rattle.fast_units.specs.device.Taking.{IsUnit};
-ghost use Rattle.fast_units.specs.device.NextUnits.{range_data, first_mapped, text_or_null, BeginsWithCharacter, IsNextText, IsNextRun};
-ghost use Rattle.fast_units.specs.device.Words.{IsKeptCut};
+ghost use Rattle.fast_units.specs.device.NextUnits.{range_data, first_mapped, IsRanged, IsShort, BeginsWithCharacter, IsNextText};
 
-use crate::pending::Pending;
 use crate::progress::Progress;
 use crate::scratch::Scratch;
 use fast_fronts::{
@@ -32,78 +28,64 @@ pub enum IntegerRange {
     Signed(i128, i128),
 }
 
-/// Reads the integer, or NULL if `nullable`, that begins with the buffered bytes and goes on with the rest. An integer outside the range is
-/// the fault `outside`.
+/// Reads the first integer, or NULL if `nullable`. An integer outside the range is the fault `outside`.
 #[inline(always)]
 pub fn next_integer(
-    pending: &mut Pending,
     rest: &[u8],
     strict: bool,
     range: IntegerRange,
     nullable: bool,
     outside: Code,
 ) -> Progress<Option<i128>>
-    ensures unit { IsUnit (reader_of strict (integer (range_data range) nullable outside give)) (λ x. x)
-        pending.old.bytes rest.now result }
-    ensures whole { (x : Option ℤ) (n : ℕ) → result ≡ Progress.Whole x n → pending.new.bytes ≡ [] }
-    ensures short { (x : Option ℤ) (n : ℕ) → result ≡ Progress.Whole x n → n ≤ 10 }
-    ensures cut { IsKeptCut pending.old.bytes rest.now pending.new.bytes result }
+    ensures unit { IsUnit (reader_of strict (integer (range_data range) nullable outside give)) (λ x. x) rest.now
+        result }
+    ensures within { IsRanged (λ x. x) (range_data range) result }
+    ensures short { IsShort rest.now result }
 {
-    if pending.is_empty() {
-        match first_integer(rest, strict, range, nullable) {
-            First::Whole(x, len) => return Progress::Whole(x, len),
-            First::Wrong(fault, len) => {
-                return Progress::Wrong(stream_fault(fault, &rest[..len], outside), len);
-            }
-            First::Cut => {}
+    match first_integer(rest, strict, range, nullable) {
+        First::Whole(x, len) => Progress::Whole(x, len),
+        First::Wrong(fault, len) => {
+            Progress::Wrong(stream_fault(fault, &rest[..len], outside), len)
         }
+        First::Cut => Progress::Cut,
     }
-    pending.complete_integer(rest, strict, range, nullable, outside)
 }
 
-/// Reads the mandatory integer from 0 to `top` that begins with the buffered bytes and goes on with the rest.
+/// Reads the first integer, which is mandatory and lies between 0 and `top`.
 #[inline(always)]
-pub fn next_unsigned(pending: &mut Pending, rest: &[u8], strict: bool, top: u64) -> Progress<u64>
+pub fn next_unsigned(rest: &[u8], strict: bool, top: u64) -> Progress<u64>
     ensures unit { IsUnit (reader_of strict (integer (unsigned_up_to top) false Code.D2 give)) (λ x. Some (pos x))
-        pending.old.bytes rest.now result }
-    ensures whole { (x n : ℕ) → result ≡ Progress.Whole x n → pending.new.bytes ≡ [] }
-    ensures short { (x n : ℕ) → result ≡ Progress.Whole x n → n ≤ 10 }
-    ensures cut { IsKeptCut pending.old.bytes rest.now pending.new.bytes result }
+        rest.now result }
+    ensures within { IsRanged (λ x. Some (pos x)) (unsigned_up_to top) result }
+    ensures short { IsShort rest.now result }
 {
-    if pending.is_empty() {
-        match first_unsigned(rest, strict, top) {
-            First::Whole(x, len) => return Progress::Whole(x, len),
-            First::Wrong(fault, len) => {
-                return Progress::Wrong(stream_fault(fault, &rest[..len], Code::D2), len);
-            }
-            First::Cut => {}
+    match first_unsigned(rest, strict, top) {
+        First::Whole(x, len) => Progress::Whole(x, len),
+        First::Wrong(fault, len) => {
+            Progress::Wrong(stream_fault(fault, &rest[..len], Code::D2), len)
         }
+        First::Cut => Progress::Cut,
     }
-    pending.complete_unsigned(rest, strict, top)
 }
 
-/// Reads the ASCII string of at most `room` characters, or NULL if `nullable`, that begins with the bytes in the scratch and goes on with
-/// the rest. The result is `true` for a complete string, which is then in the scratch, and `false` for NULL.
+/// Reads the first ASCII string, of at most `room` characters, or NULL if `nullable`. The result is `true` for a complete string, which is
+/// then in the scratch, and `false` for NULL.
 #[inline(always)]
 pub fn next_ascii(scratch: &mut Scratch, rest: &[u8], room: usize, nullable: bool) -> Progress<bool>
-    requires open { ascii_phrase nullable room scratch.old.text [] cut }
-    requires fits { room ≤ scratch.old.capacity }
-    requires some { 0 < scratch.old.capacity }
-    ensures unit { (strict : Bool)
-        → IsUnit (reader_of strict (ascii_text nullable room give)) (text_or_null scratch.new.text) scratch.old.text
-        rest.now result }
-    ensures text { (n : ℕ) → result ≡ Progress.Whole true n → length scratch.new.text ≤ room }
-    ensures cut { result ≡ Progress.Cut
-        → (scratch.new.text ≡ scratch.old.text ++ rest.now) × ascii_phrase nullable room scratch.new.text [] cut }
+    requires { room ≤ scratch.old.capacity }
+    ensures text { IsNextText nullable room rest.now scratch.new.text result }
     ensures capacity { scratch.new.capacity ≡ scratch.old.capacity }
 {
-    if scratch.is_empty() {
-        return first_ascii(scratch, rest, room, nullable);
+    scratch.clear();
+    match rest.first() {
+        None => Progress::Cut,
+        Some(0x00) => zero_first(rest, nullable),
+        Some(0x80) => Progress::Whole(!nullable, 1),
+        Some(_) => match short_text(scratch, rest, room) {
+            Some(bytes) => Progress::Whole(true, bytes),
+            None => characters(scratch, rest, room),
+        },
     }
-    if scratch.as_slice()[0] == 0x00 {
-        return behind_zero(scratch, rest);
-    }
-    characters(scratch, rest, room)
 }
 
 /// Returns whether one of the bytes has a stop bit. A single byte, as of a stream that arrives byte by byte, is looked at in place.
@@ -115,38 +97,6 @@ pub fn has_stop(bytes: &[u8]) -> bool
         return bytes[0] >= 0x80;
     }
     find_stop(bytes).is_some()
-}
-
-/// The location of the bytes of a complete run.
-#[derive(Clone, Copy)]
-pub enum Run {
-    /// In the piece.
-    Piece,
-    /// In the scratch.
-    Scratch,
-}
-
-/// Reads the `size` bytes that begin with those in the scratch and go on with the rest.
-#[inline]
-pub fn next_raw(scratch: &mut Scratch, rest: &[u8], size: usize) -> Progress<Run>
-    requires more { length scratch.old.text < size }
-    requires fits { size ≤ scratch.old.capacity }
-    ensures unit { (strict : Bool)
-        → IsNextRun (reader_of strict (raw size give)) size scratch.old.text rest.now scratch.new.text result }
-    ensures cut { result ≡ Progress.Cut
-        → (scratch.new.text ≡ scratch.old.text ++ rest.now) × (length scratch.new.text < size) }
-    ensures capacity { scratch.new.capacity ≡ scratch.old.capacity }
-{
-    let missing = size - scratch.len();
-    if rest.len() < missing {
-        scratch.append(rest);
-        return Progress::Cut;
-    }
-    if scratch.is_empty() {
-        return Progress::Whole(Run::Piece, missing);
-    }
-    scratch.append(&rest[..missing]);
-    Progress::Whole(Run::Scratch, missing)
 }
 
 /// Reads the first entity as an integer in the range, or NULL if `nullable`.
@@ -230,69 +180,24 @@ fn stream_fault(fault: WireFault, bytes: &[u8], outside: Code) -> Code
     }
 }
 
-/// Reads a string of which no byte has been read and whose first is zero. Only the empty string begins so, and only if `nullable`.
+/// Reads a string whose first byte is zero. Only the empty string begins so, and only if `nullable`.
 #[cold]
 #[inline(never)]
-fn zero_first(scratch: &mut Scratch, rest: &[u8], nullable: bool) -> Progress<bool>
-    requires none { scratch.old.text ≡ [] }
-    requires zero { BeginsWithZero rest.now }
-    requires some { 0 < scratch.old.capacity }
-    ensures text { (room : ℕ) → IsNextText nullable room scratch.old.text rest.now scratch.new.text result }
-    ensures capacity { scratch.new.capacity ≡ scratch.old.capacity }
+fn zero_first(rest: &[u8], nullable: bool) -> Progress<bool>
+    requires { BeginsWithZero rest.now }
+    ensures { (room : ℕ) → IsNextText nullable room rest.now [] result }
 {
     if !nullable {
         return Progress::Wrong(Code::R9, 1);
     }
     match rest.get(1) {
-        None => {
-            scratch.push(0x00);
-            Progress::Cut
-        }
+        None => Progress::Cut,
         Some(0x80) => Progress::Whole(true, 2),
         Some(_) => Progress::Wrong(Code::R9, 2),
     }
 }
 
-/// Reads the rest of a nullable string that began with a zero byte: it is the empty string, or else R9.
-#[cold]
-#[inline(never)]
-fn behind_zero(scratch: &mut Scratch, rest: &[u8]) -> Progress<bool>
-    requires { scratch.old.text ≡ 0x00 ∷ [] }
-    ensures text { (room : ℕ) → IsNextText true room scratch.old.text rest.now scratch.new.text result }
-    ensures capacity { scratch.new.capacity ≡ scratch.old.capacity }
-{
-    match rest.first() {
-        None => Progress::Cut,
-        Some(0x80) => {
-            scratch.clear();
-            Progress::Whole(true, 1)
-        }
-        Some(_) => Progress::Wrong(Code::R9, 1),
-    }
-}
-
-/// Reads a string of which no byte has been read.
-#[inline(always)]
-fn first_ascii(scratch: &mut Scratch, rest: &[u8], room: usize, nullable: bool) -> Progress<bool>
-    requires none { scratch.old.text ≡ [] }
-    requires fits { room ≤ scratch.old.capacity }
-    requires some { 0 < scratch.old.capacity }
-    ensures text { IsNextText nullable room scratch.old.text rest.now scratch.new.text result }
-    ensures capacity { scratch.new.capacity ≡ scratch.old.capacity }
-{
-    match rest.first() {
-        None => Progress::Cut,
-        Some(0x00) => zero_first(scratch, rest, nullable),
-        Some(0x80) => Progress::Whole(!nullable, 1),
-        Some(_) => match short_text(scratch, rest, room) {
-            Some(bytes) => Progress::Whole(true, bytes),
-            None => characters(scratch, rest, room),
-        },
-    }
-}
-
-/// Reads a string of which no byte has been read, which begins with a character and ends within a block of 16 bytes. The block is moved as
-/// a whole, for any length.
+/// Reads a string that begins with a character and ends within a block of 16 bytes. The block is moved as a whole, for any length.
 #[inline(always)]
 fn short_text(scratch: &mut Scratch, rest: &[u8], room: usize) -> Option<usize>
     requires none { scratch.old.text ≡ [] }
@@ -300,8 +205,7 @@ fn short_text(scratch: &mut Scratch, rest: &[u8], room: usize) -> Option<usize>
     requires fits { room ≤ scratch.old.capacity }
     ensures none { IfNone result (scratch.new.text ≡ []) }
     ensures text { IfSome result
-        (λ n. (nullable : Bool)
-        → IsNextText nullable room scratch.old.text rest.now scratch.new.text (Progress.Whole true n)) }
+        (λ n. (nullable : Bool) → IsNextText nullable room rest.now scratch.new.text (Progress.Whole true n)) }
     ensures capacity { scratch.new.capacity ≡ scratch.old.capacity }
 {
     if rest.len() < 16 || room < 16 {
@@ -317,23 +221,20 @@ fn short_text(scratch: &mut Scratch, rest: &[u8], room: usize) -> Option<usize>
 /// Reads a string that begins with a character. The byte after the room is a fault, for any value of it.
 #[inline(never)]
 fn characters(scratch: &mut Scratch, rest: &[u8], room: usize) -> Progress<bool>
-    requires open { HaveNoStop scratch.old.text }
-    requires begins { BeginsWithCharacter (scratch.old.text ++ rest.now) }
-    requires short { length scratch.old.text ≤ room }
+    requires none { scratch.old.text ≡ [] }
+    requires begins { BeginsWithCharacter rest.now }
     requires fits { room ≤ scratch.old.capacity }
-    ensures text { (nullable : Bool) → IsNextText nullable room scratch.old.text rest.now scratch.new.text result }
+    ensures text { (nullable : Bool) → IsNextText nullable room rest.now scratch.new.text result }
     ensures capacity { scratch.new.capacity ≡ scratch.old.capacity }
 {
-    let left = room - scratch.len();
-    let here = &rest[..rest.len().min(left)];
+    let here = &rest[..rest.len().min(room)];
     if let Some(last) = find_stop(here) {
         scratch.append(&here[..last]);
         scratch.push(here[last] - 0x80);
         return Progress::Whole(true, last + 1);
     }
     if here.len() < rest.len() {
-        return Progress::Wrong(Code::L1, left + 1);
+        return Progress::Wrong(Code::L1, room + 1);
     }
-    scratch.append(rest);
     Progress::Cut
 }

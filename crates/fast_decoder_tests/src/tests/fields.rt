@@ -64,7 +64,7 @@ no vector | | 3 | 80 | +10 =1:1
 an empty vector | | 3 | 81 | +10 =1:1
 a vector that is too long | | 3 | 92 41 | +10 L1@1 L1@1
 a string that is no UTF-8 | | 4 | 82 41 FF | +10 #2 #1 R2@3
-a decimal | | 5 | 82 01 83 | +10 +10 +9 =1:3
+a decimal | | 5 | 82 01 83 | +10 +10 +9 =0:3
 a decimal whose exponent is too great | | 5 | 00 C0 81 | +10 +9 R1@2 R1@2
 a decimal whose exponent becomes too great | 6 BF 81 | 6 | 81 81 | +10 R1@1 R1@1
 the value before is an integer | 0 81 | 7 | 81 81 | +10 D4@1 D4@1

@@ -46,12 +46,6 @@ IsBounded most w (Whole found) = Unit {0}
 IsBounded most w (Wrong c n) = Unit {0}
 IsBounded most w (More m) = length w + m.bytes ≤ most
 
--- An integer of which these bytes are there goes on.
-abbrev pub IsCutInteger : List ℕ → Reading → Type 0
-IsCutInteger w (Whole found) = ⊥
-IsCutInteger w (Wrong c n) = ⊥
-IsCutInteger w (More m) = HaveNoStop w × (length w + m.bytes ≡ 10) × (0 < m.bytes) × (m.stops ≡ true)
-
 -- An ASCII string that begins with the bytes goes on after fewer than this number more of which none has a stop bit.
 abbrev pub KeepsText : Bool → ℕ → List ℕ → ℕ → Type 0
 KeepsText nullable room w missing =

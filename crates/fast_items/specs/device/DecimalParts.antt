@@ -1,5 +1,5 @@
 -- The parts of a decimal by parts: integers that are read before they are stored.
-use Rattle.std.specs.Prelude.{◌≡◌, ◌⊎◌, ℕ, ◌<◌, ◌≤◌, Bool, true, false, List, [], length, ℤ, Option, Some, None, Ok}
+use Rattle.std.specs.Prelude.{◌≡◌, ◌⊎◌, ℕ, ◌<◌, ◌≤◌, Bool, true, false, List, length, ℤ, Option, Some, None, Ok}
 use Rattle.fast_value.specs.declared.kinds.Kind.TheVariants.{Int64}
 use Rattle.fast_value.specs.meaning.Limits.{Bounds}
 use Rattle.fast_tree.specs.declared.instructions.FieldInstruction.{FieldInstruction}
@@ -33,7 +33,7 @@ pub record IsAsSeen (field : FieldInstruction) (seen slots : Slots) : Type 0 whe
 -- The part is in these bytes completely, and is then stored.
 abbrev pub IsPartSent : FieldInstruction → Bool → List ℕ → Slots → Option ℤ → ℕ → Type 0
 IsPartSent field strict rest seen x n = (old new : Slots) (l : Bounds) (scratch : List ℕ) → IsAsSeen field seen old → KeepsPart field old new x
-    → IsLastUnitOf (sent_reader strict l old field) field [] rest old new scratch (Whole (source_of (part_item x)) n)
+    → IsLastUnitOf (sent_reader strict l old field) field rest old new scratch (Whole (source_of (part_item x)) n)
 
 -- Nothing is sent of the part.
 abbrev pub IsPartKnown : FieldInstruction → Bool → Slots → Option ℤ → Type 0

@@ -1,5 +1,5 @@
 -- Statements about all fields of a node's code: of this type, optional or mandatory, under this operator, with this entry.
-use Rattle.std.specs.Prelude.{◌≡◌, ℕ, ◌<◌, Bool, true, false, List, [], length, Option, Some, Ok}
+use Rattle.std.specs.Prelude.{◌≡◌, ℕ, ◌<◌, Bool, true, false, List, length, Option, Some, Ok}
 use Rattle.fast_value.specs.declared.kinds.Kind.{Kind}
 use Rattle.fast_value.specs.meaning.Limits.{Bounds}
 use Rattle.fast_tree.specs.declared.operators.Operator.{Operator}
@@ -38,7 +38,7 @@ reader_in slots strict l f = reader_of strict (field_term l f (previous_at f.ent
 abbrev pub IsSentItem : Kind → Bool → Operator → ℕ → Bool → List ℕ → Slots → Slots → TakenItem → Type 0
 IsSentItem kind optional operator entry strict rest old new r = (f : FieldData) (l : Bounds) (scratch : List ℕ)
     → IsFieldAs f kind optional operator entry → Serves (length (slots_dictionary old)) (slots_terms old) f
-    → IsLastUnit (reader_in old strict l f) f [] rest (slots_dictionary old) (slots_dictionary new) scratch (Whole (source_of r.item) r.bytes)
+    → IsLastUnit (reader_in old strict l f) f rest (slots_dictionary old) (slots_dictionary new) scratch (Whole (source_of r.item) r.bytes)
 
 -- Each such field that is not in the stream though it has a bit is this number, or absent.
 abbrev pub IsUnsentItem : Kind → Bool → Operator → ℕ → Slots → Slots → Option Number → Type 0

@@ -98,4 +98,4 @@ IsPutText operator entry text old new scratch source = SendsText operator × IsT
 -- The bytes begin with a string of this number of characters, no more than a block of 16 has.
 abbrev pub IsShortText : List ℕ → ℕ → Type 0
 IsShortText rest n = (n ≤ 16) × (16 ≤ length rest) × ((nullable : Bool) (room : ℕ) → 16 ≤ room
-    → IsNextText nullable room [] rest (take n (without_stops (take 16 rest))) (Whole true n))
+    → IsNextText nullable room rest (take n (without_stops (take 16 rest))) (Whole true n))

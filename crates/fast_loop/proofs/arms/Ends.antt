@@ -12,7 +12,7 @@ use Rattle.fast_machine.specs.declared.machine.Turn.{Turn}
 use Rattle.fast_machine.specs.declared.machine.Turn.TheVariants.{Silent, Waits}
 use Rattle.fast_machine.specs.declared.machine.Waiting.TheVariants.{Map, Field}
 use Rattle.fast_loop.specs.declared.spot.Spot.{Spot}
-use Rattle.fast_machine.specs.declared.quick_units.UnitTaken.{UnitTaken}
+use Rattle.fast_machine.specs.declared.taking.UnitTaken.{UnitTaken}
 use Rattle.fast_machine.specs.device.Positions.{placed, Set, tree_in, CanTurn, IsTurn, turning, meaning}
 use Rattle.fast_machine.specs.device.Handing.{Hands}
 use Rattle.fast_machine.specs.device.Steps.{IsStep}

@@ -80,7 +80,7 @@ behind_length set l m node body = sequence_from_then (bounds l) node
 -- The length stands at a source that no text changes: its bytes.
 length_turns : (set : Set) (l : Limits) (m : Machine) (node : ℕ) (f : FieldData) (body rest : List ℕ) (x : Option ℕ) (n : ℕ)
     → IsAtSequence set m.cursor node f body → IsSent f (bit_of f (state_of m))
-    → IsLastUnit (reader_of l.strict (field_term (bounds l) f (previous_at f.entry (slots_dictionary m.slots)) true)) f [] rest
+    → IsLastUnit (reader_of l.strict (field_term (bounds l) f (previous_at f.entry (slots_dictionary m.slots)) true)) f rest
     (slots_dictionary m.slots) (slots_dictionary m.slots) [] (Whole (source_of (length_item x)) n)
     → TurnsTo (turning set l m) (take n rest) (length_from set l m node (option_map U x) f body)
 length_turns set l m node f body rest x n next sent (some, within, gives) =

@@ -11,7 +11,7 @@ use Rattle.fast_cursor.specs.device.Places.{at_place, IsPlaceOf}
 use Rattle.fast_machine.specs.declared.machine.Machine.{Machine}
 use Rattle.fast_machine.specs.declared.machine.Turn.{Turn}
 use Rattle.fast_machine.specs.declared.machine.Turn.TheVariants.{Waits}
-use Rattle.fast_machine.specs.declared.quick_units.UnitTaken.{UnitTaken}
+use Rattle.fast_machine.specs.declared.taking.UnitTaken.{UnitTaken}
 use Rattle.fast_loop.specs.declared.spot.Spot.{Spot}
 use Rattle.fast_loop.specs.declared.spot.Went.{Went}
 use Rattle.fast_machine.specs.device.Positions.{placed, Set}

@@ -24,7 +24,7 @@ use Rattle.fast_stream.specs.device.Frames.{resume}
 use Rattle.fast_stream.specs.device.Machine.{after_bytes}
 use Rattle.fast_units.specs.device.Taking.{Turns, Stays}
 use Rattle.fast_machine.specs.device.Handing.{IsTaken}
-use Rattle.fast_units.specs.device.Settling.{IsSettled, GivesField, IsLastUnit, value_at}
+use Rattle.fast_units.specs.device.Settling.{IsSettled, value_at}
 use Rattle.fast_units.specs.device.Scratches.{Held}
 use Rattle.fast_units.specs.device.TextDecisions.{first_reader}
 use Rattle.fast_units.specs.device.UnitFronts.{IsSent}
@@ -158,24 +158,18 @@ module _ {S : Type 0} (takes stops : S → EventData → S → Type 0) (set : Se
   ))
 
   -- The field is whole, and a turn is taken of what it decides.
-  pub gives_whole : (s : Slots) (scratch piece : List ℕ) (source : ValueSource) (b : ℕ) → 0 < b → b ≤ length rest
-      → GivesField unit (front ++ take b rest) f source (slots_dictionary m.slots) (slots_dictionary s) scratch piece
-      → (q : S) (o : Result Turn FaultCode) (q' : S) (a : Machine) → IsTurn takes stops set l (then_read s scratch source piece) q o q' a
-      → IsTakenTo takes stops set l from rest q b o q' a
-  gives_whole s scratch piece source b some within gives q o q' a turn =
-      let turns : Turns r (front ++ take b rest) (then_read s scratch source piece) =
-      turns_as here (sym (ap (reader_of l.strict) (settled_as gives.outcome source (slots_dictionary s) scratch piece gives.settled)))
-      (turns_done (λ x. reader_of l.strict (k (found f (state_of m) x))) gives.turns) in
-      subst (λ (p : Reader Dictionary). IsTakenTo takes stops set l p rest q b o q' a) (sym is)
-      (taken_to takes stops set l r front rest b _ q o q' a some within turns turn)
-
   pub field_whole : (s : Slots) (scratch : List ℕ) (x : WholeField) (b : ℕ)
       → IsCarriedUnit unit f front rest (slots_dictionary m.slots) (slots_dictionary s) scratch (Whole x b)
       → (q : S) (o : Result Turn FaultCode) (q' : S) (a : Machine)
       → IsTurn takes stops set l (then_read s scratch x.source (drop x.from (front ++ take b rest))) q o q' a
       → IsTakenTo takes stops set l from rest q b o q' a
   field_whole s scratch x b (some, within, inside, size, gives) q o q' a turn =
-      gives_whole s scratch (drop x.from (front ++ take b rest)) x.source b some within gives q o q' a turn
+      let piece = drop x.from (front ++ take b rest) in
+      let turns : Turns r (front ++ take b rest) (then_read s scratch x.source piece) =
+      turns_as here (sym (ap (reader_of l.strict) (settled_as gives.outcome x.source (slots_dictionary s) scratch piece gives.settled)))
+      (turns_done (λ x. reader_of l.strict (k (found f (state_of m) x))) gives.turns) in
+      subst (λ (p : Reader Dictionary). IsTakenTo takes stops set l p rest q b o q' a) (sym is)
+      (taken_to takes stops set l r front rest b _ q o q' a some within turns turn)
 
   -- The same of an integer, which is in no bytes.
   pub integer_whole : SeesInteger k → (s : Slots) (scratch : List ℕ) (x : WholeField) (b : ℕ)
@@ -186,15 +180,6 @@ module _ {S : Type 0} (takes stops : S → EventData → S → Type 0) (set : Se
       field_whole s scratch x b h q o q' a (subst (λ (p : Reader Dictionary). IsTurn takes stops set l p q o q' a)
       (sym (ap (reader_of l.strict) (by_source (λ v. k (v, state_past f (slots_dictionary s) m.counted m.cursor))
       (sees (state_past f (slots_dictionary s) m.counted m.cursor)) x.source f (slots_dictionary s) scratch (drop x.from (front ++ take b rest))))) turn)
-
-  pub integer_at_once : SeesInteger k → (s : Slots) (scratch : List ℕ) (source : ValueSource) (b : ℕ)
-      → IsLastUnit unit f front rest (slots_dictionary m.slots) (slots_dictionary s) scratch (Whole source b)
-      → (q : S) (o : Result Turn FaultCode) (q' : S) (a : Machine) → IsTurn takes stops set l (then_read s scratch source []) q o q' a
-      → IsTakenTo takes stops set l from rest q b o q' a
-  integer_at_once sees s scratch source b (some, within, gives) q o q' a turn =
-      gives_whole s scratch (take b rest) source b some within gives q o q' a (subst (λ (p : Reader Dictionary). IsTurn takes stops set l p q o q' a)
-      (sym (ap (reader_of l.strict) (by_source (λ v. k (v, state_past f (slots_dictionary s) m.counted m.cursor))
-      (sees (state_past f (slots_dictionary s) m.counted m.cursor)) source f (slots_dictionary s) scratch (take b rest)))) turn)
 
   -- It is wrong.
   pub field_wrong : (new : Dictionary) (scratch : List ℕ) (c : Code) (b : ℕ)

@@ -1,6 +1,6 @@
 -- A machine that keeps bytes of a unit which goes on behind them is ready for more.
 use Rattle.std.proofs.Common.{refl, sym, ap, ◌∙◌, subst, arith}
-use Rattle.std.specs.Prelude.{◌≡◌, ◌≢◌, ℕ, ◌+◌, ◌<◌, ◌≤◌, List, [], ◌++◌, length, Result, Ok}
+use Rattle.std.specs.Prelude.{◌≡◌, ◌≢◌, ℕ, ◌+◌, ◌<◌, ◌≤◌, List, ◌++◌, length, Result, Ok}
 use Rattle.fast_value.specs.declared.settings.Limits.{Limits}
 use Rattle.fast_value.specs.meaning.Limits.{bounds}
 use Rattle.fast_tree.specs.meaning.Tree.{field, parts, group, sequence, identifier, Body, end, step}
@@ -32,7 +32,7 @@ use Rattle.fast_machine.proofs.units.Takings.{taken_as}
 use Rattle.fast_machine.proofs.units.Waitings.{waits_at}
 use Rattle.fast_machine.proofs.steps.TurnCounts.{more_behind}
 use Rattle.fast_machine.proofs.machines.UnitTaken.{cut_to}
-use Rattle.fast_machine.proofs.machines.FieldTakes.{still_supplied, first_ready}
+use Rattle.fast_machine.proofs.machines.FieldTakes.{still_supplied}
 
 -- What is carried of the field of a machine that waits for one may be more.
 field_grown : (l : Limits) (body : Body) (s : State) (c a : Carry) → ((r : Reader Outcome) → IsCarried l r c → IsCarried l r a)
@@ -124,18 +124,6 @@ module _ (set : Set) (l : Limits) (m : Machine) (ready : IsReady set l m) where
           (grown_at w of a more (subst (λ (v : Waiting). CanTake v set l m) is ready.takes));
     };
     front = subst (λ (v : Waiting). front_at v (record m { carry = a }) ≡ front_at v m ++ rest) (sym is) (front_of w of a rest front);
-    same = refl;
-  }
-
-  -- The first bytes of a field are carried.
-  pub carry_begun : m.waiting ≡ Field → m.carry.bytes.text ≡ [] → (a : Carry) (rest : List ℕ) → a.bytes.capacity ≡ m.carry.bytes.capacity
-      → a.bytes.text ≡ rest → BeginsWithField l (body_in set m.cursor.left) (state_in (slots_dictionary m.slots) m.counted m.cursor) a
-      → IsGatheredBy set l m (record m { carry = a }) rest
-  carry_begun is none a rest room text begins = record {
-    inside = λ i. inside_of Field tt (sym is ∙ i);
-    ready = first_ready set l m m.slots a m.text ready refl room refl is refl begins;
-    front = subst (λ (v : Waiting). front_at v (record m { carry = a }) ≡ front_at v m ++ rest) (sym is)
-        (front_of Field tt a rest (text ∙ ap (λ (w : List ℕ). w ++ rest) (sym none)));
     same = refl;
   }
 

@@ -59,7 +59,7 @@ first_set (b ∷ w) low high = let odd : (b / 2 ^ 6) % 2 ≡ 1 = omega (arith, l
 identifier_unit : (strict : Bool) (l : Bounds) (rest : List ℕ) (d d' : Dictionary) (id n : ℕ)
     → IsFirstInt (λ y. Some (pos y)) strict (unsigned_up_to 4294967295) false (First.Whole id n) rest
     → d' ≡ write_at (Some 0) (assigned UInt32 (U id)) d → IsLastUnit
-    (reader_of strict (field_term l identifier (previous_at identifier.entry d) true)) identifier [] rest d d' []
+    (reader_of strict (field_term l identifier (previous_at identifier.entry d) true)) identifier rest d d' []
     (Progress.Whole (From.Unsigned id) n)
 identifier_unit strict l rest d d' id n first kept =
     item_unit UInt32 false strict l identifier rest d d' [] (Some (pos id)) n (value (U id)) (From.Unsigned id) refl refl refl

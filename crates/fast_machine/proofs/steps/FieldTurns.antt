@@ -1,6 +1,6 @@
 -- What holds of a machine behind a turn: at the unit that it waits for, and past an instruction.
 use Rattle.std.proofs.Common.{refl, sym, ap, ◌∙◌, subst, arith}
-use Rattle.std.specs.Prelude.{◌≡◌, ◌≢◌, ℕ, suc, ◌<◌, ◌≤◌, Bool, true, List, [], ◌∷◌, ◌++◌, drop, length, ℤ, Option, Some, None, option_map}
+use Rattle.std.specs.Prelude.{◌≡◌, ◌≢◌, ℕ, suc, ◌<◌, ◌≤◌, Bool, true, List, [], ◌∷◌, drop, length, ℤ, Option, Some, None, option_map}
 use Rattle.std.specs.Prelude.{Result, Ok, Err, OnOk, if◌then◌else◌}
 use Rattle.std.proofs.Math.Nat.{le-max_right}
 use Rattle.fast_wire.specs.meaning.Maps.{later_bits}
@@ -38,7 +38,7 @@ use Rattle.fast_fields.specs.device.Carries.{IsCarried}
 use Rattle.fast_stream.specs.device.Readers.{Reader, Stop}
 use Rattle.fast_stream.specs.device.Machine.{after_bytes}
 use Rattle.fast_stream.specs.device.GrammarReaders.{reader_of}
-use Rattle.fast_units.specs.device.Taking.{Waits, Stays}
+use Rattle.fast_units.specs.device.Taking.{Waits}
 use Rattle.fast_machine.specs.device.Moving.{Moves}
 use Rattle.fast_units.specs.device.Settling.{Serves, value_at}
 use Rattle.fast_units.specs.device.TextDecisions.{first_reader}
@@ -49,7 +49,7 @@ use Rattle.fast_machine.specs.device.Positions.{Set, body_in, IsPlaced, IsSuppli
 use Rattle.fast_machine.specs.device.Positions.{meaning, meaning_at, state_in, frames_in, bit_of, term_at, mantissa_then, BeginsWithField}
 use Rattle.fast_machine.specs.device.Positions.{GoesOnWithMantissa, IsAtField, IsAtParts}
 use Rattle.fast_stream.proofs.streams.Frames.{at_field}
-use Rattle.fast_machine.proofs.fields.SentFields.{field_waits as field_waiting, field_sent_waits, field_unsent, field_at_fault}
+use Rattle.fast_machine.proofs.fields.SentFields.{field_sent_waits, field_unsent, field_at_fault}
 use Rattle.fast_units.proofs.Turning.{result_done}
 use Rattle.fast_machine.proofs.steps.Moves.{moves_waits, moves_fault, moves_as}
 
@@ -478,15 +478,3 @@ pub goes_on_moved : (set : Set) (l : Limits) (m a : Machine) (result : Result Tu
 goes_on_moved set l m a result h same depth past on =
     goes_on_past set l m a result h (like_moved m a same depth)
     (subst (λ (x : Machine). x.counted ≤ l.max_total) (sym same) h.supplied.counted) past on
-
--- the carry of a field of which no byte is there
-abbrev pub nothing_carried : ℕ → Carry
-nothing_carried room = record { bytes = record { text = []; capacity = room }; missing = record { bytes = 1; stops = true } }
-
-pub carries_nothing : (l : Limits) (f : FieldData) (d : Dictionary) (room : ℕ) → f.operator ≢ Constant
-    → IsCarried l (first_reader l f d) (nothing_carried room)
-carries_nothing l f d room varies = ((omega arith, λ v none short. by v short), omega arith)
-  where
-    by : (v : List ℕ) → length v < 1 → Stays (first_reader l f d) ([] ++ v)
-    by [] short = record { quiet = tt; waits = field_waiting l.strict (bounds l) f (previous_at f.entry d) varies }
-    by (b ∷ v) short = absurd (omega (arith, short))

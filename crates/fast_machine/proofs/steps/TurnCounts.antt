@@ -4,7 +4,7 @@ use Rattle.std.proofs.Math.Nat.{le_refl, le_trans, le-max_left, le-max_right, mu
 use Rattle.std.proofs.Math.Nat.{min-eq_left, min_comm}
 use Rattle.std.proofs.lemmas.Bool.{leb-true, cases_lt}
 use Rattle.std.specs.Prelude.{◌≡◌, ◌≢◌, ℕ, zero, suc, ◌+◌, ◌*◌, ◌-◌, ◌<◌, ◌≤◌, Bool, true, false, if◌then◌else◌, nat_le, List, [], ◌∷◌}
-use Rattle.std.specs.Prelude.{drop, map, slice_get, min, Option, Some, None, IfSome, Result, Ok, Err, OnOk, is_err}
+use Rattle.std.specs.Prelude.{drop, map, slice_get, min, Option, Some, None, Result, Ok, Err, OnOk, is_err}
 use Rattle.fast_value.specs.declared.settings.Limits.{Limits}
 use Rattle.fast_value.specs.meaning.Limits.{bounds}
 use Rattle.fast_value.specs.declared.codes.Code.{Code}
@@ -18,7 +18,6 @@ use Rattle.fast_machine.specs.declared.machine.Machine.{Machine}
 use Rattle.fast_machine.specs.declared.machine.Turn.{Turn}
 use Rattle.fast_machine.specs.declared.machine.Turn.TheVariants.{Silent, Handed, Waits}
 use Rattle.fast_machine.specs.declared.turns.Turns.{Turns}
-use Rattle.fast_machine.specs.declared.quick_units.UnitTaken.{UnitTaken}
 use Rattle.fast_machine.specs.device.Passing.{IsPast}
 use Rattle.fast_machine.specs.declared.machine.Waiting.{Waiting}
 use Rattle.fast_machine.specs.declared.machine.Waiting.TheVariants.{Map, Identifier, SegmentMap, Field, Mantissa}
@@ -718,17 +717,6 @@ fresh_turns set l m f way =
 none_more : (k x : ℕ) → x ≡ 0 → k ≡ k + x
 none_more k x e = omega (arith, e)
 
-pub paid_whole : (way : Way) (set : Set) (l : Limits) (n : ℕ) (m a : Machine) (q : Option UnitTaken) (w : Waiting) → m.waiting ≡ w
-    → turns_begun_at w m.cursor.map way (tree_in set) l ≡ 0
-    → (HasTurnsAt w way set l n m → IfSome q (λ x. HasTurnsBehind x.turn way set l (1 + n) a)) → HasTurnsWaiting way set l n m
-    → IfSome q (λ x. HasTurnsBehind x.turn way set l (1 + n + turns_begun_at m.waiting m.cursor.map way (tree_in set) l) a)
-paid_whole way set l n m a q w is none f h =
-    subst (λ (k : ℕ). IfSome q (λ x. HasTurnsBehind x.turn way set l k a))
-    (none_more (1 + n) (turns_begun_at m.waiting m.cursor.map way (tree_in set) l)
-    (ap (λ (v : Waiting). turns_begun_at v m.cursor.map way (tree_in set) l) is ∙ none))
-    (f (subst (λ (v : Waiting). HasTurnsAt v way set l n m) is h))
-
--- the same of a unit that is taken, however much of it there is
 pub paid_awaited : (way : Way) (set : Set) (l : Limits) (n : ℕ) (m a : Machine) (turn : Result Turn FaultCode) (w : Waiting)
     → m.waiting ≡ w → turns_begun_at w m.cursor.map way (tree_in set) l ≡ 0
     → (HasTurnsAt w way set l n m → HasTurnsBehind turn way set l n a) → HasTurnsWaiting way set l n m

@@ -15,7 +15,7 @@ use Rattle.fast_machine.specs.declared.machine.Turn.TheVariants.{Silent, Handed,
 use Rattle.fast_machine.specs.device.Handing.{Hands, due, waiting_at, Fed}
 use Rattle.fast_machine.specs.device.Moving.{Moves, Onward}
 use Rattle.fast_machine.specs.declared.machine.Waiting.{Waiting}
-use Rattle.fast_machine.specs.declared.quick_units.UnitTaken.{UnitTaken}
+use Rattle.fast_machine.specs.declared.taking.UnitTaken.{UnitTaken}
 use Rattle.fast_machine.specs.device.TurnsLeft.{Way, most_by, HasTurns, HasTurnsWaiting, HasTurnsBehind, HasTurnsAfter, turns_begun_at}
 use Rattle.fast_machine.specs.device.Positions.{Set, tree_in, CanTurn, GoesOn, IsReady, IsTurn, turning, meaning}
 use Rattle.fast_machine.specs.device.UnitTaken.{IsTakenTo}
@@ -256,43 +256,6 @@ module _ {S : Type 0} (takes stops : S → EventData → S → Type 0) (set : Se
         handed = h.handed;
         turns = h.turns;
       }
-
-  -- Behind a unit at whose end the machine waits for another one, bytes of that.
-  pub step_and_unit : (m b : Machine) (rest : List ℕ) (s mid : S) (q : UnitTaken) (k : ℕ) (all : UnitTaken) (s' : S) (m' : Machine)
-      → q.turn ≡ Ok TurnWaits → all.bytes ≡ q.bytes + k → all.turn ≡ Ok TurnWaits
-      → IsStep takes stops set l m rest s q mid b → IsTakenTo takes stops set l (meaning set l b)
-      (take (length rest - q.bytes) (drop q.bytes rest)) mid k (Ok TurnWaits) s' m'
-      → ((way : Way) (n : ℕ) → HasTurnsWaiting way set l n b → HasTurnsWaiting way set l n m')
-      → IsStep takes stops set l m rest s all s' m'
-  step_and_unit m b rest s mid q k all s' m' waits size is step taken turns =
-      subst (λ (x : ℕ). IsStep takes stops set l m rest s (record { bytes = x; turn = all.turn }) s' m') (sym size)
-      (subst (λ (x : Result Turn FaultCode). IsStep takes stops set l m rest s (record { bytes = q.bytes + k; turn = x }) s' m') (sym is) (record {
-        within = omega (arith, inside, here, most);
-        runs = subst (λ (w : List ℕ). Runs takes stops set l m s w (Ok TurnWaits) s' m')
-            (ap (λ w. take q.bytes rest ++ take k w) (take_rest rest q.bytes) ∙ sym (take-add q.bytes k rest))
-            (unit_behind m (meaning set l b) s mid (take q.bytes rest) left k (Ok TurnWaits) s' m'
-            (subst (λ (t : Result Turn FaultCode). Runs takes stops set l m s (take q.bytes rest) t mid b) waits step.runs) taken);
-        supplied = taken.turn.supplied;
-        goes_on = taken.turn.goes_on;
-        silent = λ none e. absurd (cc e);
-        handed = λ none e. absurd (cc e);
-        turns = λ way n h.
-            let w : ℕ = 1 + most_by way (tree_in set) l in
-            more_behind (Ok TurnWaits) way set l (n + q.bytes * w) (n + (q.bytes + k) * w) m' (rw (add-mul q.bytes k w) (omega arith))
-            (turns way (n + q.bytes * w) (subst (λ (t : Result Turn FaultCode). HasTurnsBehind t way set l (n + q.bytes * w) b) waits (step.turns way n h)));
-      }))
-    where
-      left : List ℕ
-      left = take (length rest - q.bytes) (drop q.bytes rest)
-
-      here : length left ≡ length rest - q.bytes
-      here = ap length (take_rest rest q.bytes) ∙ length-drop q.bytes rest
-
-      inside : q.bytes ≤ length rest
-      inside = step.within
-
-      most : k ≤ length left
-      most = taken.within
 
   -- A machine between two units has taken steps up to here, where some of the piece is left.
   pub record IsSoFar (m : Machine) (piece : List ℕ) (s : S) (rest : List ℕ) (s' : S) (m' : Machine) : Type 0 where

@@ -11,7 +11,7 @@ use Rattle.fast_stream.specs.device.Machine.{after_bytes}
 use Rattle.fast_machine.specs.declared.machine.Machine.{Machine}
 use Rattle.fast_machine.specs.declared.machine.Turn.{Turn}
 use Rattle.fast_machine.specs.declared.machine.Turn.TheVariants.{Silent, Handed, Waits}
-use Rattle.fast_machine.specs.declared.quick_units.UnitTaken.{UnitTaken}
+use Rattle.fast_machine.specs.declared.taking.UnitTaken.{UnitTaken}
 use Rattle.fast_machine.specs.device.Handing.{due, Quiet, waiting_at, Fed}
 use Rattle.fast_machine.specs.device.Moving.{events_due, Onward}
 use Rattle.fast_machine.specs.device.Positions.{Set, tree_in, GoesOn, IsSupplied, turning, meaning}

@@ -8,7 +8,7 @@ use Rattle.fast_stream.specs.declared.faults.FaultCode.{FaultCode}
 use Rattle.fast_units.specs.device.Settling.{Serves}
 use Rattle.fast_machine.specs.declared.machine.Machine.{Machine}
 use Rattle.fast_machine.specs.declared.machine.Turn.{Turn}
-use Rattle.fast_machine.specs.declared.quick_units.UnitTaken.{UnitTaken}
+use Rattle.fast_machine.specs.declared.taking.UnitTaken.{UnitTaken}
 use Rattle.fast_machine.specs.device.Positions.{Set, tree_in, meaning}
 use Rattle.fast_machine.specs.device.UnitTaken.{IsTakenTo}
 use Rattle.fast_machine.specs.device.TurnsLeft.{Way, most_by, HasTurns, HasTurnsBehind}

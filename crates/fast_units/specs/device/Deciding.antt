@@ -49,7 +49,7 @@ abbrev pub IsDecided : Result Outcome Code → FieldData → Dictionary → Dict
 IsDecided decided f old new (Ok source) = (o : Outcome) × (decided ≡ Ok o) × ((scratch piece : List ℕ) → IsSettled o f source old new scratch piece)
 IsDecided decided f old new (Err c) = decided ≡ Err c
 
--- the result that is decided by this number of bytes
-abbrev pub progress_of : Result ValueSource Code → ℕ → Progress ValueSource
-progress_of (Ok source) n = Whole source n
-progress_of (Err c) n = Wrong c n
+-- a result that is decided by this number of bytes
+abbrev pub answered : {T : Type 0} → Result T Code → ℕ → Progress T
+answered (Ok x) n = Whole x n
+answered (Err c) n = Wrong c n

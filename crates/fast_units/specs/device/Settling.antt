@@ -1,5 +1,5 @@
 -- The result of a complete field: the bytes it has, its value, and the dictionary.
-use Rattle.std.specs.Prelude.{◌≡◌, ℕ, ◌<◌, ◌≤◌, true, List, ◌++◌, length, take, drop, is_some, Option, Some, None}
+use Rattle.std.specs.Prelude.{◌≡◌, ℕ, ◌<◌, ◌≤◌, true, List, length, take, drop, is_some, Option, Some, None}
 use Rattle.fast_value.specs.meaning.Kinds.{ScalarData, U, I, Dec, texts, family, value_of_text}
 use Rattle.fast_tree.specs.declared.operators.Operator.TheVariants.{Tail}
 use Rattle.fast_tree.specs.meaning.Tree.{FieldData}
@@ -54,9 +54,9 @@ pub record GivesField (r : Reader Outcome) (w : List ℕ) (f : FieldData) (sourc
 abbrev pub GivesWhole : Reader Outcome → FieldData → List ℕ → Dictionary → Dictionary → List ℕ → ValueSource → ℕ → ℕ → Type 0
 GivesWhole r f rest old new scratch source from n = (0 < n) × (n ≤ length rest) × GivesField r (take n rest) f source old new scratch (drop from (take n rest))
 
--- The result of the buffered bytes and those after them as the last unit of a field.
-abbrev pub IsLastUnit : Reader Outcome → FieldData → List ℕ → List ℕ → Dictionary → Dictionary → List ℕ → Progress ValueSource → Type 0
-IsLastUnit r f front rest old new scratch (Whole source n) = (0 < n) × (n ≤ length rest)
-    × GivesField r (front ++ take n rest) f source old new scratch (take n rest)
-IsLastUnit r f front rest old new scratch (Wrong c n) = (0 < n) × (n ≤ length rest) × Turns r (front ++ take n rest) (Stop c)
-IsLastUnit r f front rest old new scratch Cut = Stays r (front ++ rest) × (new ≡ old)
+-- The result of the bytes as the last unit of a field.
+abbrev pub IsLastUnit : Reader Outcome → FieldData → List ℕ → Dictionary → Dictionary → List ℕ → Progress ValueSource → Type 0
+IsLastUnit r f rest old new scratch (Whole source n) = (0 < n) × (n ≤ length rest)
+    × GivesField r (take n rest) f source old new scratch (take n rest)
+IsLastUnit r f rest old new scratch (Wrong c n) = (0 < n) × (n ≤ length rest) × Turns r (take n rest) (Stop c)
+IsLastUnit r f rest old new scratch Cut = Stays r rest × (new ≡ old)

@@ -1,5 +1,5 @@
 -- The units of a field after its first one.
-use Rattle.std.specs.Prelude.{◌≡◌, ◌≢◌, ℕ, ◌-◌, ◌<◌, ◌≤◌, List, ◌++◌, length, take, Ok}
+use Rattle.std.specs.Prelude.{◌≡◌, ◌≢◌, ℕ, ◌-◌, ◌<◌, ◌≤◌, List, length, take, Ok}
 use Rattle.fast_value.specs.declared.kinds.Kind.TheVariants.{Ascii}
 use Rattle.fast_value.specs.declared.settings.Limits.{Limits}
 use Rattle.fast_value.specs.meaning.Limits.{Bounds, bounds}
@@ -29,21 +29,22 @@ term_behind l f p (Vector n) = stage_term l f p (behind_size n)
 term_behind l f p (Part k) = of_result (subtraction_step f p k) >>= (λ kept. stage_term l f p (behind_kept kept))
 term_behind l f p (PartVector k n) = of_result (subtraction_step f p k) >>= (λ kept. stage_term l f p (behind_part_size kept n))
 
--- The stage is one of the field, and there is room for the bytes that it reads.
+-- The stage is one of the field, and there is room for the bytes that it reads; a run of bytes has some.
 abbrev pub IsStageOf : Bounds → FieldData → PreviousData → Stage → Type 0
 IsStageOf l f p (Mantissa e) = (family f.kind ≡ decimals) × (f.operator ≢ Delta) × (f.operator ≢ Constant)
 IsStageOf l f p (MantissaDelta e) = (family f.kind ≡ decimals) × (f.operator ≡ Delta)
 IsStageOf l f p (Vector n) = (family f.kind ≡ texts) × (f.kind ≢ Ascii) × (f.operator ≢ Delta) × (f.operator ≢ Constant) × (n ≤ l.max_text)
+    × (0 < n)
 IsStageOf l f p (Part k) = (family f.kind ≡ texts) × (f.operator ≡ Delta) × ((kept : Kept) × (subtraction_step f p k ≡ Ok kept))
-IsStageOf l f p (PartVector k n) = (family f.kind ≡ texts) × (f.kind ≢ Ascii) × (f.operator ≡ Delta)
+IsStageOf l f p (PartVector k n) = (family f.kind ≡ texts) × (f.kind ≢ Ascii) × (f.operator ≡ Delta) × (0 < n)
     × ((kept : Kept) × (subtraction_step f p k ≡ Ok kept) × (n ≤ l.max_text - kept_length kept))
 
--- The result of the buffered bytes and those after them as a unit of a field, by the reader of this unit and the rest.
-abbrev pub IsFieldUnit : Limits → Reader Outcome → FieldData → List ℕ → List ℕ → Dictionary → Dictionary → List ℕ → Progress FieldStep → Type 0
-IsFieldUnit l r f front rest old new scratch (Whole (Settled source) n) = (0 < n) × (n ≤ length rest)
-    × GivesField r (front ++ take n rest) f source old new scratch (take n rest)
-IsFieldUnit l r f front rest old new scratch (Whole (Next stage) n) = (0 < n) × (n ≤ length rest) × (new ≡ old)
+-- The result of the bytes as a unit of a field, by the reader of this unit and the rest.
+abbrev pub IsFieldUnit : Limits → Reader Outcome → FieldData → List ℕ → Dictionary → Dictionary → List ℕ → Progress FieldStep → Type 0
+IsFieldUnit l r f rest old new scratch (Whole (Settled source) n) = (0 < n) × (n ≤ length rest)
+    × GivesField r (take n rest) f source old new scratch (take n rest)
+IsFieldUnit l r f rest old new scratch (Whole (Next stage) n) = (0 < n) × (n ≤ length rest) × (new ≡ old)
     × IsStageOf (bounds l) f (previous_at f.entry old) stage
-    × Turns r (front ++ take n rest) (reader_of l.strict (term_behind (bounds l) f (previous_at f.entry old) stage))
-IsFieldUnit l r f front rest old new scratch (Wrong c n) = (0 < n) × (n ≤ length rest) × Turns r (front ++ take n rest) (Stop c)
-IsFieldUnit l r f front rest old new scratch Cut = Stays r (front ++ rest) × (new ≡ old)
+    × Turns r (take n rest) (reader_of l.strict (term_behind (bounds l) f (previous_at f.entry old) stage))
+IsFieldUnit l r f rest old new scratch (Wrong c n) = (0 < n) × (n ≤ length rest) × Turns r (take n rest) (Stop c)
+IsFieldUnit l r f rest old new scratch Cut = Stays r rest × (new ≡ old)

@@ -1,5 +1,5 @@
--- Readers that consume bytes, of which some are buffered from earlier pieces.
-use Rattle.std.specs.Prelude.{◌≡◌, ℕ, ◌<◌, ◌≤◌, List, [], ◌∷◌, ◌++◌, length, take}
+-- Readers that consume bytes.
+use Rattle.std.specs.Prelude.{◌≡◌, ℕ, ◌<◌, ◌≤◌, List, [], ◌∷◌, length, take}
 use Rattle.fast_stream.specs.device.Readers.{Reader, Done, Stop, Byte}
 use Rattle.fast_stream.specs.device.Running.{after_byte}
 use Rattle.fast_stream.specs.device.Machine.{after_bytes}
@@ -25,9 +25,8 @@ pub record Stays {A : Type 0} (r : Reader A) (w : List ℕ) : Type 0 where
   pub quiet : Quiet r w
   pub waits : Waits (after_bytes r w)
 
--- The result of the buffered bytes and those after them as a unit: some of the latter complete it, or decide a fault; or all of them are
--- consumed, and it is split.
-abbrev pub IsUnit : {A T : Type 0} → Reader A → (T → A) → List ℕ → List ℕ → Progress T → Type 0
-IsUnit r meant front rest (Whole x n) = (0 < n) × (n ≤ length rest) × Turns r (front ++ take n rest) (Done (meant x))
-IsUnit r meant front rest (Wrong c n) = (0 < n) × (n ≤ length rest) × Turns r (front ++ take n rest) (Stop c)
-IsUnit r meant front rest Cut = Stays r (front ++ rest)
+-- The result of the bytes as a unit: some of them complete it, or decide a fault; or it goes on after all of them.
+abbrev pub IsUnit : {A T : Type 0} → Reader A → (T → A) → List ℕ → Progress T → Type 0
+IsUnit r meant rest (Whole x n) = (0 < n) × (n ≤ length rest) × Turns r (take n rest) (Done (meant x))
+IsUnit r meant rest (Wrong c n) = (0 < n) × (n ≤ length rest) × Turns r (take n rest) (Stop c)
+IsUnit r meant rest Cut = Stays r rest

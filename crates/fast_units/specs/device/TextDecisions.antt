@@ -1,5 +1,5 @@
 -- The result of a string field by the functions of the operators, after its units.
-use Rattle.std.specs.Prelude.{◌≡◌, ℕ, ◌-◌, ◌<◌, true, List, ℤ, Option, Result, Ok, Err}
+use Rattle.std.specs.Prelude.{◌≡◌, ℕ, ◌-◌, true, List, ℤ, Option, Result, Ok, Err}
 use Rattle.fast_value.specs.declared.codes.Code.{Code}
 use Rattle.fast_value.specs.declared.settings.Limits.{Limits}
 use Rattle.fast_value.specs.meaning.Limits.{Bounds, bounds}
@@ -14,11 +14,8 @@ use Rattle.fast_units.specs.device.Settling.{IsSettled}
 use Rattle.fast_units.specs.device.Stages.{term_behind, IsStageOf}
 use Rattle.fast_units.specs.declared.source.ValueSource.{ValueSource}
 use Rattle.fast_units.specs.declared.stages.Stage.{Stage}
-use Rattle.fast_units.specs.declared.stages.Stage.TheVariants.{Vector, PartVector}
 use Rattle.fast_units.specs.declared.stages.FieldStep.{FieldStep}
 use Rattle.fast_units.specs.declared.stages.FieldStep.TheVariants.{Settled, Next}
-use Rattle.fast_units.specs.declared.progress.Progress.{Progress}
-use Rattle.fast_units.specs.declared.progress.Progress.TheVariants.{Whole, Wrong}
 
 -- The outcome of the operator is settled, or it is a fault.
 abbrev pub IsTextDecided : Result Outcome Code → FieldData → Dictionary → Dictionary → List ℕ → List ℕ → Result ValueSource Code → Type 0
@@ -46,18 +43,7 @@ behind_size l f p size = (sized l.max_text size >>= (λ v. give (sent_text f.kin
 abbrev pub behind_part_size : Bounds → FieldData → PreviousData → Kept → Option ℤ → Grammar Outcome
 behind_part_size l f p kept size = sized (l.max_text - kept_length kept) size >>= part_change f p kept
 
--- a result that is decided by this number of bytes
-abbrev pub answered : {T : Type 0} → Result T Code → ℕ → Progress T
-answered (Ok x) n = Whole x n
-answered (Err c) n = Wrong c n
-
 -- the result of a field's last unit as that of any unit
 abbrev pub settled : Result ValueSource Code → Result FieldStep Code
 settled (Ok source) = Ok (Settled source)
 settled (Err c) = Err c
-
--- A run of bytes that follows has some.
-abbrev pub HasBytes : FieldStep → Type 0
-HasBytes (Next (Vector n)) = 0 < n
-HasBytes (Next (PartVector k n)) = 0 < n
-HasBytes step = Unit {0}

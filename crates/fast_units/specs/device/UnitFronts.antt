@@ -1,5 +1,5 @@
--- The units of a field that is neither a length nor a part of a decimal: the partial one, and the bytes of it that have been read.
-use Rattle.std.specs.Prelude.{◌≡◌, ◌≢◌, ℕ, ◌-◌, ◌<◌, Bool, true, false, List, [], ◌++◌, length, ℤ, Ok}
+-- The units of a field, and the bytes of one that goes on.
+use Rattle.std.specs.Prelude.{◌≡◌, ◌≢◌, ℕ, ◌-◌, ◌<◌, Bool, true, false, List, [], length, Ok}
 use Rattle.fast_value.specs.declared.kinds.Kind.TheVariants.{Ascii}
 use Rattle.fast_value.specs.meaning.Limits.{Bounds}
 use Rattle.fast_tree.specs.declared.operators.Operator.TheVariants.{Constant, Delta}
@@ -12,7 +12,7 @@ use Rattle.fast_stream.specs.meaning.Fields.{field_term}
 use Rattle.fast_units.specs.declared.stages.Stage.{Stage}
 use Rattle.fast_units.specs.declared.stages.Stage.TheVariants.{Mantissa, MantissaDelta, Vector, Part, PartVector}
 use Rattle.fast_units.specs.declared.stages.FieldStep.{FieldStep}
-use Rattle.fast_units.specs.declared.stages.FieldStep.TheVariants.{Settled, Next}
+use Rattle.fast_units.specs.declared.stages.FieldStep.TheVariants.{Settled}
 use Rattle.fast_units.specs.declared.source.ValueSource.{ValueSource}
 use Rattle.fast_units.specs.declared.progress.Progress.{Progress}
 use Rattle.fast_units.specs.declared.progress.Progress.TheVariants.{Whole, Wrong, Cut}
@@ -42,44 +42,17 @@ IsRunStage f (Vector n) = Unit {0}
 IsRunStage f (Part k) = f.kind ≡ Ascii
 IsRunStage f (PartVector k n) = Unit {0}
 
--- These bytes of the part of a string delta have been read.
-abbrev pub IsPartFront : Bounds → FieldData → PreviousData → ℤ → List ℕ → Type 0
-IsPartFront l f p k front = (kept : Kept) × (subtraction_step f p k ≡ Ok kept) × ascii_text false (l.max_text - kept_length kept) front [] cut
-
--- The stage reads a string or a run of bytes, of which these have been read.
+-- The stage reads a string or a run of bytes that goes on after these.
 abbrev pub IsBytesStage : Bounds → FieldData → PreviousData → Stage → List ℕ → Type 0
-IsBytesStage l f p (Mantissa e) front = ⊥
-IsBytesStage l f p (MantissaDelta e) front = ⊥
-IsBytesStage l f p (Vector n) front = length front < n
-IsBytesStage l f p (Part k) front = (f.kind ≡ Ascii) × IsPartFront l f p k front
-IsBytesStage l f p (PartVector k n) front = length front < n
-
--- The stage reads a string or a run of bytes, of which none has been read; or it reads an integer.
-abbrev pub IsNextStage : Bounds → FieldData → PreviousData → Stage → Type 0
-IsNextStage l f p (Mantissa e) = Unit {0}
-IsNextStage l f p (MantissaDelta e) = Unit {0}
-IsNextStage l f p (Vector n) = 0 < n
-IsNextStage l f p (Part k) = Unit {0}
-IsNextStage l f p (PartVector k n) = 0 < n
-
--- the buffered bytes of an integer: none, once it is complete, and all bytes, if it is split
-abbrev pub IsEntityKept : {T : Type 0} → List ℕ → List ℕ → List ℕ → Progress T → Type 0
-IsEntityKept front rest after (Whole x n) = after ≡ []
-IsEntityKept front rest after (Wrong c n) = Unit {0}
-IsEntityKept front rest after Cut = after ≡ front ++ rest
-
--- the next stage begins
-abbrev pub IsNextOf : Bounds → FieldData → PreviousData → Progress FieldStep → Type 0
-IsNextOf l f p (Whole (Next stage) n) = IsNextStage l f p stage
-IsNextOf l f p other = Unit {0}
+IsBytesStage l f p (Mantissa e) w = ⊥
+IsBytesStage l f p (MantissaDelta e) w = ⊥
+IsBytesStage l f p (Vector n) w = length w < n
+IsBytesStage l f p (Part k) w = (f.kind ≡ Ascii)
+    × ((kept : Kept) × (subtraction_step f p k ≡ Ok kept) × ascii_text false (l.max_text - kept_length kept) w [] cut)
+IsBytesStage l f p (PartVector k n) w = length w < n
 
 -- a unit that was the field's last
 abbrev pub settled : Progress ValueSource → Progress FieldStep
 settled (Whole source n) = Whole (Settled source) n
 settled (Wrong c n) = Wrong c n
 settled Cut = Cut
-
--- No other unit follows.
-abbrev pub SettlesOnly : Progress FieldStep → Type 0
-SettlesOnly (Whole (Next stage) n) = ⊥
-SettlesOnly other = Unit {0}

@@ -1,5 +1,5 @@
--- Abbreviations for clauses on fields: of a dictionary in memory, of an instruction, and of buffered bytes.
-use Rattle.std.specs.Prelude.{◌≡◌, ℕ, ◌<◌, ◌≤◌, Bool, true, List, ◌++◌, length, Some, Result}
+-- Abbreviations for clauses on fields: of a dictionary in memory, and of an instruction.
+use Rattle.std.specs.Prelude.{◌≡◌, ℕ, ◌<◌, ◌≤◌, Bool, true, List, length, Some, Result}
 use Rattle.fast_value.specs.declared.codes.Code.{Code}
 use Rattle.fast_value.specs.meaning.Limits.{Bounds}
 use Rattle.fast_value.specs.declared.settings.Limits.{Limits}
@@ -19,7 +19,6 @@ use Rattle.fast_units.specs.device.Deciding.{IsDecided}
 use Rattle.fast_units.specs.declared.source.ValueSource.{ValueSource}
 use Rattle.fast_units.specs.declared.stages.FieldStep.{FieldStep}
 use Rattle.fast_units.specs.declared.progress.Progress.{Progress}
-use Rattle.fast_units.specs.declared.progress.Progress.TheVariants.{Cut}
 
 -- The dictionary serves the field.
 abbrev pub ServesField : Slots → FieldInstruction → Type 0
@@ -37,13 +36,13 @@ previous_of slots field = previous_at (field_data field).entry (slots_dictionary
 abbrev pub sent_reader : Bool → Bounds → Slots → FieldInstruction → Reader Outcome
 sent_reader strict l slots field = reader_of strict (field_term l (field_data field) (previous_of slots field) true)
 
--- The result of the buffered bytes and those after them as the field's last unit.
-abbrev pub IsLastUnitOf : Reader Outcome → FieldInstruction → List ℕ → List ℕ → Slots → Slots → List ℕ → Progress ValueSource → Type 0
-IsLastUnitOf r field front rest old new scratch p = IsLastUnit r (field_data field) front rest (slots_dictionary old) (slots_dictionary new) scratch p
+-- The result of the bytes as the field's last unit.
+abbrev pub IsLastUnitOf : Reader Outcome → FieldInstruction → List ℕ → Slots → Slots → List ℕ → Progress ValueSource → Type 0
+IsLastUnitOf r field rest old new scratch p = IsLastUnit r (field_data field) rest (slots_dictionary old) (slots_dictionary new) scratch p
 
--- The result of the buffered bytes and those after them as a unit of the field.
-abbrev pub IsUnitOf : Limits → Reader Outcome → FieldInstruction → List ℕ → List ℕ → Slots → Slots → List ℕ → Progress FieldStep → Type 0
-IsUnitOf l r field front rest old new scratch p = IsFieldUnit l r (field_data field) front rest (slots_dictionary old) (slots_dictionary new) scratch p
+-- The result of the bytes as a unit of the field.
+abbrev pub IsUnitOf : Limits → Reader Outcome → FieldInstruction → List ℕ → Slots → Slots → List ℕ → Progress FieldStep → Type 0
+IsUnitOf l r field rest old new scratch p = IsFieldUnit l r (field_data field) rest (slots_dictionary old) (slots_dictionary new) scratch p
 
 -- This is decided for the field, in its dictionary.
 abbrev pub IsDecidedIn : Result Outcome Code → FieldInstruction → Slots → Slots → Result ValueSource Code → Type 0
@@ -56,7 +55,3 @@ HasTextLimit slots limits = ((slots_terms slots).max_text ≡ limits.max_text) �
 -- There is room for each string that the dictionary can hold.
 abbrev pub HasRoomFor : Slots → Held → Type 0
 HasRoomFor slots scratch = (slots_terms slots).max_text ≤ scratch.capacity
-
--- If an entity is split, its bytes are kept.
-abbrev pub IsKeptCut : {T : Type 0} → List ℕ → List ℕ → List ℕ → Progress T → Type 0
-IsKeptCut front rest kept p = p ≡ Cut → kept ≡ front ++ rest

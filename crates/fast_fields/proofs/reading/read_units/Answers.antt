@@ -1,7 +1,7 @@
 -- The first unit of the field, and those that follow it.
-use Rattle.std.proofs.Common.{rules, sym, ap, ◌∙◌, subst}
+use Rattle.std.proofs.Common.{rules, sym, subst}
 use Rattle.std.proofs.lemmas.List.{take_rest}
-use Rattle.std.specs.Prelude.{◌≡◌, List, ℕ, ◌++◌, drop}
+use Rattle.std.specs.Prelude.{List, ℕ, drop}
 use Rattle.fast_value.specs.meaning.Limits.{bounds}
 use Rattle.fast_tree.specs.meaning.Nodes.{field_data}
 use Rattle.fast_dict.specs.meaning.Dictionary.{Dictionary, previous_at}
@@ -9,7 +9,7 @@ use Rattle.fast_dict.specs.meaning.Slots.{slots_dictionary}
 use Rattle.fast_units.specs.device.UnitFronts.{IsAsciiFirst}
 use Rattle.fast_units.specs.device.TextDecisions.{first_reader, reader_behind}
 use Rattle.fast_units.proofs.OpenUnits.{field_open}
-use Rattle.fast_fields.specs.device.Readings.{IsFieldReading, IsCutInteger}
+use Rattle.fast_fields.specs.device.Readings.{IsFieldReading}
 use Rattle.fast_fields.specs.declared.reading.Reading.{Reading}
 use Rattle.fast_fields.proofs.Readings.{reading_after, cut_reading, next_unit}
 use Rattle.fast_fields.proofs.reading.read_units.Goals.{else-eq-via-then-eq+else-ne, else-eq-via-else-eq}
@@ -27,7 +27,7 @@ returns-in-Whole-Next-default-clause-reading c =
     let n = c.in-Whole-Next-default.count in
     let stage = c.in-Whole-Next-default.stage in
     let r = first_reader l f old in
-    let (some, within, same, is_stage, turns) = next_unit f old mid c.take_first.new.scratch.text l r w c.new-pending.result.bytes c.new-pending.ensures n
+    let (some, within, same, is_stage, turns) = next_unit f old mid c.take_first.new.scratch.text l r w n
     c.in-Whole-Next-default.field-0 stage c.in-Whole-Next-default.field-0-is c.in-Whole-Next-default.ensures.unit in
     subst (λ (x : Reading). IsFieldReading r f w old new text x) (sym c.shifted.ensures)
     (reading_after f old new text r (reader_behind l f old stage) w n c.read_later-reading.result within turns
@@ -40,12 +40,10 @@ returns-in-Cut-clause-reading c =
     let l = c.args.limits in
     let f = field_data c.args.field.now in
     let old = slots_dictionary c.args.slots.now in
-    let w = c.args.bytes.now in
     let other : ¬ (IsAsciiFirst f) = elim c.else-eq.branch [
       | else-eq-via-then-eq+else-ne w ↦ search rules
       | else-eq-via-else-eq w ↦ search rules
     ] in
-    let kept : c.take_first.new.pending.bytes ≡ w = c.in-Cut.ensures.pending ∙ ap (λ (u : List ℕ). u ++ w) c.new-pending.ensures in
-    cut_reading f old (slots_dictionary c.take_first.new.slots) c.take_first.new.scratch.text (first_reader l f old) w c.cut_integer.result
-    (λ v h. field_open l.strict (bounds l) f (previous_at f.entry old) v other c.requires.varies h) (c.in-Cut.ensures.unit.1)
-    (subst (λ (u : List ℕ). IsCutInteger u c.cut_integer.result) kept c.cut_integer.ensures)
+    cut_reading f old (slots_dictionary c.take_first.new.slots) c.take_first.new.scratch.text (first_reader l f old) c.args.bytes.now
+    c.integer_missing.result (λ v h. field_open l.strict (bounds l) f (previous_at f.entry old) v other c.requires.varies h) (c.in-Cut.ensures.unit.1)
+    c.in-Cut.ensures.short c.integer_missing.ensures

@@ -10,7 +10,7 @@ use Rattle.fast_items.proofs.ascii_items.sent_null.Goals as goal
 
 pub returns-else-not-put_null-clause-unit : goal.returns-else-not-put_null-clause-unit
 returns-else-not-put_null-clause-unit c room scratch =
-    let bare = text_bare c.args.optional room [] c.args.rest.now c.in-Some-eq128.field-0.now refl c.in-Some-eq128.ensures.value c.in-Some-eq128.field-0-test in
-    let next = subst (λ (b : Bool). IsNextText c.args.optional room [] c.args.rest.now [] (Whole (not b) 1)) c.if-not-optional.false bare in
+    let bare = text_bare c.args.optional room c.args.rest.now c.in-Some-eq128.field-0.now c.in-Some-eq128.ensures.value c.in-Some-eq128.field-0-test in
+    let next = subst (λ (b : Bool). IsNextText c.args.optional room c.args.rest.now [] (Whole (not b) 1)) c.if-not-optional.false bare in
     sent_whole c.args.optional c.args.operator c.args.entry room c.args.rest.now c.args.slots.now c.put_null.new.slots scratch Absent
     [] false 1 next (c.if-not-put_null.ensures.put refl scratch)

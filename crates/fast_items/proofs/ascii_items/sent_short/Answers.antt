@@ -1,5 +1,5 @@
 -- The text stands whole in the bytes.
-use Rattle.std.proofs.Common.{subst, take, List, [], ℕ, sym, refl}
+use Rattle.std.proofs.Common.{subst, take, List, ℕ, sym, refl}
 use Rattle.std.specs.Prelude.{true}
 use Rattle.fast_units.specs.device.NextUnits.{IsNextText}
 use Rattle.fast_items.specs.device.TextItems.{text_source}
@@ -13,8 +13,8 @@ returns-clause-unit c optional =
     let n = c.in_ok-count.count in
     let (small, long, next) = c.in_ok-count.ensures in
     let text : List ℕ = take n c.stripped-block.result in
-    let stands : IsNextText optional room [] c.args.rest.now text (Whole true n) =
-    subst (λ (w : List ℕ). IsNextText optional room [] c.args.rest.now (take n w) (Whole true n)) (sym c.stripped-block.ensures)
+    let stands : IsNextText optional room c.args.rest.now text (Whole true n) =
+    subst (λ (w : List ℕ). IsNextText optional room c.args.rest.now (take n w) (Whole true n)) (sym c.stripped-block.ensures)
     (next optional room c.requires.least) in
     sent_whole optional c.args.operator c.args.entry room c.args.rest.now c.args.slots.now c.put_short.new.slots
     c.put_short.new.scratch.text (text_source c.args.operator) text true n stands (c.if-not-put_short.ensures.put refl)

@@ -1,6 +1,6 @@
 -- It is kept nowhere.
 use Rattle.std.proofs.Common.{refl, inl, Option}
-use Rattle.std.specs.Prelude.{[], IfSome, Some, None}
+use Rattle.std.specs.Prelude.{IfSome, Some, None}
 use Rattle.fast_wire.specs.meaning.Integers.{exponent_range}
 use Rattle.fast_value.specs.declared.codes.Code.TheVariants.{R1}
 use Rattle.fast_value.specs.declared.kinds.Kind.TheVariants.{Decimal}
@@ -21,7 +21,7 @@ pub returns : goal.returns
 returns c = by c.whole_decimal.result c.whole_decimal.ensures
   where
     by : (o : Option TakenItem) → IfSome o (λ r. IsUnit (reader_of c.args.strict (integer exponent_range c.args.optional R1 decimal_from))
-        sent_number [] c.args.rest.bytes.now (Whole r.item r.bytes))
+        sent_number c.args.rest.bytes.now (Whole r.item r.bytes))
         → IfSome o (IsSentItem Decimal c.args.optional Op.None c.args.entry c.args.strict c.args.rest.bytes.now c.args.slots.now c.args.slots.now)
     by None h = tt
     by (Some r) h = λ f l scratch is serves.

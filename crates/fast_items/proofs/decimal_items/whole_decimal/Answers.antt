@@ -1,7 +1,7 @@
 -- One unit behind the other, or NULL.
 use Rattle.std.proofs.Common.{refl, sym, subst, ap, ◌∙◌, rules, to_z, of_z, FitsSigned}
 use Rattle.std.specs.Int.{w32, w64}
-use Rattle.std.specs.Prelude.{ℕ, [], false, Some}
+use Rattle.std.specs.Prelude.{ℕ, false, Some}
 use Rattle.std.proofs.lemmas.List.{take_rest}
 use Rattle.fast_fronts.specs.device.Fronts.{IsFirstInt}
 use Rattle.fast_fronts.specs.declared.fronts.First.TheVariants.{Whole}
@@ -45,7 +45,7 @@ pub returns-in-None : goal.returns-in-None
 returns-in-None c =
     let s = c.args.strict in
     let g = integer exponent_range c.args.optional R1 give in
-    let (some, within, t) = first_whole (λ x. x) s exponent_range c.args.optional R1 [] c.args.rest.bytes.now c.in_ok-item.item 1 refl
+    let (some, within, t) = first_whole (λ x. x) s exponent_range c.args.optional R1 c.args.rest.bytes.now c.in_ok-item.item 1
     (c.in_ok-item.ensures c.args.strict) in
     (some, within, turns_as refl (sym (ap (λ x. reader_of s (decimal_from x)) c.in-None.is)) (term_turns s g decimal_from t))
 

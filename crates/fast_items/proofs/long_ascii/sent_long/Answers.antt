@@ -10,9 +10,9 @@ use Rattle.fast_items.proofs.long_ascii.sent_long.Goals as goal
 
 pub returns-else-not-put_text-clause-unit : goal.returns-else-not-put_text-clause-unit
 returns-else-not-put_text-clause-unit c =
-    let bare = text_bare c.args.optional c.args.max_text [] c.args.rest.now c.in-Some-eq128.field-0.now refl c.in-Some-eq128.ensures.value
+    let bare = text_bare c.args.optional c.args.max_text c.args.rest.now c.in-Some-eq128.field-0.now c.in-Some-eq128.ensures.value
     c.in-Some-eq128.field-0-test in
-    let next = subst (λ (b : Bool). IsNextText c.args.optional c.args.max_text [] c.args.rest.now [] (Whole (not b) 1)) c.if-optional.false bare in
+    let next = subst (λ (b : Bool). IsNextText c.args.optional c.args.max_text c.args.rest.now [] (Whole (not b) 1)) c.if-optional.false bare in
     sent_whole c.args.optional c.args.operator c.args.entry c.args.max_text c.args.rest.now c.args.slots.now c.put_text.new.slots
     c.put_text.new.scratch.text (text_source c.args.operator) [] true 1 next (c.if-not-put_text.ensures.put refl)
 

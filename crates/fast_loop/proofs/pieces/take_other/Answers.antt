@@ -14,14 +14,14 @@ use Rattle.fast_loop.proofs.pieces.take_other.Goals as goal
 
 pub returns-in-Err-clause-fed : goal.returns-in-Err-clause-fed
 returns-in-Err-clause-fed g c =
-    let unit = c.take_next-unit in
+    let unit = c.take_unit-unit in
     unit_alone g.S.Sink.takes g.S.Sink.stops (set_of c.args.templates.now) c.args.limits.now c.args.machine.now c.args.rest.now c.args.sink.now
     unit.result.bytes unit.result.turn (Err c.in-Err.code) unit.new.sink unit.new.self
     (λ t e. absurd (cc (sym c.in-Err.is ∙ e))) (λ t e. absurd (cc (sym c.in-Err.is ∙ e))) (λ x e. cc (sym c.in-Err.is ∙ e)) unit.ensures.taken
 
 pub returns-in-Err-clause-turns : goal.returns-in-Err-clause-turns
 returns-in-Err-clause-turns g c way =
-    let unit = c.take_next-unit in
+    let unit = c.take_unit-unit in
     counted_one (set_of c.args.templates.now) c.args.limits.now c.args.machine.now unit.new.self unit.result.bytes unit.result.turn
     (Err c.in-Err.code) way unit.ensures.taken.some (unit.ensures.turns way)
     (λ t e. absurd (cc (sym c.in-Err.is ∙ e))) (λ t e. absurd (cc (sym c.in-Err.is ∙ e))) (λ x e. cc (sym c.in-Err.is ∙ e))
@@ -34,7 +34,7 @@ returns-in-Waits g c =
     let l = c.args.limits.now in
     let m = c.args.machine.now in
     let rest = c.args.rest.now in
-    let unit = c.take_next-unit in
+    let unit = c.take_unit-unit in
     let b = unit.new.self in
     let a = c.gather.new.self in
     let n = unit.result.bytes in
@@ -64,7 +64,7 @@ returns-in_default g c =
     let l = c.args.limits.now in
     let m = c.args.machine.now in
     let rest = c.args.rest.now in
-    let unit = c.take_next-unit in
+    let unit = c.take_unit-unit in
     let run = c.go_on-run in
     let taken : IsTakenTo takes stops set l (meaning set l m) rest c.args.sink.now unit.result.bytes (Ok c.in-Ok.turn) unit.new.sink unit.new.self =
     subst (λ (t : Result Turn FaultCode). IsTakenTo takes stops set l

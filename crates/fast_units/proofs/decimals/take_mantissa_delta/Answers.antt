@@ -1,15 +1,12 @@
 -- The mantissa behind its delta.
-use Rattle.std.proofs.Common.{refl, ◌++◌, rules, sym, ap, subst, to_z, of_z, FitsSigned, take, ◌≡◌, []}
+use Rattle.std.proofs.Common.{rules, sym, ap, subst, to_z, of_z, FitsSigned}
 use Rattle.std.specs.Int.{w32, w128}
-use Rattle.std.specs.Prelude.{false, Ok, Err}
-use Rattle.fast_wire.specs.meaning.Integers.{delta_range}
-use Rattle.fast_value.specs.declared.codes.Code.TheVariants.{D2}
+use Rattle.std.specs.Prelude.{Ok}
 use Rattle.fast_value.specs.meaning.Limits.{bounds}
 use Rattle.fast_tree.specs.meaning.Nodes.{field_data}
 use Rattle.fast_dict.specs.meaning.Dictionary.{previous_at}
 use Rattle.fast_dict.specs.meaning.Operators.{gives_none, mantissa_step}
 use Rattle.fast_dict.specs.meaning.Slots.{slots_dictionary}
-use Rattle.fast_stream.specs.meaning.Grammar.{give, integer}
 use Rattle.fast_stream.specs.device.GrammarReaders.{reader_of}
 use Rattle.fast_stream.specs.meaning.Fields.{mantissa_change}
 use Rattle.fast_units.specs.device.Stages.{term_behind}
@@ -18,9 +15,8 @@ use Rattle.fast_units.specs.device.Deciding.{IsDecided}
 use Rattle.fast_units.specs.declared.source.ValueSource.TheVariants as From
 use Rattle.fast_units.specs.declared.stages.Stage.TheVariants.{MantissaDelta}
 use Rattle.fast_units.proofs.Deciding.{none_decided}
+use Rattle.fast_units.specs.device.Words.{previous_of}
 use Rattle.fast_units.proofs.LastUnits.{mantissa_delta_field, last_unit, unit_stops, unit_stays, again}
-use Rattle.fast_units.proofs.TextUnits.{answered_whole, answered_more}
-use Rattle.fast_units.specs.declared.source.ValueSource.{ValueSource}
 use Rattle.fast_units.proofs.decimals.take_mantissa_delta.Goals as goal
 
 pub returns-in-Whole-Some-default-clause-unit : goal.returns-in-Whole-Some-default-clause-unit
@@ -31,11 +27,9 @@ returns-in-Whole-Some-default-clause-unit c scratch =
     let fits : FitsSigned w128 c.in-Whole-Some-default.delta = search rules in
     let exponent_fits : FitsSigned w32 c.args.exponent = search rules in
     subst (λ q. IsLastUnit (reader_of c.args.limits.strict (term_behind (bounds c.args.limits) f p (MantissaDelta c.args.exponent))) f
-    c.args.pending.now.bytes c.args.rest.now old (slots_dictionary c.change_mantissa.new.slots) scratch q) (sym c.settled.ensures)
-    (last_unit c.args.limits.strict (integer delta_range false D2 give) (mantissa_change f p c.args.exponent)
-    (reader_of c.args.limits.strict (term_behind (bounds c.args.limits) f p (MantissaDelta c.args.exponent)))
-    (ap (reader_of c.args.limits.strict) (mantissa_delta_field (bounds c.args.limits) f p c.args.exponent))
-    f c.args.pending.now.bytes c.args.rest.now old (slots_dictionary c.change_mantissa.new.slots) scratch c.in-Whole-Some-default.field-0
+    c.args.rest.now old (slots_dictionary c.change_mantissa.new.slots) scratch q) (sym c.answered.ensures)
+    (last_unit (mantissa_delta_field c.args.limits.strict (bounds c.args.limits) f p c.args.exponent)
+    f c.args.rest.now old (slots_dictionary c.change_mantissa.new.slots) scratch c.in-Whole-Some-default.field-0
     c.in-Whole-Some-default.bytes
     (mantissa_step f p c.args.exponent c.in-Whole-Some-default.delta) c.change_mantissa.result
     (ap (mantissa_change f p c.args.exponent) c.in-Whole-Some-default.field-0-is)
@@ -51,10 +45,8 @@ returns-in-Whole-None-default-clause-unit c scratch =
     let f = field_data c.args.field.now in
     let old = slots_dictionary c.args.slots.now in
     let p = previous_at f.entry old in
-    last_unit c.args.limits.strict (integer delta_range false D2 give) (mantissa_change f p c.args.exponent)
-    (reader_of c.args.limits.strict (term_behind (bounds c.args.limits) f p (MantissaDelta c.args.exponent)))
-    (ap (reader_of c.args.limits.strict) (mantissa_delta_field (bounds c.args.limits) f p c.args.exponent))
-    f c.args.pending.now.bytes c.args.rest.now old old scratch c.in-Whole-None-default.field-0 c.in-Whole-None-default.bytes
+    last_unit (mantissa_delta_field c.args.limits.strict (bounds c.args.limits) f p c.args.exponent)
+    f c.args.rest.now old old scratch c.in-Whole-None-default.field-0 c.in-Whole-None-default.bytes
     (gives_none p) (Ok From.Absent)
     (ap (mantissa_change f p c.args.exponent) c.in-Whole-None-default.field-0-is)
     (none_decided f old) c.in-Whole-None-default.ensures.unit
@@ -62,62 +54,13 @@ returns-in-Whole-None-default-clause-unit c scratch =
 pub returns-in-Wrong-clause-unit : goal.returns-in-Wrong-clause-unit
 returns-in-Wrong-clause-unit c scratch =
     let f = field_data c.args.field.now in
-    let p = previous_at f.entry (slots_dictionary c.args.slots.now) in
-    let (some, within, t) = c.in-Wrong.ensures.unit in (
-      some,
-      within,
-      unit_stops c.args.limits.strict (integer delta_range false D2 give) (mantissa_change f p c.args.exponent)
-          (reader_of c.args.limits.strict (term_behind (bounds c.args.limits) f p (MantissaDelta c.args.exponent)))
-          (ap (reader_of c.args.limits.strict) (mantissa_delta_field (bounds c.args.limits) f p c.args.exponent))
-          (c.args.pending.now.bytes ++ take c.in-Wrong.bytes c.args.rest.now) c.in-Wrong.code t,
-    )
+    let p = previous_of c.args.slots.now c.args.field.now in
+    unit_stops (mantissa_delta_field c.args.limits.strict (bounds c.args.limits) f p c.args.exponent)
+    c.args.rest.now c.in-Wrong.bytes c.in-Wrong.code c.in-Wrong.ensures.unit
 
 pub returns-in-Cut-clause-unit : goal.returns-in-Cut-clause-unit
 returns-in-Cut-clause-unit c scratch =
     let f = field_data c.args.field.now in
-    let p = previous_at f.entry (slots_dictionary c.args.slots.now) in (
-      unit_stays c.args.limits.strict (integer delta_range false D2 give) (mantissa_change f p c.args.exponent)
-          (reader_of c.args.limits.strict (term_behind (bounds c.args.limits) f p (MantissaDelta c.args.exponent)))
-          (ap (reader_of c.args.limits.strict) (mantissa_delta_field (bounds c.args.limits) f p c.args.exponent))
-          (c.args.pending.now.bytes ++ c.args.rest.now) c.in-Cut.ensures.unit,
-      refl,
-    )
-
-pub returns-in-Wrong-clause-whole : goal.returns-in-Wrong-clause-whole
-returns-in-Wrong-clause-whole c source n e = answered_more {T = ValueSource} (λ s. c.next_integer.new.pending.bytes ≡ [])
-    (Err c.in-Wrong.code) c.in-Wrong.bytes tt source n e
-
-pub returns-in-Wrong-clause-cut : goal.returns-in-Wrong-clause-cut
-returns-in-Wrong-clause-cut c e = absurd (answered_whole {T = ValueSource} (Err c.in-Wrong.code) c.in-Wrong.bytes e)
-
-pub returns-in-Wrong-clause-terms : goal.returns-in-Wrong-clause-terms
-returns-in-Wrong-clause-terms c = refl
-
-pub returns-in-Cut-clause-whole : goal.returns-in-Cut-clause-whole
-returns-in-Cut-clause-whole c source n e = absurd (answered_whole (Ok source) n (sym e))
-
-pub returns-in-Cut-clause-cut : goal.returns-in-Cut-clause-cut
-returns-in-Cut-clause-cut c e = c.in-Cut.ensures.cut refl
-
-pub returns-in-Cut-clause-terms : goal.returns-in-Cut-clause-terms
-returns-in-Cut-clause-terms c = refl
-
-pub returns-in-Whole-None-default-clause-cut : goal.returns-in-Whole-None-default-clause-cut
-returns-in-Whole-None-default-clause-cut c e = absurd (answered_whole (Ok _) c.in-Whole-None-default.bytes e)
-
-pub returns-in-Whole-None-default-clause-whole : goal.returns-in-Whole-None-default-clause-whole
-returns-in-Whole-None-default-clause-whole c source n e =
-    c.in-Whole-None-default.ensures.whole c.in-Whole-None-default.field-0 c.in-Whole-None-default.bytes refl
-
-pub returns-in-Whole-Some-default-clause-whole : goal.returns-in-Whole-Some-default-clause-whole
-returns-in-Whole-Some-default-clause-whole c source n e =
-    c.in-Whole-Some-default.ensures.whole c.in-Whole-Some-default.field-0 c.in-Whole-Some-default.bytes refl
-
-pub change_mantissa-requires : goal.change_mantissa-requires
-change_mantissa-requires c = record { serves = c.requires.serves }
-
-pub returns-in-Whole-Some-default-clause-terms : goal.returns-in-Whole-Some-default-clause-terms
-returns-in-Whole-Some-default-clause-terms c = c.change_mantissa.ensures.terms
-
-pub returns-in-Whole-None-default-clause-terms : goal.returns-in-Whole-None-default-clause-terms
-returns-in-Whole-None-default-clause-terms c = refl
+    let p = previous_of c.args.slots.now c.args.field.now in
+    unit_stays (mantissa_delta_field c.args.limits.strict (bounds c.args.limits) f p c.args.exponent)
+    c.args.rest.now _ c.in-Cut.ensures.unit

@@ -11,8 +11,8 @@ use Rattle.fast_units.specs.declared.stages.Stage.TheVariants.{Part}
 use Rattle.fast_units.proofs.TextUnits.{part_here}
 use Rattle.fast_units.proofs.text_deltas.part_next.Goals as goal
 
-pub returns-clause-step : goal.returns-clause-step
-returns-clause-step c limits scratch piece =
+pub returns : goal.returns
+returns c limits scratch piece =
     let f = field_data c.args.field.now in
     let old = slots_dictionary c.args.slots.now in
     let p = previous_at f.entry old in

@@ -29,7 +29,7 @@ returns-then-size-gt0-clause-step c kept e scratch piece =
     let (same, fits, next) = part_size_fits (bounds l) f p kept c.args.size c.in_ok-size.size sized in
     let (is_text, delta, found) = c.requires.stage in (
       refl,
-      (is_text, c.requires.kind, delta, (kept, wrapped ∙ e, omega (arith, same, fits))),
+      (is_text, c.requires.kind, delta, c.if-size-gt0.true, (kept, wrapped ∙ e, omega (arith, same, fits))),
       ap (reader_of l.strict) (next ∙ part_vector_here (bounds l) f p kept c.args.subtraction c.args.size e
           ∙ ap (λ (n : ℕ). term_behind (bounds l) f p (PartVector c.args.subtraction n)) (sym same)
           ∙ ap (λ (x : ℤ). term_behind (bounds l) f p (PartVector x c.in_ok-size.size)) (sym (to_z-of_z w32 c.args.subtraction c.ranges.subtraction))),
@@ -51,24 +51,6 @@ returns-clause-step c kept e scratch piece =
     (decided_as f old (slots_dictionary c.finish_part.new.slots) scratch piece c.finish_part.result
     (ap (λ (t : List ℕ). text_step f kept t) (sym c.clear.ensures.text)) (c.finish_part.ensures.field kept (wrapped ∙ e) scratch piece)))
 
-pub returns-in_err-size-clause-more : goal.returns-in_err-size-clause-more
-returns-in_err-size-clause-more c = rw ((err_from_is_err_and c.from_residual.result c.from_residual.ensures.1).1) tt
-
-pub part_room-room-requires : goal.part_room-room-requires
-part_room-room-requires c = c.requires.serves
-
-pub finish_part-requires-clause-serves : goal.finish_part-requires-clause-serves
-finish_part-requires-clause-serves c = c.requires.serves
-
-pub finish_part-requires-clause-text : goal.finish_part-requires-clause-text
-finish_part-requires-clause-text c = c.requires.stage.0
-
-pub finish_part-requires-clause-delta : goal.finish_part-requires-clause-delta
-finish_part-requires-clause-delta c = c.requires.stage.1
-
-pub finish_part-requires-clause-room : goal.finish_part-requires-clause-room
-finish_part-requires-clause-room c = rw c.clear.ensures.capacity c.requires.scratch
-
 pub returns-in_err-size-clause-step : goal.returns-in_err-size-clause-step
 returns-in_err-size-clause-step c kept e scratch piece =
     let l = c.args.limits in
@@ -80,24 +62,3 @@ returns-in_err-size-clause-step c kept e scratch piece =
     let sized = subst (λ (most : ℕ). (if nat_le c.args.size most then Ok c.args.size else Err L1) ≡ Err c.in_err-size.field-0.0) room
     (sym c.in_err-size.ensures) in
     rw (r.1, r.2) (ap (reader_of l.strict) (part_size_wrong (bounds l) f p kept c.args.size c.in_err-size.field-0.0 sized))
-
-pub returns-in_err-size-clause-terms : goal.returns-in_err-size-clause-terms
-returns-in_err-size-clause-terms c = refl
-
-pub returns-in_err-size-clause-scratch : goal.returns-in_err-size-clause-scratch
-returns-in_err-size-clause-scratch c = refl
-
-pub returns-then-size-gt0-clause-more : goal.returns-then-size-gt0-clause-more
-returns-then-size-gt0-clause-more c = c.if-size-gt0.true
-
-pub returns-then-size-gt0-clause-terms : goal.returns-then-size-gt0-clause-terms
-returns-then-size-gt0-clause-terms c = refl
-
-pub returns-then-size-gt0-clause-scratch : goal.returns-then-size-gt0-clause-scratch
-returns-then-size-gt0-clause-scratch c = refl
-
-pub returns-clause-terms : goal.returns-clause-terms
-returns-clause-terms c = c.finish_part.ensures.terms
-
-pub returns-clause-scratch : goal.returns-clause-scratch
-returns-clause-scratch c = c.finish_part.ensures.capacity ∙ c.clear.ensures.capacity

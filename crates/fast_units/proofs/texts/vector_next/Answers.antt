@@ -22,7 +22,7 @@ returns-then-size-gt0-clause-step c piece =
     let p = previous_at f.entry old in
     let (same, fits, next) = size_fits (bounds l) f p c.args.size c.in_ok-size.size (sym c.in_ok-size.ensures) in (
       refl,
-      (c.requires.text, c.requires.kind, c.requires.whole, c.requires.sent, omega (arith, same, fits)),
+      (c.requires.text, c.requires.kind, c.requires.whole, c.requires.sent, omega (arith, same, fits), c.if-size-gt0.true),
       ap (reader_of l.strict) (next ∙ ap (λ (n : ℕ). term_behind (bounds l) f p (Vector n)) (sym same)),
     )
 
@@ -38,4 +38,4 @@ returns-clause-step c piece =
     subst (λ r. IsStepped l (reader_of l.strict (behind_size (bounds l) f p (Some (pos c.args.size)))) f old after text piece r) (sym c.settled.ensures)
     (stepped l _ f old after text piece _ c.finish_held.result none
     (decided_as f old after text piece c.finish_held.result
-    (ap (λ (t : List ℕ). decide f p true (sent_text f.kind (Some t))) (sym c.requires.none)) (c.finish_held.ensures.field piece)))
+    (ap (λ (t : List ℕ). decide f p true (sent_text f.kind (Some t))) (sym c.clear.ensures.text)) (c.finish_held.ensures.field piece)))

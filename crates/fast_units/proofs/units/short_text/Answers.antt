@@ -1,6 +1,5 @@
-use Rattle.std.proofs.Common.{arith, ◌≡◌, ◌<◌, length, take, sym, ap, length-append}
+use Rattle.std.proofs.Common.{arith, ◌≡◌, ◌++◌, ◌∙◌, length, take, sym, ap, length-append}
 use Rattle.std.proofs.lemmas.List.{length-take-le}
-use Rattle.std.proofs.lemmas.List.Elements.{All-nil}
 use Rattle.fast_units.proofs.NextTexts.{text_whole}
 use Rattle.fast_units.proofs.units.short_text.Goals as goal
 
@@ -8,10 +7,9 @@ pub returns-clause-text : goal.returns-clause-text
 returns-clause-text c nullable =
     let stop = c.in_ok-last.ensures in
     let len : length (take 16 c.args.rest.now) ≡ 16 = length-take-le 16 c.args.rest.now (omega arith) in
-    text_whole nullable c.args.room c.args.scratch.now.text c.args.rest.now (rw c.requires.none (All-nil (λ b. b < 128)))
-    (rw c.requires.none c.requires.begins) 16 c.in_ok-last.last c.append_front.new.self.text c.push.new.self.text
-    (omega arith) (rw c.requires.none (omega arith)) stop.within stop.first stop.found
-    (c.type_inv.rest c.in_ok-last.last).fits c.append_front.ensures.text c.push.ensures.text
+    text_whole nullable c.args.room c.args.rest.now c.requires.begins 16 c.in_ok-last.last c.append_front.new.self.text c.push.new.self.text
+    (omega arith) (omega arith) stop.within stop.first stop.found (c.type_inv.rest c.in_ok-last.last).fits
+    (c.append_front.ensures.text ∙ ap (λ t. t ++ take c.in_ok-last.last (take 16 c.args.rest.now)) c.requires.none) c.push.ensures.text
 
 pub returns-in_err-last-clause-none : goal.returns-in_err-last-clause-none
 returns-in_err-last-clause-none c = rw c.from_residual.ensures c.requires.none

@@ -17,7 +17,7 @@ overflow_sub-result c =
     let r = first_reader c.args.limits f old in
     let front = c.args.self.now.bytes.text in
     let more = whole_after r f old (slots_dictionary c.read_field.new.slots) c.read_field.new.scratch.text front c.args.rest.now
-    c.as_slice.result.now c.len-held.result c.min-count.result c.len-held.ensures.len (c.as_slice.ensures ∙ c.append.ensures.text)
+    c.as_slice.result.now c.len-held.result c.min-count.result c.len-held.ensures.len (c.as_slice.ensures ∙ c.keep.ensures.text)
     (stays_now r front c.args.self.now.missing c.requires.carried.0) c.in-Whole.found c.in-Whole.ensures.reading in
     omega (arith, more)
 
@@ -28,7 +28,7 @@ overflow_sub-result-in-Wrong c =
     let r = first_reader c.args.limits f old in
     let front = c.args.self.now.bytes.text in
     let more = wrong_after r f old (slots_dictionary c.read_field.new.slots) c.read_field.new.scratch.text front c.args.rest.now
-    c.as_slice.result.now c.len-held.result c.min-count.result c.len-held.ensures.len (c.as_slice.ensures ∙ c.append.ensures.text)
+    c.as_slice.result.now c.len-held.result c.min-count.result c.len-held.ensures.len (c.as_slice.ensures ∙ c.keep.ensures.text)
     (stays_now r front c.args.self.now.missing c.requires.carried.0) c.in-Wrong.code c.in-Wrong.bytes c.in-Wrong.ensures.reading in
     omega (arith, more)
 
@@ -39,7 +39,7 @@ returns-in-Whole-clause-unit c =
     let r = first_reader c.args.limits f old in
     let front = c.args.self.now.bytes.text in
     whole_carried r f old (slots_dictionary c.read_field.new.slots) c.read_field.new.scratch.text front c.args.rest.now
-    c.as_slice.result.now c.len-held.result c.min-count.result c.len-held.ensures.len (c.as_slice.ensures ∙ c.append.ensures.text)
+    c.as_slice.result.now c.len-held.result c.min-count.result c.len-held.ensures.len (c.as_slice.ensures ∙ c.keep.ensures.text)
     (stays_now r front c.args.self.now.missing c.requires.carried.0) c.in-Whole.found c.in-Whole.ensures.reading
 
 pub returns-in-Whole-clause-held : goal.returns-in-Whole-clause-held
@@ -50,9 +50,9 @@ returns-in-Whole-clause-held c found n e =
     let front = c.args.self.now.bytes.text in
     let same : c.in-Whole.found ≡ found = cc e in
     let count : c.in-Whole.found.bytes - c.len-held.result ≡ n = cc e in
-    ap (λ (x : WholeField). take x.bytes c.append.new.self.text) (sym same) ∙ ap (take c.in-Whole.found.bytes) (sym c.as_slice.ensures)
+    ap (λ (x : WholeField). take x.bytes c.keep.new.self.text) (sym same) ∙ ap (take c.in-Whole.found.bytes) (sym c.as_slice.ensures)
     ∙ whole_bytes r f old (slots_dictionary c.read_field.new.slots) c.read_field.new.scratch.text front c.args.rest.now
-    c.as_slice.result.now c.len-held.result c.min-count.result c.len-held.ensures.len (c.as_slice.ensures ∙ c.append.ensures.text)
+    c.as_slice.result.now c.len-held.result c.min-count.result c.len-held.ensures.len (c.as_slice.ensures ∙ c.keep.ensures.text)
     (stays_now r front c.args.self.now.missing c.requires.carried.0) c.in-Whole.found c.in-Whole.ensures.reading
     ∙ ap (λ (k : ℕ). front ++ take k c.args.rest.now) count
 
@@ -63,7 +63,7 @@ returns-in-Wrong-clause-unit c =
     let r = first_reader c.args.limits f old in
     let front = c.args.self.now.bytes.text in
     wrong_carried r f old (slots_dictionary c.read_field.new.slots) c.read_field.new.scratch.text front c.args.rest.now
-    c.as_slice.result.now c.len-held.result c.min-count.result c.len-held.ensures.len (c.as_slice.ensures ∙ c.append.ensures.text)
+    c.as_slice.result.now c.len-held.result c.min-count.result c.len-held.ensures.len (c.as_slice.ensures ∙ c.keep.ensures.text)
     (stays_now r front c.args.self.now.missing c.requires.carried.0) c.in-Wrong.code c.in-Wrong.bytes c.in-Wrong.ensures.reading
 
 pub returns-in-More-clause-unit : goal.returns-in-More-clause-unit
@@ -72,7 +72,7 @@ returns-in-More-clause-unit c =
     let w = c.as_slice.result.now in
     let (undecided, same) = c.in-More.ensures.reading in
     let all = all_taken c.args.self.now.bytes.text c.args.rest.now w c.min-count.result c.room.result c.args.self.now.bytes.capacity
-    c.in-More.missing.bytes (c.as_slice.ensures ∙ c.append.ensures.text) c.min-count.ensures c.room.ensures
+    c.in-More.missing.bytes (c.as_slice.ensures ∙ c.keep.ensures.text) c.min-count.ensures c.room.ensures
     (subst (λ (n : ℕ). length w + c.in-More.missing.bytes ≤ n) (sym c.requires.capacity) c.in-More.ensures.bounded) undecided.0 in
     (subst (λ (u : List ℕ). Stays r u) all (stays_now r w c.in-More.missing undecided), same)
 
@@ -82,7 +82,7 @@ returns-in-More-clause-cut c _ =
     let w = c.as_slice.result.now in
     let (undecided, same) = c.in-More.ensures.reading in
     let all = all_taken c.args.self.now.bytes.text c.args.rest.now w c.min-count.result c.room.result c.args.self.now.bytes.capacity
-    c.in-More.missing.bytes (c.as_slice.ensures ∙ c.append.ensures.text) c.min-count.ensures c.room.ensures
+    c.in-More.missing.bytes (c.as_slice.ensures ∙ c.keep.ensures.text) c.min-count.ensures c.room.ensures
     (subst (λ (n : ℕ). length w + c.in-More.missing.bytes ≤ n) (sym c.requires.capacity) c.in-More.ensures.bounded) undecided.0 in (
       sym c.as_slice.ensures ∙ all,
       (

@@ -1,0 +1,27 @@
+-- A decimal that is read at once is the whole field.
+use Rattle.std.proofs.Common.{sym, subst, arith}
+use Rattle.std.specs.Prelude.{List, ℕ}
+use Rattle.fast_value.specs.meaning.Limits.{bounds}
+use Rattle.fast_tree.specs.meaning.Nodes.{field_data}
+use Rattle.fast_dict.specs.meaning.Slots.{slots_dictionary}
+use Rattle.fast_units.specs.device.Deciding.{source_of}
+use Rattle.fast_units.specs.device.Settling.{GivesWhole}
+use Rattle.fast_units.specs.device.TextDecisions.{first_reader}
+use Rattle.fast_fields.specs.declared.reading.Reading.TheVariants.{Whole}
+use Rattle.fast_fields.specs.declared.reading.WholeField.{WholeField}
+use Rattle.fast_fields.specs.device.Readings.{IsFieldReading}
+use Rattle.fast_fields.proofs.numbers.whole_decimal.Goals as goal
+
+pub returns-clause-whole : goal.returns-clause-whole
+returns-clause-whole c scratch =
+    let l = c.args.limits in
+    let f = field_data c.args.field.now in
+    let old = slots_dictionary c.args.slots.now in
+    let new = slots_dictionary c.sent_decimal.new.slots in
+    let r = first_reader l f old in
+    let taken = c.in_ok-taken.taken in
+    subst (λ (x : WholeField). IsFieldReading r f c.args.bytes.now old new scratch (Whole x)) (sym c.item_field.ensures) (
+      omega arith,
+      subst (λ (w : List ℕ). GivesWhole r f w old new scratch (source_of taken.item) 0 taken.bytes) c.new.ensures
+          (c.in_ok-taken.ensures.unit (bounds l) scratch),
+    )
