@@ -1,7 +1,8 @@
 -- Bytes of a field that are carried, and those after them.
 use Rattle.std.proofs.Common.{refl, inl, sym, ap, ◌∙◌, subst, arith, append_assoc, append-nil, length-append}
-use Rattle.std.specs.Prelude.{◌≡◌, ◌≢◌, ℕ, ◌+◌, ◌-◌, ◌<◌, ◌≤◌, Bool, true, List, [], ◌∷◌, ◌++◌, length, min, take, drop}
+use Rattle.std.specs.Prelude.{◌≡◌, ◌≢◌, ℕ, ◌+◌, ◌-◌, ◌<◌, ◌≤◌, ◌==◌, Bool, true, false, List, [], ◌∷◌, ◌++◌, length, min, take, drop}
 use Rattle.std.proofs.Math.Seq.{take-append-add}
+use Rattle.std.proofs.lemmas.Bool.Decides.{nat_tests}
 use Rattle.std.proofs.lemmas.List.{take-append-drop, take-append-le, length-take, take_all}
 use Rattle.std.proofs.lemmas.List.Elements.{All-append}
 use Rattle.fast_wire.specs.meaning.Entities.{HaveNoStop}
@@ -25,7 +26,7 @@ use Rattle.fast_fields.specs.declared.reading.Missing.{Missing}
 use Rattle.fast_fields.specs.declared.reading.WholeField.{WholeField}
 use Rattle.fast_fields.specs.declared.reading.Reading.TheVariants.{Whole, Wrong}
 use Rattle.fast_fields.specs.device.Readings.{IsUndecided, IsFieldReading}
-use Rattle.fast_fields.specs.device.Carries.{IsCarriedUnit}
+use Rattle.fast_fields.specs.device.Carries.{IsCarriedUnit, at_hand}
 
 -- A reader that is undecided after bytes waits there.
 pub stays_now : {A : Type 0} (r : Reader A) (w : List ℕ) (m : Missing) → IsUndecided r w m → Stays r w
@@ -129,13 +130,26 @@ module _ (r : Reader Outcome) (f : FieldData) (old new : Dictionary) (scratch fr
       )
 
 -- If something is missing of as many bytes as there is room for, all of the rest is among them.
-pub all_taken : (front rest w : List ℕ) (count room capacity missing : ℕ) → w ≡ front ++ take count rest → count ≡ min (length rest) room
-    → length front + room ≡ capacity → length w + missing ≤ capacity → 0 < missing → w ≡ front ++ rest
-all_taken front rest w count room capacity missing all least sum fits some =
+pub all_taken : (front rest w : List ℕ) (count capacity missing : ℕ) → w ≡ front ++ take count rest
+    → min (length rest) (capacity - length front) ≤ count → length w + missing ≤ capacity → 0 < missing → w ≡ front ++ rest
+all_taken front rest w count capacity missing all least fits some =
     let len = ap length all ∙ length-append front (take count rest) in
     let size = length-take count rest in
-    let whole : length rest ≤ count = omega (arith, len, size, least, sum, fits, some) in
+    let whole : length rest ≤ count = omega (arith, len, size, least, fits, some) in
     all ∙ ap (λ u. front ++ u) (take_all count rest whole)
+
+-- The bytes that are at hand, without any that are carried, and with some.
+pub none_held : (w : List ℕ) → true ≡ (length w == 0) → w ≡ []
+none_held [] e = refl
+none_held (b ∷ w) e = let none : length (b ∷ w) ≡ 0 = grind (arith, nat_tests) in absurd (omega (arith, none))
+
+pub hand_more : (w v rest : List ℕ) → false ≡ (length w == 0) → at_hand (w ++ v) rest ≡ w ++ v
+hand_more [] v rest e = cc e
+hand_more (b ∷ w) v rest e = refl
+
+pub hand_some : (w rest : List ℕ) → false ≡ (length w == 0) → at_hand w rest ≡ w
+hand_some [] rest e = cc e
+hand_some (b ∷ w) rest e = refl
 
 -- An ASCII string of which no byte is there.
 pub none_open : (s : Bool) (l : Bounds) (f : FieldData) (p : PreviousData) (v : List ℕ) → IsAsciiFirst f → f.operator ≢ Constant

@@ -1,7 +1,7 @@
 //! The bytes of a field that pieces split. They are carried until the field is complete: each time something more may be decided, it is read
 //! again from its first byte.
 
-ghost use Rattle.std.specs.Prelude.{◌≡◌, ◌≢◌, ◌+◌, ◌≤◌, ◌++◌, ℕ, [], length, take, true, false, IfOk};
+ghost use Rattle.std.specs.Prelude.{◌≡◌, ◌≢◌, ◌+◌, ◌-◌, ◌≤◌, ◌++◌, ℕ, [], length, min, take, true, false, IfOk};
 ghost use Rattle.fast_value.specs.meaning.Limits.{bounds};
 ghost use Rattle.fast_tree.specs.meaning.Nodes.{field_data};
 ghost use Rattle.fast_dict.specs.meaning.Dictionary.{PreviousData};
@@ -12,7 +12,7 @@ ghost use Rattle.fast_stream.specs.device.GrammarReaders.{reader_of};
 ghost use Rattle.fast_stream.specs.meaning.Fields.{field_term};
 ghost use Rattle.fast_units.specs.device.TextDecisions.{first_reader};
 ghost use Rattle.fast_units.specs.device.Words.{HasTextLimit, HasRoomFor, ServesField};
-ghost use Rattle.fast_fields.specs.device.Carries.{IsCarried, IsCarriedUnit};
+ghost use Rattle.fast_fields.specs.device.Carries.{IsCarried, IsCarriedUnit, at_hand};
 ghost use Rattle.fast_fields.specs.device.Readings.{IsUndecided};
 
 use crate::begun::{is_string, string_missing};
@@ -66,10 +66,8 @@ impl Carry {
         ensures capacity { self.new.bytes.capacity ≡ self.old.bytes.capacity }
     {
         self.bytes.clear();
-        self.missing = Missing {
-            bytes: first_missing(field),
-            stops: true,
-        };
+        self.missing.bytes = first_missing(field);
+        self.missing.stops = true;
     }
 
     /// Appends all of the rest, if it decides nothing more of the field. If the result is `false`, nothing has changed.
@@ -119,8 +117,72 @@ impl Carry {
         true
     }
 
+    /// Carries all of the rest as [`Carry::begins_string`] does, if no byte of the field is carried yet.
+    #[inline(always)]
+    fn carries_string(
+        &mut self,
+        slots: &Slots,
+        field: &FieldInstruction,
+        rest: &[u8],
+        limits: Limits,
+    ) -> bool
+        requires serves { ServesField slots.now field.now }
+        requires limit { HasTextLimit slots.now limits }
+        requires varies { field.now.operator ≢ Operator.Constant }
+        requires capacity { self.old.bytes.capacity ≡ 22 + limits.max_text }
+        ensures bytes { result ≡ true → (self.old.bytes.text ≡ []) × (self.new.bytes.text ≡ rest.now) }
+        ensures carried { result ≡ true → IsCarried limits (first_reader limits (field_data field.now)
+            (slots_dictionary slots.now)) self.new }
+        ensures capacity { self.new.bytes.capacity ≡ self.old.bytes.capacity }
+        ensures same { result ≡ false → self.new ≡ self.old }
+    {
+        self.bytes.is_empty()
+            && is_string(field.kind)
+            && self.begins_string(slots, field, rest, limits)
+    }
+
+    /// Returns the bytes from the field's first one on: those that are carried, or those of the rest if none is.
+    #[inline(always)]
+    pub fn at_hand<'x>(&'x self, rest: &'x [u8]) -> &'x [u8]
+        ensures { result.now ≡ at_hand self.now.bytes.text rest.now }
+    {
+        if self.bytes.is_empty() {
+            return rest;
+        }
+        self.bytes.as_slice()
+    }
+
+    /// Appends as many bytes of the rest as the field may have at most, if some are carried.
+    #[inline(always)]
+    fn take_up(&mut self, rest: &[u8])
+        ensures joined { (count : ℕ) × (at_hand self.new.bytes.text rest.now ≡ self.old.bytes.text ++ take count rest.now)
+            × (min (length rest.now) (self.old.bytes.capacity - length self.old.bytes.text) ≤ count) }
+        ensures capacity { self.new.bytes.capacity ≡ self.old.bytes.capacity }
+    {
+        if self.bytes.is_empty() {
+            return;
+        }
+        let count = rest.len().min(self.bytes.room());
+        self.bytes.keep(&rest[..count]);
+    }
+
+    /// Carries all bytes that are at hand, those of the rest among them.
+    #[inline(always)]
+    fn go_on(&mut self, rest: &[u8], missing: Missing)
+        requires { length (at_hand self.old.bytes.text rest.now) ≤ self.old.bytes.capacity }
+        ensures bytes { self.new.bytes.text ≡ at_hand self.old.bytes.text rest.now }
+        ensures missing { self.new.missing ≡ missing }
+        ensures capacity { self.new.bytes.capacity ≡ self.old.bytes.capacity }
+    {
+        if self.bytes.is_empty() {
+            self.bytes.append(rest);
+        }
+        self.missing = missing;
+    }
+
     /// Reads the field from the bytes that are carried and those of the rest. If it is cut, all of the rest is carried too. If it is
-    /// complete, and some of its bytes were carried, all of them are there, so that its value can be borrowed from them.
+    /// complete, all of its bytes are at hand, so that its value can be borrowed from them.
+    #[inline(always)]
     pub fn read(
         &mut self,
         slots: &mut Slots,
@@ -139,62 +201,32 @@ impl Carry {
         ensures unit { IsCarriedUnit (first_reader limits (field_data field.now) (slots_dictionary slots.old))
             (field_data field.now) self.old.bytes.text rest.now (slots_dictionary slots.old)
             (slots_dictionary slots.new) text.new.text result }
-        ensures held { (found : WholeField) (n : ℕ) → result ≡ Progress.Whole found n → self.old.bytes.text ≢ []
-            → take found.bytes self.new.bytes.text ≡ self.old.bytes.text ++ take n rest.now }
+        ensures held { (found : WholeField) (n : ℕ) → result ≡ Progress.Whole found n
+            → take found.bytes (at_hand self.new.bytes.text rest.now) ≡ self.old.bytes.text ++ take n rest.now }
         ensures cut { result ≡ Progress.Cut → (self.new.bytes.text ≡ self.old.bytes.text ++ rest.now)
             × IsCarried limits (first_reader limits (field_data field.now) (slots_dictionary slots.old)) self.new }
         ensures terms { slots_terms slots.new ≡ slots_terms slots.old }
         ensures capacity { (self.new.bytes.capacity ≡ self.old.bytes.capacity)
             × (text.new.capacity ≡ text.old.capacity) }
     {
-        if self.bytes.is_empty() {
-            return self.read_first(slots, text, field, rest, limits);
-        }
-        self.read_again(slots, text, field, rest, limits)
-    }
-
-    /// Reads a field of which no byte is carried.
-    #[inline(always)]
-    fn read_first(
-        &mut self,
-        slots: &mut Slots,
-        text: &mut Scratch,
-        field: &FieldInstruction,
-        rest: &[u8],
-        limits: Limits,
-    ) -> Progress<WholeField>
-        requires serves { ServesField slots.old field.now }
-        requires limit { HasTextLimit slots.old limits }
-        requires room { HasRoomFor slots.old text.old }
-        requires varies { field.now.operator ≢ Operator.Constant }
-        requires capacity { self.old.bytes.capacity ≡ 22 + limits.max_text }
-        requires none { self.old.bytes.text ≡ [] }
-        ensures unit { IsCarriedUnit (first_reader limits (field_data field.now) (slots_dictionary slots.old))
-            (field_data field.now) [] rest.now (slots_dictionary slots.old) (slots_dictionary slots.new) text.new.text
-            result }
-        ensures cut { result ≡ Progress.Cut → (self.new.bytes.text ≡ rest.now)
-            × IsCarried limits (first_reader limits (field_data field.now) (slots_dictionary slots.old)) self.new }
-        ensures terms { slots_terms slots.new ≡ slots_terms slots.old }
-        ensures capacity { (self.new.bytes.capacity ≡ self.old.bytes.capacity)
-            × (text.new.capacity ≡ text.old.capacity) }
-    {
-        if is_string(field.kind) && self.begins_string(slots, field, rest, limits) {
+        if self.carries_string(slots, field, rest, limits) {
             return Progress::Cut;
         }
-        match read_field(slots, text, field, rest, limits) {
-            Reading::Whole(found) => Progress::Whole(found, found.bytes),
-            Reading::Wrong(code, bytes) => Progress::Wrong(code, bytes),
+        let held = self.bytes.len();
+        self.take_up(rest);
+        match read_field(slots, text, field, self.at_hand(rest), limits) {
+            Reading::Whole(found) => Progress::Whole(found, found.bytes - held),
+            Reading::Wrong(code, bytes) => Progress::Wrong(code, bytes - held),
             Reading::More(missing) => {
-                self.bytes.append(rest);
-                self.missing = missing;
+                self.go_on(rest, missing);
                 Progress::Cut
             }
         }
     }
 
-    /// Reads a field of which some bytes are carried, together with as many of the rest as it may have at most.
-    #[inline(always)]
-    fn read_again(
+    /// Reads an integer as [`Carry::read`] does, out of line: the length of a sequence, the exponent or the mantissa of a decimal.
+    #[inline(never)]
+    pub fn read_integer(
         &mut self,
         slots: &mut Slots,
         text: &mut Scratch,
@@ -212,25 +244,13 @@ impl Carry {
         ensures unit { IsCarriedUnit (first_reader limits (field_data field.now) (slots_dictionary slots.old))
             (field_data field.now) self.old.bytes.text rest.now (slots_dictionary slots.old)
             (slots_dictionary slots.new) text.new.text result }
-        ensures held { (found : WholeField) (n : ℕ) → result ≡ Progress.Whole found n
-            → take found.bytes self.new.bytes.text ≡ self.old.bytes.text ++ take n rest.now }
         ensures cut { result ≡ Progress.Cut → (self.new.bytes.text ≡ self.old.bytes.text ++ rest.now)
             × IsCarried limits (first_reader limits (field_data field.now) (slots_dictionary slots.old)) self.new }
         ensures terms { slots_terms slots.new ≡ slots_terms slots.old }
         ensures capacity { (self.new.bytes.capacity ≡ self.old.bytes.capacity)
             × (text.new.capacity ≡ text.old.capacity) }
     {
-        let held = self.bytes.len();
-        let count = rest.len().min(self.bytes.room());
-        self.bytes.keep(&rest[..count]);
-        match read_field(slots, text, field, self.bytes.as_slice(), limits) {
-            Reading::Whole(found) => Progress::Whole(found, found.bytes - held),
-            Reading::Wrong(code, bytes) => Progress::Wrong(code, bytes - held),
-            Reading::More(missing) => {
-                self.missing = missing;
-                Progress::Cut
-            }
-        }
+        self.read(slots, text, field, rest, limits)
     }
 }
 

@@ -218,7 +218,10 @@ pub(crate) fn whole_number(
         Kind::UInt32 | Kind::Int32 | Kind::UInt64 | Kind::Int64 => {
             whole_integer(slots, field, bytes, limits)
         }
-        Kind::Decimal => whole_decimal(slots, field, bytes, limits),
+        Kind::Decimal => {
+            let found = whole_decimal(slots, field, bytes, limits)?;
+            Some(found)
+        }
         Kind::Ascii | Kind::Unicode | Kind::Bytes => None,
     }
 }

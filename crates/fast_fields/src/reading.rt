@@ -322,7 +322,8 @@ fn whole_field(
     ensures capacity { scratch.new.capacity ≡ scratch.old.capacity }
 {
     if is_string(field.kind) {
-        return whole_string(slots, scratch, field, bytes, limits);
+        let found = whole_string(slots, scratch, field, bytes, limits)?;
+        return Some(found);
     }
     whole_number(slots, field, bytes, limits)
 }
@@ -350,8 +351,13 @@ pub fn read_field(
     ensures terms { slots_terms slots.new ≡ slots_terms slots.old }
     ensures capacity { scratch.new.capacity ≡ scratch.old.capacity }
 {
-    match whole_field(slots, scratch, field, bytes, limits) {
-        Some(found) => Reading::Whole(found),
-        None => read_units(slots, scratch, field, bytes, limits),
+    if let Some(found) = whole_field(slots, scratch, field, bytes, limits) {
+        return Reading::Whole(found);
+    }
+    // made anew: a result that a call writes stays in memory, on the path above too
+    match read_units(slots, scratch, field, bytes, limits) {
+        Reading::Whole(found) => Reading::Whole(found),
+        Reading::Wrong(code, bytes) => Reading::Wrong(code, bytes),
+        Reading::More(missing) => Reading::More(missing),
     }
 }

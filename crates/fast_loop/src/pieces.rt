@@ -5,7 +5,8 @@ ghost use Rattle.fast_value.specs.declared.settings.Limits.{Limits};
 ghost use Rattle.fast_machine.specs.declared.machine.Machine.{Machine};
 ghost use Rattle.fast_machine.specs.device.Handing.{Fed, waiting_at};
 ghost use Rattle.fast_machine.specs.device.Steps.{IsCountedBy, IsStep};
-ghost use Rattle.fast_machine.specs.device.TurnsLeft.{Way, most_by, HasTurnsWaiting};
+ghost use Rattle.fast_machine.specs.device.TurnsLeft.{Way, most_by, HasTurnsWaiting, HasTurnsBehind, turns_begun_at};
+ghost use Rattle.fast_machine.specs.device.Words.{TakesUnit};
 ghost use Rattle.fast_machine.specs.device.Positions.{set_of, tree_in, CanTurn, IsSupplied, IsReady, meaning};
 ghost use Rattle.fast_machine.specs.declared.machine.Turn.{Turn};
 
@@ -101,8 +102,37 @@ fn take_units<'t, S: Sink>(
     }
 }
 
-/// Reads one unit, or the part of it that is there, and all units after it that are for the loop. A piece that begins with a message, as a
-/// packet does, has the shortest way.
+/// Reads the first unit of the rest, or the part of it that is there. A piece that begins with a message, as a packet does, has the
+/// shortest way.
+#[inline(always)]
+fn take_first<'t, S: Sink>(
+    machine: &mut Machine<'t>,
+    templates: &'t Templates,
+    limits: Limits,
+    rest: &[u8],
+    sink: &mut S,
+) -> UnitTaken
+    requires ready { IsReady (set_of templates.now) limits machine.old }
+    requires some { 0 < length rest.now }
+    ensures taken { TakesUnit S.takes S.stops (set_of templates.now) limits machine.old rest.now sink.old result
+        sink.new machine.new }
+    ensures turns { (way : Way) (n : ℕ) → HasTurnsWaiting way (set_of templates.now) limits n machine.old
+        → HasTurnsBehind result.turn way (set_of templates.now) limits
+        (1 + n + turns_begun_at machine.old.waiting machine.old.cursor.map way (tree_in (set_of templates.now)) limits)
+        machine.new }
+{
+    if let Some(unit) = begin_first(machine, templates, limits, rest, sink) {
+        return unit;
+    }
+    // made anew: a result that a call writes stays in memory, on the path above too
+    let unit = machine.take_unit(templates, limits, rest, sink);
+    UnitTaken {
+        bytes: unit.bytes,
+        turn: unit.turn,
+    }
+}
+
+/// Reads one unit, or the part of it that is there, and all units after it that are for the loop.
 #[inline(always)]
 fn take_some<'t, S: Sink>(
     machine: &mut Machine<'t>,
@@ -123,46 +153,7 @@ fn take_some<'t, S: Sink>(
     ensures turns { (way : Way) → IsCountedBy result.outcome way (set_of templates.now) limits.now result.bytes machine.old
         machine.new }
 {
-    let Some(unit) = begin_first(machine, templates, *limits, rest, sink) else {
-        return take_other(machine, templates, limits, rest, sink);
-    };
-    match unit.turn {
-        Err(code) => PieceTaken {
-            bytes: unit.bytes,
-            outcome: Err(code),
-        },
-        Ok(_) => {
-            let run = go_on(machine, templates, limits, &rest[unit.bytes..], sink);
-            PieceTaken {
-                bytes: unit.bytes + run.bytes,
-                outcome: run.outcome(),
-            }
-        }
-    }
-}
-
-/// Reads as [`take_some`] does, whatever the machine waits for.
-#[inline(never)]
-fn take_other<'t, S: Sink>(
-    machine: &mut Machine<'t>,
-    templates: &'t Templates,
-    limits: &Limits,
-    rest: &[u8],
-    sink: &mut S,
-) -> PieceTaken
-    requires ready { IsReady (set_of templates.now) limits.now machine.old }
-    requires some { 0 < length rest.now }
-    ensures some { 0 < result.bytes }
-    ensures within { result.bytes ≤ length rest.now }
-    ensures fed { Fed S.takes S.stops (tree_in (set_of templates.now)) limits.now
-        (waiting_at (meaning (set_of templates.now) limits.now machine.old)) (take result.bytes rest.now)
-        sink.old result.outcome sink.new (waiting_at (meaning (set_of templates.now) limits.now machine.new)) }
-    ensures ready { OnOk result.outcome (IsReady (set_of templates.now) limits.now machine.new) }
-    ensures supplied { IsSupplied (set_of templates.now) limits.now machine.new }
-    ensures turns { (way : Way) → IsCountedBy result.outcome way (set_of templates.now) limits.now result.bytes machine.old
-        machine.new }
-{
-    let unit = machine.take_unit(templates, *limits, rest, sink);
+    let unit = take_first(machine, templates, *limits, rest, sink);
     match unit.turn {
         Err(code) => PieceTaken {
             bytes: unit.bytes,

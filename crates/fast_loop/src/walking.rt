@@ -53,7 +53,7 @@ fn op_at<'t>(
     place.op()
 }
 
-/// Makes a step on the general path. That a field waits for its unit is by far the most common turn, and is tested first. It is marked as
+/// Makes a step on the general path. A field that is in the stream is by far the most common case, and is tested first. It is marked as
 /// cold so that the loop's registers are allocated for the arms.
 #[cold]
 #[inline(never)]
@@ -70,10 +70,8 @@ fn general_step<'t, S: Sink>(
         machine.new }
     ensures waits { (t : Turn) → result.turn ≡ Ok t → t ≢ Turn.Waits → machine.new.waiting ≡ Waiting.Field }
 {
-    if !rest.is_empty() {
-        if let Some((node, field)) = machine.sent_field(templates, *limits) {
-            return machine.step_by_field(templates, *limits, node, field, rest, sink);
-        }
+    if let Some((node, field)) = machine.sent_field(templates, *limits) {
+        return machine.step_by_field(templates, *limits, node, field, rest, sink);
     }
     machine.step_by_turn(templates, *limits, rest, sink)
 }

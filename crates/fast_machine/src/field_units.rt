@@ -66,22 +66,16 @@ impl<'t> Machine<'t> {
             sink.new self.new }
         ensures turns { PaysTurns (set_of templates.now) limits 1 self.old result.turn self.new }
     {
-        let carried = !self.carry.bytes.is_empty();
         match self
             .carry
             .read(&mut self.slots, &mut self.text, field, rest, limits)
         {
             Progress::Cut => UnitTaken::cut(rest),
             Progress::Wrong(code, bytes) => UnitTaken::wrong(code, bytes),
-            Progress::Whole(found, bytes) => {
-                let turn = if carried {
-                    self.finish_carried(node, field, found, sink)
-                } else {
-                    let piece = &rest[found.from..bytes];
-                    self.finish(node, field, found.source, piece, sink)
-                };
-                UnitTaken { bytes, turn }
-            }
+            Progress::Whole(found, bytes) => UnitTaken {
+                bytes,
+                turn: self.finish_read(node, field, found, rest, sink),
+            },
         }
     }
 
@@ -110,7 +104,7 @@ impl<'t> Machine<'t> {
     {
         match self
             .carry
-            .read(&mut self.slots, &mut self.text, exponent, rest, limits)
+            .read_integer(&mut self.slots, &mut self.text, exponent, rest, limits)
         {
             Progress::Cut => UnitTaken::cut(rest),
             Progress::Wrong(code, bytes) => UnitTaken::wrong(code, bytes),
@@ -151,7 +145,7 @@ impl<'t> Machine<'t> {
     {
         match self
             .carry
-            .read(&mut self.slots, &mut self.text, length, rest, limits)
+            .read_integer(&mut self.slots, &mut self.text, length, rest, limits)
         {
             Progress::Cut => UnitTaken::cut(rest),
             Progress::Wrong(code, bytes) => UnitTaken::wrong(code, bytes),
@@ -187,7 +181,7 @@ impl<'t> Machine<'t> {
         };
         match self
             .carry
-            .read(&mut self.slots, &mut self.text, mantissa, rest, limits)
+            .read_integer(&mut self.slots, &mut self.text, mantissa, rest, limits)
         {
             Progress::Cut => UnitTaken::cut(rest),
             Progress::Wrong(code, bytes) => UnitTaken::wrong(code, bytes),

@@ -14,6 +14,7 @@ ghost use Rattle.fast_stream.specs.meaning.Events.{MessageEnd};
 ghost use Rattle.fast_stream.specs.meaning.Handed.{event_data};
 ghost use Rattle.fast_stream.specs.device.GrammarReaders.{reader_of};
 ghost use Rattle.fast_stream.specs.device.Readers.{Reader};
+ghost use Rattle.fast_fields.specs.device.Carries.{at_hand};
 ghost use Rattle.fast_machine.specs.device.Moving.{Moves};
 ghost use Rattle.fast_units.specs.device.Settling.{value_at};
 ghost use Rattle.fast_machine.specs.device.Passing.{IsPast, value_then};
@@ -125,24 +126,26 @@ impl<'t> Machine<'t> {
         emit_value(&mut self.cursor, node, field.uses_bit(), value, sink)
     }
 
-    /// Moves past the next instruction as [`Machine::finish`] does. All bytes of the field are carried, and its value may be among them.
+    /// Moves past the next instruction as [`Machine::finish`] does, after its bytes have been read. They are at hand, and its value may be
+    /// among them.
     #[inline(always)]
-    pub fn finish_carried<S: Sink>(
+    pub fn finish_read<S: Sink>(
         &mut self,
         node: u32,
         field: &FieldInstruction,
         found: WholeField,
+        rest: &[u8],
         sink: &mut S,
     ) -> Result<Turn, FaultCode>
         requires left { 0 < length self.old.cursor.left }
         requires entry { (e : ℕ) → (field_data field.now).entry ≡ Some e
             → e < length (slots_dictionary self.old.slots) }
         requires from { found.from ≤ found.bytes }
-        requires within { found.bytes ≤ length self.old.carry.bytes.text }
+        requires within { found.bytes ≤ length (at_hand self.old.carry.bytes.text rest.now) }
         ensures moves { (set : Set) (l : Bounds) (strict : Bool) (waits : Reader Dictionary) → Moves S.takes S.stops
             (reader_of strict (value_then set l node
             (value_at found.source (field_data field.now) (slots_dictionary self.old.slots) self.old.text.text
-            (drop found.from (take found.bytes self.old.carry.bytes.text)))
+            (drop found.from (take found.bytes (at_hand self.old.carry.bytes.text rest.now))))
             (field_data field.now) (slots_dictionary self.old.slots) self.old.counted self.old.cursor))
             sink.old result sink.new
             (reader_of strict (going_on set l (slots_dictionary self.new.slots) self.new.counted self.new.cursor))
@@ -152,14 +155,9 @@ impl<'t> Machine<'t> {
         ensures rests { resting self.new.cursor ≡ resting self.old.cursor }
         ensures on { result ≢ Ok Turn.Waits }
     {
-        let piece = &self.carry.bytes.as_slice()[found.from..found.bytes];
-        let value = value_at(
-            &self.slots,
-            field,
-            self.text.as_slice(),
-            piece,
-            found.source,
-        );
+        let piece = &self.carry.at_hand(rest)[found.from..found.bytes];
+        let text = self.text.as_slice();
+        let value = value_at(&self.slots, field, text, piece, found.source);
         emit_value(&mut self.cursor, node, field.uses_bit(), value, sink)
     }
 

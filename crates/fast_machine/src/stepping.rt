@@ -82,13 +82,14 @@ impl<'t> Machine<'t> {
         let Shape::Field(field) = &templates.node(number).shape else {
             return None;
         };
-        if !needs_bytes(field, self.presence(field)) {
+        // the operators that look at the bit use one
+        if !needs_bytes(field, self.cursor.bit()) {
             return None;
         }
         Some((number, field))
     }
 
-    /// Reads the next instruction, a field that is in the stream, or the part of it that is there.
+    /// Reads the next instruction, a field that is in the stream, or the part of it that is there. Without a byte the machine waits for it.
     #[inline(always)]
     fn take_sent_field<S: Sink>(
         &mut self,
@@ -104,11 +105,16 @@ impl<'t> Machine<'t> {
         requires sent { IsSent (field_data field.now) (bit_of (field_data field.now)
             (state_in (slots_dictionary self.old.slots) self.old.counted self.old.cursor)) }
         requires serves { IsServedBy (set_of templates.now) self.old (field_data field.now) }
-        requires some { 0 < length rest.now }
         ensures step { IsStep S.takes S.stops (set_of templates.now) limits self.old rest.now sink.old result sink.new
             self.new }
     {
         self.wait_first(field);
+        if rest.is_empty() {
+            return UnitTaken {
+                bytes: 0,
+                turn: Ok(Turn::Waits),
+            };
+        }
         if self.gathers(templates, limits, rest) {
             return UnitTaken::cut(rest);
         }
@@ -132,7 +138,6 @@ impl<'t> Machine<'t> {
         requires sent { IsSent (field_data field.now) (bit_of (field_data field.now)
             (state_in (slots_dictionary self.old.slots) self.old.counted self.old.cursor)) }
         requires serves { IsServedBy (set_of templates.now) self.old (field_data field.now) }
-        requires some { 0 < length rest.now }
         ensures step { IsStep S.takes S.stops (set_of templates.now) limits self.old rest.now sink.old result sink.new
             self.new }
         ensures waits { (t : Turn) → result.turn ≡ Ok t → t ≢ Turn.Waits → self.new.waiting ≡ Waiting.Field }

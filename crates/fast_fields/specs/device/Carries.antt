@@ -1,5 +1,5 @@
 -- Fields whose bytes are carried until they are complete.
-use Rattle.std.specs.Prelude.{◌≡◌, ℕ, ◌+◌, ◌<◌, ◌≤◌, List, ◌++◌, length, take, drop}
+use Rattle.std.specs.Prelude.{◌≡◌, ℕ, ◌+◌, ◌<◌, ◌≤◌, List, [], ◌∷◌, ◌++◌, length, take, drop}
 use Rattle.fast_value.specs.declared.settings.Limits.{Limits}
 use Rattle.fast_tree.specs.meaning.Tree.{FieldData}
 use Rattle.fast_dict.specs.meaning.Dictionary.{Dictionary}
@@ -17,6 +17,11 @@ use Rattle.fast_fields.specs.device.Readings.{IsUndecided}
 -- room for.
 abbrev pub IsCarried : Limits → Reader Outcome → Carry → Type 0
 IsCarried l r c = IsUndecided r c.bytes.text c.missing × (length c.bytes.text + c.missing.bytes ≤ 22 + l.max_text)
+
+-- The bytes of a field that are at hand: those that are carried, or those of the rest if none is.
+abbrev pub at_hand : List ℕ → List ℕ → List ℕ
+at_hand [] rest = rest
+at_hand (b ∷ w) rest = b ∷ w
 
 -- The result of the carried bytes and those after them as a field. A value in its bytes begins at the offset in them.
 abbrev pub IsCarriedUnit : Reader Outcome → FieldData → List ℕ → List ℕ → Dictionary → Dictionary → List ℕ → Progress WholeField → Type 0

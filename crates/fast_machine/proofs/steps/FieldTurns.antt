@@ -1,9 +1,9 @@
 -- What holds of a machine behind a turn: at the unit that it waits for, and past an instruction.
 use Rattle.std.proofs.Common.{refl, sym, ap, ◌∙◌, subst, arith}
-use Rattle.std.specs.Prelude.{◌≡◌, ◌≢◌, ℕ, suc, ◌<◌, ◌≤◌, Bool, true, List, [], ◌∷◌, drop, length, ℤ, Option, Some, None, option_map}
+use Rattle.std.specs.Prelude.{◌≡◌, ◌≢◌, ℕ, suc, ◌<◌, ◌≤◌, Bool, true, false, List, [], ◌∷◌, drop, length, ℤ, Option, Some, None, option_map}
 use Rattle.std.specs.Prelude.{Result, Ok, Err, OnOk, if◌then◌else◌}
 use Rattle.std.proofs.Math.Nat.{le-max_right}
-use Rattle.fast_wire.specs.meaning.Maps.{later_bits}
+use Rattle.fast_wire.specs.meaning.Maps.{first_bit, later_bits}
 use Rattle.fast_value.specs.declared.settings.Limits.{Limits}
 use Rattle.fast_value.specs.declared.codes.Code.{Code}
 use Rattle.fast_value.specs.declared.codes.Code.TheVariants.{R1}
@@ -263,6 +263,19 @@ pub exponent_absent : (set : Set) (l : Limits) (m : Machine) (n : ℕ) (e f : Fi
     (behind set l m (state_past e (slots_dictionary m.slots) m.counted m.cursor))
 exponent_absent set l m n e f None h = refl
 exponent_absent set l m n e f (Some w) h = absurd (cc h)
+
+-- A term that is the same for the next bit as for a set one is so for the presence bit, which is set where none is used.
+with_bit : {A : Type 0} (uses bit : Bool) (term : Bool → A) → term bit ≡ term true → term (if uses then bit else true) ≡ term true
+with_bit true bit term e = e
+with_bit false bit term e = refl
+
+-- A field that stands in the stream by the next bit.
+pub sent_next : (f : FieldData) (bit : Bool) (st : State) → bit ≡ first_bit st.bits → f.operator ≢ Constant
+    → ((l : Bounds) (p : PreviousData) → field_term l f p bit ≡ field_term l f p true) → IsSent f (bit_of f st)
+sent_next f bit st e varies sent = record {
+  varies = varies;
+  as_sent = λ l p. with_bit (uses_bit f) (first_bit st.bits) (field_term l f p) (ap (field_term l f p) (sym e) ∙ sent l p);
+}
 
 -- A field that stands in the stream at a machine.
 pub sent_here : (f : FieldData) (bit : Bool) (st : State) → bit ≡ bit_of f st → f.operator ≢ Constant

@@ -7,8 +7,8 @@ use Rattle.fast_value.specs.meaning.Kinds.{ScalarData}
 use Rattle.fast_value.specs.meaning.Limits.{Bounds}
 use Rattle.std.specs.Prelude.{Option}
 use Rattle.fast_stream.specs.meaning.Events.{GroupStart}
-use Rattle.fast_stream.specs.meaning.Grammar.{Grammar, hand, ◌>>=◌}
-use Rattle.fast_stream.specs.meaning.Messages.{State, own_bits, decimal_with}
+use Rattle.fast_stream.specs.meaning.Grammar.{Grammar, hand}
+use Rattle.fast_stream.specs.meaning.Messages.{State, decimal_with}
 use Rattle.fast_stream.specs.device.Continuations.{handed_then, mantissa_after_then, segment_then, body_then, sequence_from_then, message_behind_then}
 use Rattle.fast_stream.specs.device.Frames.{open_group, resume, opened, elements_turn}
 use Rattle.fast_cursor.specs.device.Cursors.{CursorData, bits_left}

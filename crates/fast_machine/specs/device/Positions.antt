@@ -5,7 +5,6 @@ use Rattle.fast_wire.specs.meaning.Entities.{HaveNoStop, IsEntity}
 use Rattle.fast_wire.specs.meaning.Maps.{map_limit, bits, first_bit}
 use Rattle.fast_value.specs.declared.settings.Limits.{Limits}
 use Rattle.fast_value.specs.meaning.Limits.{Bounds, bounds}
-use Rattle.fast_tree.specs.declared.instructions.Shape.TheVariants as Shape
 use Rattle.fast_tree.specs.declared.instructions.Node.{Node}
 use Rattle.fast_tree.specs.declared.instructions.Template.{Template}
 use Rattle.fast_tree.specs.meaning.Numbers.{AreBelow, numbers_of}
@@ -14,12 +13,12 @@ use Rattle.fast_tree.specs.meaning.Tree.{Label, FieldData, identifier, uses_bit,
 use Rattle.fast_template.specs.declared.sets.Templates.{Templates}
 use Rattle.fast_template.specs.device.Programs.{program_of}
 use Rattle.fast_template.specs.meaning.Flat.{field_data, instructions_from, template_data, templates_of, nodes_of}
-use Rattle.fast_dict.specs.meaning.Dictionary.{Dictionary, fresh, previous_at}
+use Rattle.fast_dict.specs.meaning.Dictionary.{Dictionary, fresh}
 use Rattle.fast_dict.specs.meaning.Slots.{slots_dictionary, slots_terms}
 use Rattle.fast_stream.specs.meaning.Events.{EventData}
 use Rattle.fast_machine.specs.device.Moving.{Moves}
 use Rattle.fast_stream.specs.meaning.Grammar.{Grammar, presence_map, narrow, ◌>>=◌}
-use Rattle.fast_stream.specs.meaning.Messages.{State, begin, field_in, found, decimal_with}
+use Rattle.fast_stream.specs.meaning.Messages.{State, begin, field_in, decimal_with}
 use Rattle.fast_stream.specs.device.Readers.{Reader, Done, bind}
 use Rattle.fast_stream.specs.device.GrammarReaders.{settles_reader, judged_map, reader_of}
 use Rattle.fast_stream.specs.device.Continuations.{handed_then, message_behind_then, message_then}

@@ -11,8 +11,8 @@ use Rattle.fast_fields.proofs.carry.Carry.begin.Goals as goal
 pub returns-clause-carried : goal.returns-clause-carried
 returns-clause-carried c l p =
     let none = ap length c.clear.ensures.text in
-    let most = c.first_missing.ensures.most in (
+    let most = c.first_missing-self.ensures.most in (
       subst (λ (u : List ℕ). IsUndecided (reader_of l.strict (field_term (bounds l) (field_data c.args.field.now) p true)) u
-          (record { bytes = c.first_missing.result; stops = true })) (sym c.clear.ensures.text) (c.first_missing.ensures.carried l p),
+          (record { bytes = c.first_missing-self.result; stops = true })) (sym c.clear.ensures.text) (c.first_missing-self.ensures.carried l p),
       omega (arith, none, most),
     )

@@ -2,11 +2,10 @@
 use Rattle.std.proofs.Common.{sym, ◌∙◌}
 use Rattle.fast_tree.specs.meaning.Nodes.{field_data}
 use Rattle.fast_tree.specs.declared.instructions.Shape.TheVariants.{Field}
-use Rattle.fast_dict.specs.meaning.Slots.{slots_dictionary}
 use Rattle.fast_machine.specs.device.Positions.{set_of}
 use Rattle.fast_machine.proofs.fields.Heads.{field_head}
 use Rattle.fast_machine.proofs.fields.FieldNodes.{first_below, served_node}
-use Rattle.fast_machine.proofs.steps.FieldTurns.{state_of, sent_here}
+use Rattle.fast_machine.proofs.steps.FieldTurns.{state_of, sent_next}
 use Rattle.fast_machine.proofs.machine.Machine.sent_field.Goals as goal
 
 pub node-requires : goal.node-requires
@@ -20,7 +19,7 @@ returns-clause-next c =
 pub returns-clause-sent : goal.returns-clause-sent
 returns-clause-sent c =
     let m = c.args.self.now in
-    sent_here (field_data c.in-Field.field) c.presence.result (state_of m) (c.presence.ensures (slots_dictionary m.slots) m.counted)
+    sent_next (field_data c.in-Field.field) c.bit.result (state_of m) c.bit.ensures
     (c.needs_bytes.ensures.operator c.if-not-needs_bytes.false) (c.needs_bytes.ensures.sent c.if-not-needs_bytes.false)
 
 pub returns-clause-serves : goal.returns-clause-serves

@@ -15,17 +15,17 @@ use Rattle.fast_machine.proofs.steps.SegmentTurns.{sequence_next}
 use Rattle.fast_machine.proofs.steps.TurnCounts.{fault_turns}
 use Rattle.fast_machine.proofs.machine.Machine.take_length.Goals as goal
 
-pub read-requires-clause-serves : goal.read-requires-clause-serves
-read-requires-clause-serves g c = serves_here (set_of c.args.templates.now) c.args.limits c.args.self.now
+pub read_integer-requires-clause-serves : goal.read_integer-requires-clause-serves
+read_integer-requires-clause-serves g c = serves_here (set_of c.args.templates.now) c.args.limits c.args.self.now
     (field_data c.args.length.now) c.requires.ready.supplied c.requires.serves
 
-pub read-requires-clause-varies : goal.read-requires-clause-varies
-read-requires-clause-varies g c =
+pub read_integer-requires-clause-varies : goal.read_integer-requires-clause-varies
+read_integer-requires-clause-varies g c =
     (length_begun (set_of c.args.templates.now) c.args.limits c.args.self.now c.args.node c.requires.ready (field_data c.args.length.now)
     (run_in (set_of c.args.templates.now) c.args.start) c.requires.waits c.requires.next).0.varies
 
-pub read-requires-clause-carried : goal.read-requires-clause-carried
-read-requires-clause-carried g c =
+pub read_integer-requires-clause-carried : goal.read_integer-requires-clause-carried
+read_integer-requires-clause-carried g c =
     (length_begun (set_of c.args.templates.now) c.args.limits c.args.self.now c.args.node c.requires.ready (field_data c.args.length.now)
     (run_in (set_of c.args.templates.now) c.args.start) c.requires.waits c.requires.next).1
 
@@ -43,16 +43,16 @@ returns-in-Cut-clause-taken g c =
     let (sent, begun) = length_begun set l m n c.requires.ready f (run_in (set_of c.args.templates.now) c.args.start) c.requires.waits c.requires.next in
     let next = sequence_next set l m n f (run_in (set_of c.args.templates.now) c.args.start) c.requires.next in
     let is = meaning_first set l m c.requires.waits in
-    let a = record m { slots = c.read.new.slots; carry = c.read.new.self; text = c.read.new.text } in
+    let a = record m { slots = c.read_integer.new.slots; carry = c.read_integer.new.self; text = c.read_integer.new.text } in
     let (stays, same) = c.in-Cut.ensures.unit in
     let (held, more) = c.in-Cut.ensures.cut refl in
     cut_to takes stops set l (meaning set l m) c.args.rest.now c.args.sink.now a c.cut.ensures.bytes c.cut.ensures.turn
-    (first_ready set l m c.read.new.slots c.read.new.self c.read.new.text c.requires.ready c.read.ensures.terms c.read.ensures.capacity.0
-    c.read.ensures.capacity.1
-    c.requires.waits same (length_on set l m n c.requires.ready f (run_in (set_of c.args.templates.now) c.args.start) c.read.new.self c.requires.next sent
+    (first_ready set l m c.read_integer.new.slots c.read_integer.new.self c.read_integer.new.text c.requires.ready c.read_integer.ensures.terms c.read_integer.ensures.capacity.0
+    c.read_integer.ensures.capacity.1
+    c.requires.waits same (length_on set l m n c.requires.ready f (run_in (set_of c.args.templates.now) c.args.start) c.read_integer.new.self c.requires.next sent
     more))
-    (field_cut takes stops set l m f k (turning set l m) (meaning set l m) m.carry.bytes.text c.args.rest.now sent next is a c.read.new.self
-    (first_cut set l m c.read.new.slots c.read.new.self c.read.new.text c.requires.waits same) held c.requires.some stays c.args.sink.now)
+    (field_cut takes stops set l m f k (turning set l m) (meaning set l m) m.carry.bytes.text c.args.rest.now sent next is a c.read_integer.new.self
+    (first_cut set l m c.read_integer.new.slots c.read_integer.new.self c.read_integer.new.text c.requires.waits same) held c.requires.some stays c.args.sink.now)
 
 pub returns-in-Wrong-clause-taken : goal.returns-in-Wrong-clause-taken
 returns-in-Wrong-clause-taken g c =
@@ -68,12 +68,12 @@ returns-in-Wrong-clause-taken g c =
     let (sent, begun) = length_begun set l m n c.requires.ready f (run_in (set_of c.args.templates.now) c.args.start) c.requires.waits c.requires.next in
     let next = sequence_next set l m n f (run_in (set_of c.args.templates.now) c.args.start) c.requires.next in
     let is = meaning_first set l m c.requires.waits in
-    let a = record m { slots = c.read.new.slots; carry = c.read.new.self; text = c.read.new.text } in
+    let a = record m { slots = c.read_integer.new.slots; carry = c.read_integer.new.self; text = c.read_integer.new.text } in
     wrong_to takes stops set l (meaning set l m) c.args.rest.now c.args.sink.now a (Why.Stream c.in-Wrong.code) c.wrong.ensures.bytes c.wrong.ensures.turn
-    (field_supplied set l m c.read.new.slots c.read.new.self c.read.new.text c.requires.ready c.read.ensures.terms c.read.ensures.capacity.0
-    c.read.ensures.capacity.1)
+    (field_supplied set l m c.read_integer.new.slots c.read_integer.new.self c.read_integer.new.text c.requires.ready c.read_integer.ensures.terms c.read_integer.ensures.capacity.0
+    c.read_integer.ensures.capacity.1)
     (field_wrong takes stops set l m f k (turning set l m) (meaning set l m) m.carry.bytes.text c.args.rest.now sent next is
-    (slots_dictionary c.read.new.slots) c.read.new.text.text c.in-Wrong.code c.in-Wrong.bytes c.in-Wrong.ensures.unit c.args.sink.now)
+    (slots_dictionary c.read_integer.new.slots) c.read_integer.new.text.text c.in-Wrong.code c.in-Wrong.bytes c.in-Wrong.ensures.unit c.args.sink.now)
 
 pub returns-in-Whole-clause-taken : goal.returns-in-Whole-clause-taken
 returns-in-Whole-clause-taken g c =
@@ -91,22 +91,22 @@ returns-in-Whole-clause-taken g c =
     let is = meaning_first set l m c.requires.waits in
     integer_whole takes stops set l m f k (turning set l m) (meaning set l m) m.carry.bytes.text c.args.rest.now sent next is
     (length_sees (bounds l) n (body_in set (run_in (set_of c.args.templates.now) c.args.start)) (behind set l m))
-    c.read.new.slots c.read.new.text.text c.in-Whole.found c.in-Whole.bytes c.in-Whole.ensures.unit
+    c.read_integer.new.slots c.read_integer.new.text.text c.in-Whole.found c.in-Whole.bytes c.in-Whole.ensures.unit
     c.args.sink.now c.length_known-turn.result c.length_known-turn.new.sink c.length_known-turn.new.self c.length_known-turn.ensures.turn
 
 pub returns-in-Cut-clause-turns : goal.returns-in-Cut-clause-turns
 returns-in-Cut-clause-turns g c way n h =
     let m = c.args.self.now in
-    let a = record m { slots = c.read.new.slots; carry = c.read.new.self; text = c.read.new.text } in
+    let a = record m { slots = c.read_integer.new.slots; carry = c.read_integer.new.self; text = c.read_integer.new.text } in
     rw c.cut.ensures.turn (subst (λ (w : Waiting). HasTurnsAt w way (set_of c.args.templates.now) c.args.limits n a) (sym c.requires.waits) h)
 
 pub returns-in-Wrong-clause-turns : goal.returns-in-Wrong-clause-turns
 returns-in-Wrong-clause-turns g c way n h =
     let m = c.args.self.now in
     fault_turns way (set_of c.args.templates.now) c.args.limits n m (record m {
-      slots = c.read.new.slots;
-      carry = c.read.new.self;
-      text = c.read.new.text;
+      slots = c.read_integer.new.slots;
+      carry = c.read_integer.new.self;
+      text = c.read_integer.new.text;
     }) c.wrong.result.turn (Why.Stream c.in-Wrong.code) c.wrong.ensures.turn refl h
 
 pub returns-in-Whole-clause-turns : goal.returns-in-Whole-clause-turns

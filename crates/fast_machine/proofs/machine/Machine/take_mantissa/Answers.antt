@@ -33,8 +33,8 @@ returns-in_default-shape g c =
     (sym c.next.ensures ∙ c.in-Some.is) c.node.ensures.found can.2 in
     absurd (not_decimal c.node.result.now.shape is_decimal c.in_default-shape.not-Decimal)
 
-pub read-requires-clause-serves : goal.read-requires-clause-serves
-read-requires-clause-serves g c =
+pub read_integer-requires-clause-serves : goal.read_integer-requires-clause-serves
+read_integer-requires-clause-serves g c =
     let set = set_of c.args.templates.now in
     let l = c.args.limits in
     let m = c.args.self.now in
@@ -44,8 +44,8 @@ read-requires-clause-serves g c =
     c.node.ensures.found c.in-Decimal.is in
     serves_here set l m f c.requires.ready.supplied served.1
 
-pub read-requires-clause-varies : goal.read-requires-clause-varies
-read-requires-clause-varies g c =
+pub read_integer-requires-clause-varies : goal.read_integer-requires-clause-varies
+read_integer-requires-clause-varies g c =
     let set = set_of c.args.templates.now in
     let l = c.args.limits in
     let m = c.args.self.now in
@@ -57,8 +57,8 @@ read-requires-clause-varies g c =
     let (sent, begun) = mantissa_begun set l m n c.requires.ready (field_data c.in-Decimal.exponent) f x c.requires.waits at in
     sent.varies
 
-pub read-requires-clause-carried : goal.read-requires-clause-carried
-read-requires-clause-carried g c =
+pub read_integer-requires-clause-carried : goal.read_integer-requires-clause-carried
+read_integer-requires-clause-carried g c =
     let set = set_of c.args.templates.now in
     let l = c.args.limits in
     let m = c.args.self.now in
@@ -77,11 +77,11 @@ finish_decimal-turn-requires-clause-entry g c =
     let n = c.in-Some.number in
     let served = served_node set l m n c.node.result.now (Decimal c.in-Decimal.exponent c.in-Decimal.mantissa) c.requires.ready.supplied
     c.node.ensures.found c.in-Decimal.is in
-    let slots = c.read.new.slots in
-    let a = record m { slots = slots; carry = c.read.new.self; text = c.read.new.text } in
-    entry_here set l a f (field_supplied set l m slots c.read.new.self c.read.new.text c.requires.ready c.read.ensures.terms c.read.ensures.capacity.0
-    c.read.ensures.capacity.1)
-    (serves_known set m slots f c.read.ensures.terms served.1)
+    let slots = c.read_integer.new.slots in
+    let a = record m { slots = slots; carry = c.read_integer.new.self; text = c.read_integer.new.text } in
+    entry_here set l a f (field_supplied set l m slots c.read_integer.new.self c.read_integer.new.text c.requires.ready c.read_integer.ensures.terms c.read_integer.ensures.capacity.0
+    c.read_integer.ensures.capacity.1)
+    (serves_known set m slots f c.read_integer.ensures.terms served.1)
 
 pub returns-in-Cut-clause-taken : goal.returns-in-Cut-clause-taken
 returns-in-Cut-clause-taken g c =
@@ -99,15 +99,15 @@ returns-in-Cut-clause-taken g c =
     let k : Found → Grammar Dictionary = λ r. handed_then n (behind set l m) (decimal_with x r.0) r.1 in
     let next = mantissa_next set l m n (field_data c.in-Decimal.exponent) f x at in
     let is = meaning_second set l m x c.requires.waits in
-    let a = record m { slots = c.read.new.slots; carry = c.read.new.self; text = c.read.new.text } in
+    let a = record m { slots = c.read_integer.new.slots; carry = c.read_integer.new.self; text = c.read_integer.new.text } in
     let (stays, same) = c.in-Cut.ensures.unit in
     let (held, more) = c.in-Cut.ensures.cut refl in
     cut_to takes stops set l (meaning set l m) c.args.rest.now c.args.sink.now a c.cut-in-Cut.ensures.bytes c.cut-in-Cut.ensures.turn
-    (second_ready set l m c.read.new.slots c.read.new.self c.read.new.text c.requires.ready c.read.ensures.terms c.read.ensures.capacity.0
-    c.read.ensures.capacity.1 x
-    c.requires.waits same (mantissa_on set l m n c.requires.ready (field_data c.in-Decimal.exponent) f c.read.new.self at sent more))
-    (field_cut takes stops set l m f k (mantissa_from set l m x) (meaning set l m) m.carry.bytes.text c.args.rest.now sent next is a c.read.new.self
-    (second_cut set l m c.read.new.slots c.read.new.self c.read.new.text x c.requires.waits same) held c.requires.some stays c.args.sink.now)
+    (second_ready set l m c.read_integer.new.slots c.read_integer.new.self c.read_integer.new.text c.requires.ready c.read_integer.ensures.terms c.read_integer.ensures.capacity.0
+    c.read_integer.ensures.capacity.1 x
+    c.requires.waits same (mantissa_on set l m n c.requires.ready (field_data c.in-Decimal.exponent) f c.read_integer.new.self at sent more))
+    (field_cut takes stops set l m f k (mantissa_from set l m x) (meaning set l m) m.carry.bytes.text c.args.rest.now sent next is a c.read_integer.new.self
+    (second_cut set l m c.read_integer.new.slots c.read_integer.new.self c.read_integer.new.text x c.requires.waits same) held c.requires.some stays c.args.sink.now)
 
 pub returns-in-Wrong-clause-taken : goal.returns-in-Wrong-clause-taken
 returns-in-Wrong-clause-taken g c =
@@ -125,12 +125,12 @@ returns-in-Wrong-clause-taken g c =
     let k : Found → Grammar Dictionary = λ r. handed_then n (behind set l m) (decimal_with x r.0) r.1 in
     let next = mantissa_next set l m n (field_data c.in-Decimal.exponent) f x at in
     let is = meaning_second set l m x c.requires.waits in
-    let a = record m { slots = c.read.new.slots; carry = c.read.new.self; text = c.read.new.text } in
+    let a = record m { slots = c.read_integer.new.slots; carry = c.read_integer.new.self; text = c.read_integer.new.text } in
     wrong_to takes stops set l (meaning set l m) c.args.rest.now c.args.sink.now a (Why.Stream c.in-Wrong.code) c.wrong.ensures.bytes c.wrong.ensures.turn
-    (field_supplied set l m c.read.new.slots c.read.new.self c.read.new.text c.requires.ready c.read.ensures.terms c.read.ensures.capacity.0
-    c.read.ensures.capacity.1)
+    (field_supplied set l m c.read_integer.new.slots c.read_integer.new.self c.read_integer.new.text c.requires.ready c.read_integer.ensures.terms c.read_integer.ensures.capacity.0
+    c.read_integer.ensures.capacity.1)
     (field_wrong takes stops set l m f k (mantissa_from set l m x) (meaning set l m) m.carry.bytes.text c.args.rest.now sent next is
-    (slots_dictionary c.read.new.slots) c.read.new.text.text c.in-Wrong.code c.in-Wrong.bytes c.in-Wrong.ensures.unit c.args.sink.now)
+    (slots_dictionary c.read_integer.new.slots) c.read_integer.new.text.text c.in-Wrong.code c.in-Wrong.bytes c.in-Wrong.ensures.unit c.args.sink.now)
 
 pub returns-in-Whole-clause-taken : goal.returns-in-Whole-clause-taken
 returns-in-Whole-clause-taken g c =
@@ -148,11 +148,11 @@ returns-in-Whole-clause-taken g c =
     let k : Found → Grammar Dictionary = λ r. handed_then n (behind set l m) (decimal_with x r.0) r.1 in
     let next = mantissa_next set l m n (field_data c.in-Decimal.exponent) f x at in
     let is = meaning_second set l m x c.requires.waits in
-    let slots = c.read.new.slots in
-    let a = record m { slots = slots; carry = c.read.new.self; text = c.read.new.text } in
-    let text = c.read.new.text.text in
-    let can = second_turn set l m slots c.read.new.self c.read.new.text c.requires.ready c.read.ensures.terms c.read.ensures.capacity.0
-    c.read.ensures.capacity.1 x c.requires.waits in
+    let slots = c.read_integer.new.slots in
+    let a = record m { slots = slots; carry = c.read_integer.new.self; text = c.read_integer.new.text } in
+    let text = c.read_integer.new.text.text in
+    let can = second_turn set l m slots c.read_integer.new.self c.read_integer.new.text c.requires.ready c.read_integer.ensures.terms c.read_integer.ensures.capacity.0
+    c.read_integer.ensures.capacity.1 x c.requires.waits in
     let b = c.finish_decimal-turn.new.self in
     let turn = c.finish_decimal-turn.result in
     let ends = c.finish_decimal-turn.ensures in

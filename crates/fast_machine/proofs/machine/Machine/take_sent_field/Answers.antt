@@ -1,11 +1,12 @@
 -- The machine waits for the field, and reads it.
-use Rattle.std.proofs.Common.{refl, sym, ◌∙◌, subst, ◌+◌, ◌≡◌}
-use Rattle.std.specs.Prelude.{Ok}
+use Rattle.std.proofs.Common.{rules, refl, sym, ◌∙◌, subst, ◌+◌, ◌≡◌}
+use Rattle.std.specs.Prelude.{◌<◌, length, Ok}
 use Rattle.fast_tree.specs.meaning.Nodes.{field_data}
 use Rattle.fast_dict.specs.meaning.Dictionary.{Dictionary, previous_at}
 use Rattle.fast_dict.specs.meaning.Slots.{slots_dictionary}
 use Rattle.fast_stream.specs.device.Readers.{Reader}
 use Rattle.fast_machine.specs.declared.machine.Machine.{Machine}
+use Rattle.fast_machine.specs.declared.machine.Turn.TheVariants.{Waits}
 use Rattle.fast_machine.specs.declared.machine.Waiting.TheVariants.{Field}
 use Rattle.fast_machine.specs.device.Handing.{Hands}
 use Rattle.fast_machine.specs.device.Positions.{set_of, IsAtField, IsReady, turning, meaning}
@@ -16,7 +17,7 @@ use Rattle.fast_machine.proofs.machines.Gathers.{gathered_to, gathered_behind}
 use Rattle.fast_machine.proofs.steps.FieldTurns.{field_waits}
 use Rattle.fast_machine.proofs.steps.Recounted.{meaning-turns, supplied-turns, takes-turns}
 use Rattle.fast_machine.proofs.steps.TurnCounts.{one_taken, unit_paid, paid_awaited}
-use Rattle.fast_machine.proofs.streams.Running.{unit_step}
+use Rattle.fast_machine.proofs.streams.Running.{turn_step, unit_step}
 use Rattle.fast_machine.proofs.machine.Machine.take_sent_field.Goals as goal
 
 pub gathers-requires : goal.gathers-requires
@@ -28,6 +29,24 @@ gathers-requires g c = record {
       c.requires.turn c.requires.next c.requires.sent c.wait_first.ensures.same c.wait_first.ensures.capacity c.wait_first.ensures.none
       (c.wait_first.ensures.carried c.args.limits (previous_at f.entry (slots_dictionary m.slots)))).goes_on;
 }
+
+pub returns-then-is_empty : goal.returns-then-is_empty
+returns-then-is_empty g c =
+    let takes = g.S.Sink.takes in
+    let stops = g.S.Sink.stops in
+    let set = set_of c.args.templates.now in
+    let l = c.args.limits in
+    let m = c.args.self.now in
+    let b = c.wait_first.new.self in
+    let f = field_data c.args.field.now in
+    let waits = field_waits takes stops set l c.args.sink.now m b c.args.node f c.requires.turn c.requires.next c.requires.sent
+    c.wait_first.ensures.same c.wait_first.ensures.capacity c.wait_first.ensures.none
+    (c.wait_first.ensures.carried l (previous_at f.entry (slots_dictionary m.slots))) in
+    record {
+      step = turn_step takes stops set l m c.args.rest.now c.args.sink.now (Ok Waits) c.args.sink.now b waits
+          (λ e. absurd (cc e)) (λ way n h. subst (λ (x : Machine). HasTurnsWaiting way set l n x) (sym c.wait_first.ensures.same)
+          (one_taken way set l n m.turns.count m.counted m.cursor h));
+    }
 
 pub returns-then-gathers : goal.returns-then-gathers
 returns-then-gathers g c =
@@ -42,11 +61,12 @@ returns-then-gathers g c =
     let f = field_data c.args.field.now in
     let sink = c.args.sink.now in
     let got = c.if-gathers.ensures.gathered refl in
+    let some : 0 < length rest = search (rules, c.is_empty.ensures, c.if-is_empty.false) in
     record {
       step = unit_step takes stops set l m b rest sink sink c.cut.result sink a
           (field_waits takes stops set l sink m b c.args.node f c.requires.turn c.requires.next c.requires.sent c.wait_first.ensures.same
           c.wait_first.ensures.capacity c.wait_first.ensures.none (c.wait_first.ensures.carried l (previous_at f.entry (slots_dictionary m.slots)))).moves
-          (gathered_to takes stops set l b a rest got c.requires.some sink c.cut.result.bytes c.cut.result.turn c.cut.ensures.bytes c.cut.ensures.turn)
+          (gathered_to takes stops set l b a rest got some sink c.cut.result.bytes c.cut.result.turn c.cut.ensures.bytes c.cut.ensures.turn)
           (λ way n h. gathered_behind way set l n b a rest c.cut.result.turn got c.cut.ensures.turn
           (subst (λ (x : Machine). HasTurnsWaiting way set l n x) (sym c.wait_first.ensures.same) (one_taken way set l n m.turns.count m.counted m.cursor h)));
     }
