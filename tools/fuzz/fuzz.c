@@ -1,8 +1,9 @@
 // Damages the rows of tools/growths/rows.txt, streams and template sets, for a number of seconds, and decodes the result.
 //
-// A stream has the same result whole and in pieces. If it is whole in lenient mode, it is encoded, unless the encoder refuses it, and
-// decoded again in strict mode, which emits the same events. Now and then an allocation is refused: then a result that differs must be the
-// status of a failed allocation. All blocks are freed. Nothing crashes, and nothing takes long.
+// A stream has the same result whole and in pieces, and also under the same set without specialized opcodes, with which each field is read
+// on the general path. If it is whole in lenient mode, it is encoded, unless the encoder refuses it, and decoded again in strict mode, which
+// emits the same events. Now and then an allocation is refused: then a result that differs must be the status of a failed allocation. All
+// blocks are freed. Nothing crashes, and nothing takes long.
 #define _POSIX_C_SOURCE 200809L
 #include "rows.h"
 
@@ -11,9 +12,9 @@
 static size_t piece;
 static uint64_t sets, read_sets, encoded, refusals, growths;
 
-// The results of the ways to decode a stream: whole, in pieces, and after re-encoding.
+// The results of the ways to decode a stream: whole, in pieces, after re-encoding, and whole and in pieces without specialized opcodes.
 struct ways {
-    struct answer whole, pieces, again;
+    struct answer whole, pieces, again, general, general_pieces;
 };
 
 static void damage_set(void) {
@@ -52,8 +53,8 @@ static void show_input(const char *why) {
 static struct ways decode(uint64_t alone) {
     struct ways are;
     begin_run(none, alone);
-    fast_bench_three_ways(input.templates, input.templates_len, input.stream, input.stream_len, piece, input.strict, input.max_text,
-                          input.max_elements, input.max_total, &are.whole, &are.pieces, &are.again);
+    fast_bench_all_ways(input.templates, input.templates_len, input.stream, input.stream_len, piece, input.strict, input.max_text,
+                        input.max_elements, input.max_total, &are.whole, &are.pieces, &are.again, &are.general, &are.general_pieces);
     if (blocks) fail("leaves blocks behind");
     return are;
 }
@@ -65,7 +66,8 @@ static bool is_refused_or(struct answer is, struct answer was) { return is.statu
 static void refuse_one(struct ways was, uint64_t all) {
     struct ways are = decode(below(all));
     growths++;
-    if (!is_refused_or(are.whole, was.whole) || !is_refused_or(are.pieces, was.pieces) || !is_refused_or(are.again, was.again)) {
+    if (!is_refused_or(are.whole, was.whole) || !is_refused_or(are.pieces, was.pieces) || !is_refused_or(are.again, was.again) ||
+        !is_refused_or(are.general, was.general) || !is_refused_or(are.general_pieces, was.general_pieces)) {
         fail("neither as it was nor without memory");
     }
 }
@@ -77,6 +79,8 @@ static void run_input(void) {
     uint64_t all = requests;
     read_sets += whole.status != 256;
     if (memcmp(&whole, &are.pieces, sizeof whole)) fail("not the same in pieces");
+    if (memcmp(&whole, &are.general, sizeof whole)) fail("not the same on the general path");
+    if (memcmp(&whole, &are.general_pieces, sizeof whole)) fail("not the same in pieces on the general path");
     // From 513: E1, E2, E3, E4, R9. The encoder refuses messages of a stream only by E3 and R9.
     if (again.status == 515 || again.status == 517) {
         refusals++;

@@ -26,9 +26,9 @@ void fast_bench_stop(const uint8_t *templates, size_t templates_len, const uint8
                      struct answer *stopped, struct answer *again);
 void fast_bench_cut(const uint8_t *templates, size_t templates_len, const uint8_t *stream, size_t stream_len, uint32_t strict,
                     uint32_t max_text, uint32_t max_elements, uint32_t max_total, struct answer *whole, struct cut_counts *counts);
-void fast_bench_three_ways(const uint8_t *templates, size_t templates_len, const uint8_t *stream, size_t stream_len, size_t piece,
-                           uint32_t strict, uint32_t max_text, uint32_t max_elements, uint32_t max_total, struct answer *whole,
-                           struct answer *pieces, struct answer *again);
+void fast_bench_all_ways(const uint8_t *templates, size_t templates_len, const uint8_t *stream, size_t stream_len, size_t piece,
+                         uint32_t strict, uint32_t max_text, uint32_t max_elements, uint32_t max_total, struct answer *whole,
+                         struct answer *pieces, struct answer *again, struct answer *general, struct answer *general_pieces);
 void fast_bench_encode_patiently(const uint8_t *templates, size_t templates_len, const uint8_t *stream, size_t stream_len,
                                  uint32_t max_text, uint32_t max_elements, uint32_t max_total, struct encoded *out);
 

@@ -3,7 +3,7 @@
 #![tactic(auto)]
 
 use fast_measure::{
-    call_all, cut_everywhere, decode, decode_records, encode, stop_and_decode, three_ways,
+    all_ways, call_all, cut_everywhere, decode, decode_records, encode, stop_and_decode,
 };
 use fast_measure_lines::{convert, read, show};
 use fast_value::Limits;
@@ -91,13 +91,14 @@ pub extern "C" fn fast_bench_cut(
     counts[8..].copy_from_slice(&cuts.wrong.to_le_bytes());
 }
 
-/// Decodes a stream in three ways: whole; in pieces of `piece` bytes, or in one if `piece` is 0; and leniently to messages (whatever
-/// `strict`), which are encoded, and the result is decoded in strict mode.
+/// Decodes a stream in all ways: whole; in pieces of `piece` bytes, or in one if `piece` is 0; leniently to messages (whatever `strict`),
+/// which are encoded, and the result is decoded in strict mode; and whole and in pieces under the same set without specialized opcodes, so
+/// that each field is read on the general path.
 ///
-/// Writes the three results, with checksums, in the form of `fast_bench_run`; the third is that of the last decoding. If the stream does
+/// Writes the five results, with checksums, in the form of `fast_bench_run`; the third is that of the last decoding. If the stream does
 /// not end between two messages, or a message is refused, the third has only that status (as `fast_bench_encode` returns it).
 #[unsafe(no_mangle)]
-pub extern "C" fn fast_bench_three_ways(
+pub extern "C" fn fast_bench_all_ways(
     alloc: Global,
     templates: &[u8],
     stream: &[u8],
@@ -109,12 +110,16 @@ pub extern "C" fn fast_bench_three_ways(
     whole: &mut [u8; 32],
     pieces: &mut [u8; 32],
     again: &mut [u8; 32],
+    general: &mut [u8; 32],
+    general_pieces: &mut [u8; 32],
 ) {
     let limits = limits_of(strict, max_text, max_elements, max_total);
-    let ways = three_ways(alloc, templates, limits, stream, piece);
+    let ways = all_ways(alloc, templates, limits, stream, piece);
     ways.whole.write_to(whole);
     ways.pieces.write_to(pieces);
     ways.again.write_to(again);
+    ways.general.write_to(general);
+    ways.general_pieces.write_to(general_pieces);
 }
 
 /// Decodes a stream under a template set to messages, once, and encodes these `rounds` times, each time from a reset encoder.

@@ -1,4 +1,4 @@
-//! Streams with their events and their fault, however they are split into pieces.
+//! Streams with their events and their fault, however they are split into pieces, with specialized opcodes and without.
 //!
 //! A table is a string, which costs the prover nothing, and each of its lines is a row:
 //!
@@ -95,6 +95,10 @@ fn read(alloc: Global, text: &str) -> Result<Templates, StaticFault> {
 
 fn set_of(alloc: Global, text: &str) -> Result<Templates, Fail> {
     Ok(read(alloc, text)?)
+}
+
+fn on_general_path(set: Templates) -> Templates {
+    set.on_general_path()
 }
 
 fn decoder_of(alloc: Global, set: &Templates, limits: Limits) -> Result<Decoder<'_>, MakeError> {
@@ -243,13 +247,24 @@ fn expect_table(rt: &impl Abort, alloc: Global, set: &Templates, table: &str) ->
     Ok(())
 }
 
-/// Checks each row of the tables under the template set of this file.
-fn expect_rows(rt: &impl Abort, alloc: Global, text: &str, tables: &[&str]) -> Result<(), Fail> {
-    let set = set_of(alloc, text)?;
+/// Checks each row of the tables under the template set.
+fn expect_tables(
+    rt: &impl Abort,
+    alloc: Global,
+    set: &Templates,
+    tables: &[&str],
+) -> Result<(), Fail> {
     for table in tables {
-        expect_table(rt, alloc, &set, table)?;
+        expect_table(rt, alloc, set, table)?;
     }
     Ok(())
+}
+
+/// Checks each row of the tables under the template set of this file, with specialized opcodes and without.
+fn expect_rows(rt: &impl Abort, alloc: Global, text: &str, tables: &[&str]) -> Result<(), Fail> {
+    let set = set_of(alloc, text)?;
+    expect_tables(rt, alloc, &set, tables)?;
+    expect_tables(rt, alloc, &on_general_path(set), tables)
 }
 
 /// The case that a new decoder has to show.
@@ -324,7 +339,7 @@ fn expect_of(
     expect_shown(rt, alloc, &mut decoder, case)
 }
 
-/// Checks that a new decoder of the set of this file shows the case.
+/// Checks that a new decoder of the set of this file shows the case, with specialized opcodes and without.
 fn expect_case(
     rt: &impl Abort,
     alloc: Global,
@@ -333,5 +348,6 @@ fn expect_case(
     case: Case<'_>,
 ) -> Result<(), Fail> {
     let set = set_of(alloc, text)?;
-    expect_of(rt, alloc, &set, limits, case)
+    expect_of(rt, alloc, &set, limits, case)?;
+    expect_of(rt, alloc, &on_general_path(set), limits, case)
 }

@@ -1,4 +1,4 @@
-//! Streams that are decoded whole, in pieces, and again after re-encoding, for tests.
+//! Streams that are decoded whole, in pieces, again after re-encoding, and on the general path, for tests.
 
 ghost use Rattle.std.specs.Prelude.{◌<◌};
 
@@ -72,46 +72,61 @@ fn run_once(
     Ok(answer_of(&mut decoder, stream, piece, Check::new()))
 }
 
-/// The results of decoding a stream in three ways.
+/// The results of decoding a stream in all ways.
 #[derive(Clone, Copy)]
-pub struct ThreeWays {
+pub struct AllWays {
     /// Whole.
     pub whole: Answer,
     /// In pieces.
     pub pieces: Answer,
     /// After re-encoding.
     pub again: Answer,
+    /// Whole, without specialized opcodes.
+    pub general: Answer,
+    /// In pieces, without specialized opcodes.
+    pub general_pieces: Answer,
 }
 
-impl ThreeWays {
-    /// Returns three equal results, for a run without a template set.
-    fn ended(status: u64) -> ThreeWays {
-        ThreeWays {
-            whole: Answer::ended(status),
-            pieces: Answer::ended(status),
-            again: Answer::ended(status),
+impl AllWays {
+    /// Returns equal results, for a run without a template set.
+    fn ended(status: u64) -> AllWays {
+        let answer = Answer::ended(status);
+        AllWays {
+            whole: answer,
+            pieces: answer,
+            again: answer,
+            general: answer,
+            general_pieces: answer,
         }
     }
 }
 
-/// Decodes a stream in three ways, each with a checksum: whole; in pieces of `piece` bytes, or in one if `piece` is 0; and leniently to
-/// messages (whatever `limits.strict`), which are encoded, and the result is decoded in strict mode.
+/// Decodes a stream in all ways, each with a checksum: whole; in pieces of `piece` bytes, or in one if `piece` is 0; leniently to messages
+/// (whatever `limits.strict`), which are encoded, and the result is decoded in strict mode; and whole and in pieces under the same set
+/// without specialized opcodes, so that each field is read on the general path.
 ///
 /// If the stream does not end between two messages, or a message is refused, the third result has only that status, as `encode` returns it.
-pub fn three_ways(
+pub fn all_ways(
     alloc: Global,
     templates: &[u8],
     limits: Limits,
     stream: &[u8],
     piece: usize,
-) -> ThreeWays {
+) -> AllWays {
     let set = match read_set(alloc, templates) {
         Ok(set) => set,
-        Err(status) => return ThreeWays::ended(status),
+        Err(status) => return AllWays::ended(status),
     };
-    ThreeWays {
-        whole: Answer::of(run_once(alloc, &set, limits, stream, usize::MAX)),
-        pieces: Answer::of(run_once(alloc, &set, limits, stream, bytes_of(piece))),
-        again: Answer::of(run_again(alloc, &set, limits, stream)),
+    let piece = bytes_of(piece);
+    let whole = Answer::of(run_once(alloc, &set, limits, stream, usize::MAX));
+    let pieces = Answer::of(run_once(alloc, &set, limits, stream, piece));
+    let again = Answer::of(run_again(alloc, &set, limits, stream));
+    let set = set.on_general_path();
+    AllWays {
+        whole,
+        pieces,
+        again,
+        general: Answer::of(run_once(alloc, &set, limits, stream, usize::MAX)),
+        general_pieces: Answer::of(run_once(alloc, &set, limits, stream, piece)),
     }
 }

@@ -12,7 +12,7 @@ mod sinks;
 mod stops;
 mod trees;
 
-pub use crate::again::{ThreeWays, three_ways};
+pub use crate::again::{AllWays, all_ways};
 pub use crate::callers::{Called, call_all};
 pub use crate::cuts::{Cuts, cut_everywhere};
 pub use crate::decoding::{Answer, decode};

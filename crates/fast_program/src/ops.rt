@@ -4,7 +4,7 @@ ghost use Rattle.std.specs.Prelude.{◌≡◌};
 ghost use Rattle.fast_tree.specs.declared.instructions.Shape.TheVariants.{Field, Decimal as by_parts};
 ghost use Rattle.fast_tree.specs.meaning.Entries.{keeps_value};
 ghost use Rattle.fast_program.specs.device.Codes.{IsPartsCode, IsGroupCode, IsSequenceCode};
-ghost use Rattle.fast_program.specs.device.Ops.{IsOpOf};
+ghost use Rattle.fast_program.specs.device.Ops.{IsOpOf, general_op};
 
 use crate::codes::Code;
 use fast_tree::{FieldInstruction, Operator, Shape};
@@ -141,6 +141,19 @@ impl Op {
             node,
             entry: 0,
             at,
+        }
+    }
+
+    /// Returns the op with the code `General`, or an end as it is.
+    pub(crate) fn generalized(self) -> Op
+        ensures { result ≡ general_op self }
+    {
+        match self.code {
+            Code::End => self,
+            _ => Op {
+                code: Code::General,
+                ..self
+            },
         }
     }
 }

@@ -1,7 +1,10 @@
 //! A template set as one list of ops.
 
-ghost use Rattle.std.specs.Prelude.{◌≡◌, ◌<◌, ◌≤◌, ◌^◌, [], IfOk, OnOk, length};
+ghost use Rattle.std.specs.Prelude.{◌≡◌, ◌<◌, ◌≤◌, ◌^◌, [], IfOk, OnOk, List, length, map};
+ghost use Rattle.fast_tree.specs.declared.instructions.Node.{Node};
+ghost use Rattle.fast_tree.specs.declared.instructions.Template.{Template};
 ghost use Rattle.fast_tree.specs.meaning.Numbers.{numbers_of, AreBelow, NameNodes, NameLaterNodes};
+ghost use Rattle.fast_program.specs.device.Ops.{general_op};
 ghost use Rattle.fast_program.specs.device.Runs.{Begins};
 ghost use Rattle.fast_program.specs.device.Starts.{IsStartOf, AreInOrder};
 ghost use Rattle.fast_program.specs.device.Programs.{Extends, AreStarts, BeginsNode, IsProgramOf};
@@ -115,6 +118,15 @@ fn add_bodies(alloc: Global, ops: &mut Vec<Op>, nodes: &[Node]) -> Result<Vec<us
     Ok(starts)
 }
 
+/// Gives each op but an end the code `General`.
+fn generalize_ops(ops: &mut [Op])
+    ensures { ops.new ≡ map general_op ops.old }
+{
+    for op in ops.iter_mut() {
+        *op = op.generalized();
+    }
+}
+
 impl Program {
     /// Makes the program of a template set. Fails only if an allocation fails, or the program has more ops than a `u32` can count.
     pub fn of(alloc: Global, templates: &[Template], nodes: &[Node]) -> Result<Program, AllocError>
@@ -133,5 +145,15 @@ impl Program {
             template_starts,
             body_starts,
         })
+    }
+
+    /// Gives each op but an end the code `General`: the decoder's loop then leaves every node to the general path.
+    pub fn generalize(&mut self)
+        ensures ops { self.new.ops.items ≡ map general_op self.old.ops.items }
+        ensures template_starts { self.new.template_starts ≡ self.old.template_starts }
+        ensures body_starts { self.new.body_starts ≡ self.old.body_starts }
+        ensures is { (ts : List Template) (ns : List Node) → IsProgramOf self.old ts ns → IsProgramOf self.new ts ns }
+    {
+        generalize_ops(&mut self.ops);
     }
 }

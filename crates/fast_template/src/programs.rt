@@ -1,13 +1,14 @@
 //! The bodies of a set as a program of ops, which the decoder's loop runs.
 
-ghost use Rattle.std.specs.Prelude.{◌≡◌, ◌<◌, [], Some, length, slice_get};
+ghost use Rattle.std.specs.Prelude.{◌≡◌, ◌<◌, [], Some, length, map, slice_get};
 ghost use Rattle.fast_tree.specs.declared.instructions.Node.{Node};
 ghost use Rattle.fast_tree.specs.declared.instructions.Template.{Template};
 ghost use Rattle.fast_tree.specs.meaning.Numbers.{numbers_of};
+ghost use Rattle.fast_program.specs.device.Ops.{general_op};
 ghost use Rattle.fast_program.specs.device.Runs.{AreNumbered, Begins};
 ghost use Rattle.fast_program.specs.device.Programs.{SuitNodes};
 ghost use Rattle.fast_program.specs.device.Starts.{IsStartOf};
-ghost use Rattle.fast_template.specs.meaning.Flat.{templates_of, nodes_of};
+ghost use Rattle.fast_template.specs.meaning.Flat.{templates_of, nodes_of, tree_of};
 ghost use Rattle.fast_template.specs.device.Programs.{program_of};
 
 use crate::sets::Templates;
@@ -44,5 +45,17 @@ impl Templates {
             → Begins (program_of self.now) result (numbers_of x.shape) }
     {
         self.program.body_starts[n as usize]
+    }
+
+    /// Returns the set without specialized opcodes: a decoder then reads each field on its general path. The events of every stream are
+    /// the same. This is for tests.
+    pub fn on_general_path(mut self) -> Templates
+        ensures templates { templates_of result ≡ templates_of self }
+        ensures nodes { nodes_of result ≡ nodes_of self }
+        ensures tree { tree_of result ≡ tree_of self }
+        ensures program { program_of result ≡ map general_op (program_of self) }
+    {
+        self.program.generalize();
+        self
     }
 }
