@@ -4,7 +4,6 @@
 #![tactic(auto)]
 
 mod fronts;
-mod quick;
 mod rest;
 mod whole;
 mod words;
@@ -12,7 +11,9 @@ mod words;
 pub use fronts::{
     First, first_nullable_signed, first_nullable_unsigned, first_signed, first_unsigned,
 };
-pub use quick::{quick_nullable_signed, quick_nullable_unsigned, quick_signed, quick_unsigned};
 pub use rest::Rest;
-pub use whole::{one_byte_delta, whole_delta, whole_signed, whole_unsigned};
+pub use whole::{
+    any_length_signed, any_length_unsigned, one_byte_delta, whole_delta, whole_signed,
+    whole_unsigned,
+};
 pub use words::{ShortEntity, short_entity};

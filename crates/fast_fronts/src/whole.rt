@@ -37,12 +37,26 @@ pub fn whole_unsigned(
     if let Some((sum, len)) = four_in(word, bytes) {
         return Some((meant(sum, nullable), len));
     }
-    let (sum, len) = eight_in(word, bytes)?;
-    let number = meant(sum, nullable);
-    if !is_up_to(number, top) {
+    eight_unsigned(word, bytes, nullable, strict, top)
+}
+
+/// Reads the first entity as [`whole_unsigned`] does, in the same steps for each length. Where no length is usual, a processor cannot
+/// foresee a branch on it, which then takes longer than all these steps.
+#[inline(always)]
+pub fn any_length_unsigned(
+    rest: Rest<'_>,
+    nullable: bool,
+    strict: bool,
+    top: u64,
+) -> Option<(Option<u64>, usize)>
+    ensures { IfSome result (λ r. IsFirstInt (λ y. option_map pos y) strict (unsigned_up_to top) nullable
+        (Whole r.0 r.1) rest.entry.bytes.now) }
+{
+    let (word, bytes) = (rest.word(), rest.bytes);
+    if begins_with_zero(word, bytes) {
         return None;
     }
-    Some((number, len))
+    eight_unsigned(word, bytes, nullable, strict, top)
 }
 
 /// Reads the first entity, of up to eight bytes, as an integer in two's complement, from `low` to `top`, or NULL if `nullable`, and returns
@@ -70,12 +84,27 @@ pub fn whole_signed(
     if let Some((number, len)) = four_signed_in(word, bytes) {
         return Some((meant_integer(number, nullable), len));
     }
-    let (sum, len) = eight_in(word, bytes)?;
-    let number = meant_signed(sum, len, nullable);
-    if !is_between(number, low, top) {
+    eight_signed(word, bytes, nullable, strict, low, top)
+}
+
+/// Reads the first entity as [`whole_signed`] does, in the same steps for each length, as [`any_length_unsigned`] does.
+#[inline(always)]
+pub fn any_length_signed(
+    rest: Rest<'_>,
+    nullable: bool,
+    strict: bool,
+    low: i64,
+    top: i64,
+) -> Option<(Option<i64>, usize)>
+    ensures { IfSome result (λ r. IsFirstInt (λ y. y) strict (signed_between low top) nullable
+        (Whole r.0 r.1) rest.entry.bytes.now) }
+{
+    let (word, bytes) = (rest.word(), rest.bytes);
+    let refused = is_refused_signed_front(word, bytes, strict);
+    if refused {
         return None;
     }
-    Some((number, len))
+    eight_signed(word, bytes, nullable, strict, low, top)
 }
 
 /// Reads the first entity, of up to eight bytes, as a delta, or NULL if `nullable`, and returns it with its length. All of these are within
@@ -95,6 +124,53 @@ pub fn one_byte_delta(bytes: &[u8], nullable: bool) -> Option<Option<i64>>
 {
     let sum = one_byte(bytes)?;
     Some(meant_signed(sum, 1, nullable))
+}
+
+/// Reads the first entity, of up to eight bytes, without a byte too many, as an integer from 0 to `top`.
+#[inline(always)]
+fn eight_unsigned(
+    word: u64,
+    bytes: &[u8],
+    nullable: bool,
+    strict: bool,
+    top: u64,
+) -> Option<(Option<u64>, usize)>
+    requires front { IsLoaded word bytes.now }
+    requires none { IsTrue strict → NoneIsOverlong (λ v. pos (number v)) bytes.now }
+    ensures { IfSome result (λ r. IsFirstInt (λ y. option_map pos y) strict (unsigned_up_to top) nullable
+        (Whole r.0 r.1) bytes.now) }
+{
+    let _ = strict;
+    let (sum, len) = eight_in(word, bytes)?;
+    let number = meant(sum, nullable);
+    if !is_up_to(number, top) {
+        return None;
+    }
+    Some((number, len))
+}
+
+/// Reads the first entity, of up to eight bytes, without a byte too many, as an integer in two's complement from `low` to `top`.
+#[inline(always)]
+fn eight_signed(
+    word: u64,
+    bytes: &[u8],
+    nullable: bool,
+    strict: bool,
+    low: i64,
+    top: i64,
+) -> Option<(Option<i64>, usize)>
+    requires front { IsLoaded word bytes.now }
+    requires none { IsTrue strict → NoneIsOverlong signed bytes.now }
+    ensures { IfSome result (λ r. IsFirstInt (λ y. y) strict (signed_between low top) nullable
+        (Whole r.0 r.1) bytes.now) }
+{
+    let _ = strict;
+    let (sum, len) = eight_in(word, bytes)?;
+    let number = meant_signed(sum, len, nullable);
+    if !is_between(number, low, top) {
+        return None;
+    }
+    Some((number, len))
 }
 
 /// Returns the integer that is sent as `n`: `None` is NULL, if `nullable`.
@@ -141,6 +217,15 @@ fn goes_on(word: u64, bytes: &[u8]) -> bool
 {
     let first = first_in(word, bytes);
     first != 0 && first < 0x80
+}
+
+/// Returns whether the first byte is zero, which in front of an unsigned integer is a byte too many.
+#[inline(always)]
+fn begins_with_zero(word: u64, bytes: &[u8]) -> bool
+    requires front { IsLoaded word bytes.now }
+    ensures { result ≡ false → NoneIsOverlong (λ v. pos (number v)) bytes.now }
+{
+    first_in(word, bytes) == 0
 }
 
 /// Returns whether a signed integer in front, of two or more bytes, has a byte too many, in strict mode: seven bits in front that repeat

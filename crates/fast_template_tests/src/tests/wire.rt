@@ -9,9 +9,9 @@ ghost use Rattle.fast_wire.specs.meaning.Entities.{IsEntity};
 use WireFault::{D2, R6};
 use arrayvec::ArrayVec;
 use fast_fronts::{
-    First, Rest, first_nullable_signed, first_nullable_unsigned, first_signed, first_unsigned,
-    one_byte_delta, quick_nullable_signed, quick_nullable_unsigned, quick_signed, quick_unsigned,
-    short_entity, whole_delta, whole_signed, whole_unsigned,
+    First, Rest, any_length_signed, any_length_unsigned, first_nullable_signed,
+    first_nullable_unsigned, first_signed, first_unsigned, one_byte_delta, short_entity,
+    whole_delta, whole_signed, whole_unsigned,
 };
 use fast_wire::{
     Entity, Step, WireFault, read_nullable_signed, read_nullable_unsigned, read_signed,
@@ -49,24 +49,34 @@ fn followed(bytes: &[u8]) -> ArrayVec<u8, 24> {
     all
 }
 
-/// Returns the result of the fast functions for an entity of this many bytes: its integer, if it has one and is short.
-fn quick_answer<T: Copy>(want: Result<T, WireFault>, len: usize) -> Option<T> {
+/// Returns the result for an integer that may be NULL, by that for a mandatory one.
+fn or_null<T: Copy>(want: Result<T, WireFault>) -> Result<Option<T>, WireFault> {
     match want {
-        Ok(number) if len <= 8 => Some(number),
+        Ok(number) => Ok(Some(number)),
+        Err(fault) => Err(fault),
+    }
+}
+
+/// Returns the result of reading these bytes at once: the integer and its length, if it is one and short. An unsigned one with a zero in
+/// front is not read so.
+fn at_once<T: Copy>(
+    want: Result<Option<T>, WireFault>,
+    bytes: &[u8],
+    signed: bool,
+) -> Option<(Option<T>, usize)> {
+    let has_zero_front = !signed && bytes.first() == Some(&0);
+    match want {
+        Ok(number) if bytes.len() <= 8 && !has_zero_front => Some((number, bytes.len())),
         _ => None,
     }
 }
 
-/// Returns a result of the fast functions in 128 bits.
-fn widened(answer: Option<i64>) -> Option<i128> {
-    Some(i128::from(answer?))
-}
-
-/// Returns a result of the fast functions that may be NULL in 128 bits.
-fn widened_or_null(answer: Option<Option<i64>>) -> Option<Option<i128>> {
-    match answer? {
-        Some(number) => Some(Some(i128::from(number))),
-        None => Some(None),
+/// Returns the result of reading a signed integer at once in 128 bits.
+fn widened(answer: Option<(Option<i64>, usize)>) -> Option<(Option<i128>, usize)> {
+    let (number, len) = answer?;
+    match number {
+        Some(number) => Some((Some(i128::from(number)), len)),
+        None => Some((None, len)),
     }
 }
 
@@ -90,8 +100,8 @@ fn expect_each(rt: &impl Abort, are_right: &[bool], bytes: &[u8]) {
     }
 }
 
-/// Checks the results of a row: of the bytes alone, of the bytes with others after them, of the fast functions there, and of the entity, if
-/// they are one.
+/// Checks the results of a row: of the bytes alone, of the bytes with others after them, of those that are read at once there, and of
+/// the entity, if they are one.
 fn unsigned_row(
     rt: &impl Abort,
     bytes: &[u8],
@@ -103,10 +113,7 @@ fn unsigned_row(
     let all = followed(bytes);
     let all = all.as_slice();
     let first = first_answer(want, len);
-    let quick = match short_entity(all) {
-        Some(short) => quick_unsigned(all, short, strict, top),
-        None => None,
-    };
+    let read = any_length_unsigned(Rest::new(all), false, strict, top);
     let is_read = match entity(bytes) {
         Some(entity) => read_unsigned(entity.as_slice(), strict, top) == want,
         None => true,
@@ -114,7 +121,7 @@ fn unsigned_row(
     let are_right = [
         first_unsigned(bytes, strict, top) == first,
         first_unsigned(all, strict, top) == first,
-        quick == quick_answer(want, len),
+        read == at_once(or_null(want), bytes, false),
         is_read,
     ];
     expect_each(rt, &are_right, bytes);
@@ -131,10 +138,7 @@ fn nullable_unsigned_row(
     let all = followed(bytes);
     let all = all.as_slice();
     let first = first_answer(want, len);
-    let quick = match short_entity(all) {
-        Some(short) => quick_nullable_unsigned(all, short, strict, top),
-        None => None,
-    };
+    let read = any_length_unsigned(Rest::new(all), true, strict, top);
     let is_read = match entity(bytes) {
         Some(entity) => read_nullable_unsigned(entity.as_slice(), strict, top) == want,
         None => true,
@@ -142,7 +146,7 @@ fn nullable_unsigned_row(
     let are_right = [
         first_nullable_unsigned(bytes, strict, top) == first,
         first_nullable_unsigned(all, strict, top) == first,
-        quick == quick_answer(want, len),
+        read == at_once(want, bytes, false),
         is_read,
     ];
     expect_each(rt, &are_right, bytes);
@@ -153,10 +157,7 @@ fn signed_row(rt: &impl Abort, bytes: &[u8], strict: bool, want: Result<i128, Wi
     let all = followed(bytes);
     let all = all.as_slice();
     let first = first_answer(want, len);
-    let quick = match short_entity(all) {
-        Some(short) => widened(quick_signed(all, short, strict, I64_LOW, I64_TOP)),
-        None => None,
-    };
+    let read = any_length_signed(Rest::new(all), false, strict, i64::MIN, i64::MAX);
     let is_read = match entity(bytes) {
         Some(entity) => read_signed(entity.as_slice(), strict, I64_LOW, I64_TOP) == want,
         None => true,
@@ -164,7 +165,7 @@ fn signed_row(rt: &impl Abort, bytes: &[u8], strict: bool, want: Result<i128, Wi
     let are_right = [
         first_signed(bytes, strict, I64_LOW, I64_TOP) == first,
         first_signed(all, strict, I64_LOW, I64_TOP) == first,
-        quick == quick_answer(want, len),
+        widened(read) == at_once(or_null(want), bytes, true),
         is_read,
     ];
     expect_each(rt, &are_right, bytes);
@@ -180,10 +181,7 @@ fn nullable_signed_row(
     let all = followed(bytes);
     let all = all.as_slice();
     let first = first_answer(want, len);
-    let quick = match short_entity(all) {
-        Some(short) => widened_or_null(quick_nullable_signed(all, short, strict, I64_LOW, I64_TOP)),
-        None => None,
-    };
+    let read = any_length_signed(Rest::new(all), true, strict, i64::MIN, i64::MAX);
     let is_read = match entity(bytes) {
         Some(entity) => read_nullable_signed(entity.as_slice(), strict, I64_LOW, I64_TOP) == want,
         None => true,
@@ -191,7 +189,7 @@ fn nullable_signed_row(
     let are_right = [
         first_nullable_signed(bytes, strict, I64_LOW, I64_TOP) == first,
         first_nullable_signed(all, strict, I64_LOW, I64_TOP) == first,
-        quick == quick_answer(want, len),
+        widened(read) == at_once(want, bytes, true),
         is_read,
     ];
     expect_each(rt, &are_right, bytes);

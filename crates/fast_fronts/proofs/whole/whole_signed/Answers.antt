@@ -1,5 +1,5 @@
 use Rattle.std.proofs.Common.{refl}
-use Rattle.fast_fronts.proofs.numbers.Whole.{signed_is, few_integer, integer_is, means_of_few, tested_signed}
+use Rattle.fast_fronts.proofs.numbers.Whole.{few_integer, integer_is, means_of_few}
 use Rattle.fast_fronts.proofs.whole.whole_signed.Goals as goal
 
 pub returns-in-Some-four_signed_in : goal.returns-in-Some-four_signed_in
@@ -11,11 +11,3 @@ returns-in-Some-four_signed_in c =
     integer_is c.args.strict c.args.nullable c.args.low c.args.top x i.len c.args.rest.bytes.now i.ensures.entity.0
     (c.if-is_refused_signed_front.ensures refl) means
     (few_integer c.args.nullable x i.len c.args.low c.args.top c.args.rest.bytes.now i.ensures.entity.0 i.ensures.few means c.requires.low c.requires.top)
-
-pub returns : goal.returns
-returns c =
-    let i = c.in_ok-sum in
-    let meant = c.meant_signed-number in
-    signed_is c.args.strict c.args.nullable c.args.low c.args.top meant.result i.sum i.len c.args.rest.bytes.now i.ensures
-    (c.if-is_refused_signed_front.ensures refl) meant.ensures
-    (tested_signed meant.result c.args.low c.args.top c.ranges.low c.ranges.top (c.if-not-is_between.ensures refl))

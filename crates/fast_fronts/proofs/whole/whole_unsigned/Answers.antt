@@ -1,5 +1,5 @@
 use Rattle.std.proofs.Common.{refl}
-use Rattle.fast_fronts.proofs.numbers.Whole.{unsigned_is, few_unsigned, small_unsigned, tested_unsigned}
+use Rattle.fast_fronts.proofs.numbers.Whole.{unsigned_is, few_unsigned, small_unsigned}
 use Rattle.fast_fronts.proofs.whole.whole_unsigned.Goals as goal
 
 pub returns-in-Some : goal.returns-in-Some
@@ -10,11 +10,3 @@ returns-in-Some c =
     unsigned_is c.args.strict c.args.nullable c.args.top meant.result i.sum i.len c.args.rest.bytes.now i.ensures.entity
     (λ _. c.if-not-goes_on.ensures refl) meant.ensures
     (small_unsigned c.args.nullable meant.result i.sum c.args.top meant.ensures small c.requires.top)
-
-pub returns : goal.returns
-returns c =
-    let i = c.in_ok-sum-2 in
-    let meant = c.meant-number in
-    unsigned_is c.args.strict c.args.nullable c.args.top meant.result i.sum i.len c.args.rest.bytes.now i.ensures (λ _. c.if-not-goes_on.ensures refl)
-    meant.ensures
-    (tested_unsigned meant.result c.args.top (c.if-not-is_up_to.ensures refl))
