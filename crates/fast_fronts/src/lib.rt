@@ -12,8 +12,5 @@ pub use fronts::{
     First, first_nullable_signed, first_nullable_unsigned, first_signed, first_unsigned,
 };
 pub use rest::Rest;
-pub use whole::{
-    any_length_signed, any_length_unsigned, one_byte_delta, whole_delta, whole_signed,
-    whole_unsigned,
-};
+pub use whole::{one_byte_delta, whole_delta, whole_signed, whole_unsigned};
 pub use words::{ShortEntity, short_entity};

@@ -17,42 +17,31 @@ use crate::words::{
 
 /// Reads the first entity, of up to eight bytes, as an integer from 0 to `top`, or NULL if `nullable`, and returns it with its length. An
 /// entity of up to four bytes is within any `top`. An entity with a byte too many is not read.
+///
+/// If entities are `mostly_short`, there are branches for one byte and for up to four, which take fewer steps. Else all lengths take the
+/// same steps: where no length is usual, a processor cannot foresee a branch on it, and the branches take longer than all these steps.
 #[inline(always)]
 pub fn whole_unsigned(
     rest: Rest<'_>,
     nullable: bool,
     strict: bool,
     top: u64,
+    mostly_short: bool,
 ) -> Option<(Option<u64>, usize)>
     requires top { 268435455 ≤ top }
     ensures { IfSome result (λ r. IsFirstInt (λ y. option_map pos y) strict (unsigned_up_to top) nullable
         (Whole r.0 r.1) rest.entry.bytes.now) }
 {
     let (word, bytes) = (rest.word(), rest.bytes);
-    let _ = strict;
-    if !goes_on(word, bytes) {
-        let sum = byte_in(word, bytes)?;
-        return Some((meant(sum, nullable), 1));
+    if mostly_short {
+        if !goes_on(word, bytes) {
+            let sum = byte_in(word, bytes)?;
+            return Some((meant(sum, nullable), 1));
+        }
+        if let Some((sum, len)) = four_in(word, bytes) {
+            return Some((meant(sum, nullable), len));
+        }
     }
-    if let Some((sum, len)) = four_in(word, bytes) {
-        return Some((meant(sum, nullable), len));
-    }
-    eight_unsigned(word, bytes, nullable, strict, top)
-}
-
-/// Reads the first entity as [`whole_unsigned`] does, in the same steps for each length. Where no length is usual, a processor cannot
-/// foresee a branch on it, which then takes longer than all these steps.
-#[inline(always)]
-pub fn any_length_unsigned(
-    rest: Rest<'_>,
-    nullable: bool,
-    strict: bool,
-    top: u64,
-) -> Option<(Option<u64>, usize)>
-    ensures { IfSome result (λ r. IsFirstInt (λ y. option_map pos y) strict (unsigned_up_to top) nullable
-        (Whole r.0 r.1) rest.entry.bytes.now) }
-{
-    let (word, bytes) = (rest.word(), rest.bytes);
     if begins_with_zero(word, bytes) {
         return None;
     }
@@ -68,6 +57,7 @@ pub fn whole_signed(
     strict: bool,
     low: i64,
     top: i64,
+    mostly_short: bool,
 ) -> Option<(Option<i64>, usize)>
     requires low { low ≤ℤ neg_ℤ (pos 134217728) }
     requires top { pos 134217727 ≤ℤ top }
@@ -75,34 +65,18 @@ pub fn whole_signed(
         (Whole r.0 r.1) rest.entry.bytes.now) }
 {
     let (word, bytes) = (rest.word(), rest.bytes);
-    if let Some(sum) = byte_in(word, bytes) {
-        return Some((meant_signed(sum, 1, nullable), 1));
+    if mostly_short {
+        if let Some(sum) = byte_in(word, bytes) {
+            return Some((meant_signed(sum, 1, nullable), 1));
+        }
     }
     if is_refused_signed_front(word, bytes, strict) {
         return None;
     }
-    if let Some((number, len)) = four_signed_in(word, bytes) {
-        return Some((meant_integer(number, nullable), len));
-    }
-    eight_signed(word, bytes, nullable, strict, low, top)
-}
-
-/// Reads the first entity as [`whole_signed`] does, in the same steps for each length, as [`any_length_unsigned`] does.
-#[inline(always)]
-pub fn any_length_signed(
-    rest: Rest<'_>,
-    nullable: bool,
-    strict: bool,
-    low: i64,
-    top: i64,
-) -> Option<(Option<i64>, usize)>
-    ensures { IfSome result (λ r. IsFirstInt (λ y. y) strict (signed_between low top) nullable
-        (Whole r.0 r.1) rest.entry.bytes.now) }
-{
-    let (word, bytes) = (rest.word(), rest.bytes);
-    let refused = is_refused_signed_front(word, bytes, strict);
-    if refused {
-        return None;
+    if mostly_short {
+        if let Some((number, len)) = four_signed_in(word, bytes) {
+            return Some((meant_integer(number, nullable), len));
+        }
     }
     eight_signed(word, bytes, nullable, strict, low, top)
 }
@@ -113,7 +87,7 @@ pub fn any_length_signed(
 pub fn whole_delta(rest: Rest<'_>, nullable: bool, strict: bool) -> Option<(Option<i64>, usize)>
     ensures { IfSome result (λ r. IsFirstInt (λ y. y) strict delta_range nullable (Whole r.0 r.1) rest.entry.bytes.now) }
 {
-    whole_signed(rest, nullable, strict, i64::MIN, i64::MAX)
+    whole_signed(rest, nullable, strict, i64::MIN, i64::MAX, true)
 }
 
 /// Reads the first entity as a delta, or NULL if `nullable`, if it is one byte.

@@ -61,7 +61,7 @@ pub(crate) fn short_exponent(rest: Rest<'_>, optional: bool) -> Option<Option<i3
 pub(crate) fn whole_mantissa(rest: Rest<'_>, strict: bool) -> Option<(i64, usize)>
     ensures { IfSome result (λ r. IsFirstInt (λ y. Some y) strict (signed_range 63) false (Whole r.0 r.1) rest.entry.bytes.now) }
 {
-    match whole_signed(rest, false, strict, i64::MIN, i64::MAX)? {
+    match whole_signed(rest, false, strict, i64::MIN, i64::MAX, true)? {
         (Some(mantissa), bytes) => Some((mantissa, bytes)),
         (None, _) => None,
     }

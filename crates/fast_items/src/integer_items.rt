@@ -3,10 +3,8 @@
 //!
 //! `None` stands for all others, faults included: nothing has changed then, and the general path decodes them.
 
-ghost use Rattle.std.specs.Prelude.{◌≡◌, ◌≢◌, ◌<◌, ◌≤◌, ◌≤ℤ◌, ◌^◌, IsTrue, ℕ, length, ℤ, pos, neg_ℤ, ◌+ℤ◌, Some, Ok, IfSome, IfNone, option_map};
+ghost use Rattle.std.specs.Prelude.{◌≡◌, ◌≢◌, ◌<◌, ◌^◌, IsTrue, ℕ, length, ℤ, pos, ◌+ℤ◌, Some, Ok, IfSome, IfNone, option_map};
 ghost use Rattle.fast_wire.specs.meaning.Integers.{IsWithin, signed_range, unsigned_up_to, signed_between};
-ghost use Rattle.fast_fronts.specs.device.Fronts.{IsFirstInt};
-ghost use Rattle.fast_fronts.specs.declared.fronts.First.TheVariants.{Whole};
 ghost use Rattle.fast_value.specs.meaning.Kinds.{U, I, family, integers, integer_of, value_of_integer};
 ghost use Rattle.fast_dict.specs.meaning.Dictionary.{assigned, write_at};
 ghost use Rattle.fast_dict.specs.meaning.Operators.{range_of, ranged};
@@ -18,9 +16,7 @@ ghost use Rattle.fast_items.specs.device.IntegerItems.{KeepsItem, IsBehindDelta}
 
 use crate::taken::TakenItem;
 use fast_dict::{Slots, Store};
-use fast_fronts::{
-    Rest, any_length_signed, any_length_unsigned, whole_delta, whole_signed, whole_unsigned,
-};
+use fast_fronts::{Rest, whole_delta, whole_signed, whole_unsigned};
 use fast_tree::Operator;
 use fast_units::fields::{Number, number_under};
 use fast_value::{Code, Kind};
@@ -87,46 +83,6 @@ fn signed_number(number: Option<i64>) -> Option<Number>
     }
 }
 
-/// Reads the first entity as an unsigned integer, or NULL if `nullable`. Integers without operator have no usual length.
-#[inline(always)]
-fn unsigned_under(
-    operator: Operator,
-    rest: Rest<'_>,
-    nullable: bool,
-    strict: bool,
-    top: u64,
-) -> Option<(Option<u64>, usize)>
-    requires top { 268435455 ≤ top }
-    ensures { IfSome result (λ r. IsFirstInt (λ y. option_map pos y) strict (unsigned_up_to top) nullable
-        (Whole r.0 r.1) rest.entry.bytes.now) }
-{
-    match operator {
-        Operator::None => any_length_unsigned(rest, nullable, strict, top),
-        _ => whole_unsigned(rest, nullable, strict, top),
-    }
-}
-
-/// Reads the first entity as a signed integer, as [`unsigned_under`] does.
-#[inline(always)]
-fn signed_under(
-    operator: Operator,
-    rest: Rest<'_>,
-    nullable: bool,
-    strict: bool,
-    low: i64,
-    top: i64,
-) -> Option<(Option<i64>, usize)>
-    requires low { low ≤ℤ neg_ℤ (pos 134217728) }
-    requires top { pos 134217727 ≤ℤ top }
-    ensures { IfSome result (λ r. IsFirstInt (λ y. y) strict (signed_between low top) nullable
-        (Whole r.0 r.1) rest.entry.bytes.now) }
-{
-    match operator {
-        Operator::None => any_length_signed(rest, nullable, strict, low, top),
-        _ => whole_signed(rest, nullable, strict, low, top),
-    }
-}
-
 /// Reads an unsigned integer, or NULL, under an operator other than delta: copy and increment store it.
 #[inline(always)]
 pub fn sent_unsigned(
@@ -149,7 +105,9 @@ pub fn sent_unsigned(
     ensures none { IfNone result (slots.new ≡ slots.old) }
     ensures terms { slots_terms slots.new ≡ slots_terms slots.old }
 {
-    let (number, bytes) = unsigned_under(operator, rest, optional, strict, top)?;
+    // those without operator have no usual length
+    let mostly_short = operator != Operator::None;
+    let (number, bytes) = whole_unsigned(rest, optional, strict, top, mostly_short)?;
     let item = unsigned_number(number);
     keep_item_at(slots, entry, kind, operator, item);
     Some(TakenItem { item, bytes })
@@ -178,7 +136,8 @@ pub fn sent_signed(
     ensures none { IfNone result (slots.new ≡ slots.old) }
     ensures terms { slots_terms slots.new ≡ slots_terms slots.old }
 {
-    let (number, bytes) = signed_under(operator, rest, optional, strict, low, top)?;
+    let mostly_short = operator != Operator::None;
+    let (number, bytes) = whole_signed(rest, optional, strict, low, top, mostly_short)?;
     let item = signed_number(number);
     keep_item_at(slots, entry, kind, operator, item);
     Some(TakenItem { item, bytes })

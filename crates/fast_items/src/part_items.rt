@@ -34,7 +34,7 @@ pub(crate) fn whole_subtraction(
 ) -> Option<(Option<i64>, usize)>
     ensures { IfSome result (λ r. IsFirstInt (λ y. y) strict (signed_range 31) nullable (Whole r.0 r.1) rest.entry.bytes.now) }
 {
-    whole_signed(rest, nullable, strict, -2_147_483_648, 2_147_483_647)
+    whole_signed(rest, nullable, strict, -2_147_483_648, 2_147_483_647, true)
 }
 
 /// Returns the offset of the last character of an ASCII string of at most `room` characters, which begins with a character.

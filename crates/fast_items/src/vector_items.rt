@@ -31,7 +31,7 @@ pub(crate) fn whole_size(
     ensures { IfSome result (λ r. IsFirstInt (λ y. option_map pos y) strict (unsigned_range 32) nullable
         (Whole r.0 r.1) rest.entry.bytes.now) }
 {
-    whole_unsigned(rest, nullable, strict, TOP_SIZE)
+    whole_unsigned(rest, nullable, strict, TOP_SIZE, true)
 }
 
 /// Returns the next `size` bytes, if there is room for them and they are there.

@@ -159,7 +159,7 @@ pub fn sequence_arm<'t, S: Sink>(
         unreachable!()
     };
     let start = templates.body_start(node);
-    let read = whole_unsigned(spot.rest, optional, limits.strict, 4_294_967_295);
+    let read = whole_unsigned(spot.rest, optional, limits.strict, 4_294_967_295, true);
     let Some((claimed, bytes)) = read else {
         return Went::Declined;
     };

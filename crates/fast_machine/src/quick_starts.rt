@@ -65,7 +65,13 @@ impl<'t> Machine<'t> {
         ensures same { self.new ≡ record self.old { slots = self.new.slots; latest = self.new.latest } }
         ensures terms { slots_terms self.new.slots ≡ slots_terms self.old.slots }
     {
-        let read = whole_unsigned(Rest::new(&rest[1..]), false, limits.strict, 4_294_967_295);
+        let read = whole_unsigned(
+            Rest::new(&rest[1..]),
+            false,
+            limits.strict,
+            4_294_967_295,
+            true,
+        );
         let (claimed, len) = read?;
         let id = claimed?;
         let start = template_with(templates, id as u32, self.latest)?;

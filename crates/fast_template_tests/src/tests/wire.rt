@@ -9,9 +9,8 @@ ghost use Rattle.fast_wire.specs.meaning.Entities.{IsEntity};
 use WireFault::{D2, R6};
 use arrayvec::ArrayVec;
 use fast_fronts::{
-    First, Rest, any_length_signed, any_length_unsigned, first_nullable_signed,
-    first_nullable_unsigned, first_signed, first_unsigned, one_byte_delta, short_entity,
-    whole_delta, whole_signed, whole_unsigned,
+    First, Rest, first_nullable_signed, first_nullable_unsigned, first_signed, first_unsigned,
+    one_byte_delta, short_entity, whole_delta, whole_signed, whole_unsigned,
 };
 use fast_wire::{
     Entity, Step, WireFault, read_nullable_signed, read_nullable_unsigned, read_signed,
@@ -80,6 +79,34 @@ fn widened(answer: Option<(Option<i64>, usize)>) -> Option<(Option<i128>, usize)
     }
 }
 
+/// Returns whether the integer in front is read at once as it should be, whether entities are mostly short or not.
+fn unsigned_at_once(
+    all: &[u8],
+    nullable: bool,
+    strict: bool,
+    top: u64,
+    want: Option<(Option<u64>, usize)>,
+) -> bool {
+    if top < 268_435_455 {
+        return false;
+    }
+    let rest = Rest::new(all);
+    whole_unsigned(rest, nullable, strict, top, true) == want
+        && whole_unsigned(rest, nullable, strict, top, false) == want
+}
+
+/// Returns the same of a signed integer of 64 bits.
+fn signed_at_once(
+    all: &[u8],
+    nullable: bool,
+    strict: bool,
+    want: Option<(Option<i128>, usize)>,
+) -> bool {
+    let rest = Rest::new(all);
+    widened(whole_signed(rest, nullable, strict, i64::MIN, i64::MAX, true)) == want
+        && widened(whole_signed(rest, nullable, strict, i64::MIN, i64::MAX, false)) == want
+}
+
 /// Returns the result of reading an integer at the front of a slice, after which further bytes change nothing.
 fn first_answer<T: Copy>(want: Result<T, WireFault>, len: usize) -> First<T> {
     match want {
@@ -113,7 +140,6 @@ fn unsigned_row(
     let all = followed(bytes);
     let all = all.as_slice();
     let first = first_answer(want, len);
-    let read = any_length_unsigned(Rest::new(all), false, strict, top);
     let is_read = match entity(bytes) {
         Some(entity) => read_unsigned(entity.as_slice(), strict, top) == want,
         None => true,
@@ -121,7 +147,13 @@ fn unsigned_row(
     let are_right = [
         first_unsigned(bytes, strict, top) == first,
         first_unsigned(all, strict, top) == first,
-        read == at_once(or_null(want), bytes, false),
+        unsigned_at_once(
+            all,
+            false,
+            strict,
+            top,
+            at_once(or_null(want), bytes, false),
+        ),
         is_read,
     ];
     expect_each(rt, &are_right, bytes);
@@ -138,7 +170,6 @@ fn nullable_unsigned_row(
     let all = followed(bytes);
     let all = all.as_slice();
     let first = first_answer(want, len);
-    let read = any_length_unsigned(Rest::new(all), true, strict, top);
     let is_read = match entity(bytes) {
         Some(entity) => read_nullable_unsigned(entity.as_slice(), strict, top) == want,
         None => true,
@@ -146,7 +177,7 @@ fn nullable_unsigned_row(
     let are_right = [
         first_nullable_unsigned(bytes, strict, top) == first,
         first_nullable_unsigned(all, strict, top) == first,
-        read == at_once(want, bytes, false),
+        unsigned_at_once(all, true, strict, top, at_once(want, bytes, false)),
         is_read,
     ];
     expect_each(rt, &are_right, bytes);
@@ -157,7 +188,6 @@ fn signed_row(rt: &impl Abort, bytes: &[u8], strict: bool, want: Result<i128, Wi
     let all = followed(bytes);
     let all = all.as_slice();
     let first = first_answer(want, len);
-    let read = any_length_signed(Rest::new(all), false, strict, i64::MIN, i64::MAX);
     let is_read = match entity(bytes) {
         Some(entity) => read_signed(entity.as_slice(), strict, I64_LOW, I64_TOP) == want,
         None => true,
@@ -165,7 +195,7 @@ fn signed_row(rt: &impl Abort, bytes: &[u8], strict: bool, want: Result<i128, Wi
     let are_right = [
         first_signed(bytes, strict, I64_LOW, I64_TOP) == first,
         first_signed(all, strict, I64_LOW, I64_TOP) == first,
-        widened(read) == at_once(or_null(want), bytes, true),
+        signed_at_once(all, false, strict, at_once(or_null(want), bytes, true)),
         is_read,
     ];
     expect_each(rt, &are_right, bytes);
@@ -181,7 +211,6 @@ fn nullable_signed_row(
     let all = followed(bytes);
     let all = all.as_slice();
     let first = first_answer(want, len);
-    let read = any_length_signed(Rest::new(all), true, strict, i64::MIN, i64::MAX);
     let is_read = match entity(bytes) {
         Some(entity) => read_nullable_signed(entity.as_slice(), strict, I64_LOW, I64_TOP) == want,
         None => true,
@@ -189,7 +218,7 @@ fn nullable_signed_row(
     let are_right = [
         first_nullable_signed(bytes, strict, I64_LOW, I64_TOP) == first,
         first_nullable_signed(all, strict, I64_LOW, I64_TOP) == first,
-        widened(read) == at_once(want, bytes, true),
+        signed_at_once(all, true, strict, at_once(want, bytes, true)),
         is_read,
     ];
     expect_each(rt, &are_right, bytes);
@@ -345,7 +374,7 @@ fn summed(piece: &[u8]) -> (u64, usize) {
     let mut rest = Rest::new(piece);
     let mut sum: u64 = 0;
     for _ in piece {
-        let Some((Some(number), len)) = whole_unsigned(rest, false, true, U32_TOP) else {
+        let Some((Some(number), len)) = whole_unsigned(rest, false, true, U32_TOP, true) else {
             break;
         };
         sum = sum.wrapping_add(number);
@@ -364,8 +393,14 @@ fn integers_that_are_left(rt: HostRuntime) {
         summed(&[
             1, 0, 0x80, 1, 0x80, 1, 0, 0, 0x80, 1, 0, 0x80, 1, 0x80, 0x85,
         ]) == (0x20_8105, 0),
-        whole_signed(Rest::new(&[0x7f, 0x80]), false, false, i64::MIN, i64::MAX)
-            == Some((Some(-128), 2)),
+        whole_signed(
+            Rest::new(&[0x7f, 0x80]),
+            false,
+            false,
+            i64::MIN,
+            i64::MAX,
+            true,
+        ) == Some((Some(-128), 2)),
         whole_delta(Rest::new(&[0x80, 0x81]).skip(1), true, false) == Some((Some(0), 1)),
         whole_delta(Rest::new(&[0x80]), true, false) == Some((None, 1)),
         one_byte_delta(&[0xff], false) == Some(Some(-1)),
