@@ -147,10 +147,6 @@ pub hand_more : (w v rest : List ℕ) → false ≡ (length w == 0) → at_hand 
 hand_more [] v rest e = cc e
 hand_more (b ∷ w) v rest e = refl
 
-pub hand_some : (w rest : List ℕ) → false ≡ (length w == 0) → at_hand w rest ≡ w
-hand_some [] rest e = cc e
-hand_some (b ∷ w) rest e = refl
-
 -- An ASCII string of which no byte is there.
 pub none_open : (s : Bool) (l : Bounds) (f : FieldData) (p : PreviousData) (v : List ℕ) → IsAsciiFirst f → f.operator ≢ Constant
     → length v < 1 → Stays (reader_of s (field_term l f p true)) v

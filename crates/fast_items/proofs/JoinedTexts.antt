@@ -1,20 +1,16 @@
 -- Texts that are joined to what their entries hold.
-use Rattle.std.proofs.Common.{refl, sym, ap, ◌∙◌, arith, inl, inr, get_or, length-append}
-use Rattle.std.proofs.Math.Nat.{min-le_left, min-le_right}
-use Rattle.std.specs.Prelude.{ℤ, ◌≤ℤ◌, ◌<ℤ◌, ◌≡◌, ◌≢◌, ◌⊎◌, Some, slice_get, ℕ, ◌+◌, ◌-◌, ◌<◌, ◌≤◌, Bool, true, false, nat_le}
-use Rattle.std.specs.Prelude.{if◌then◌else◌, List, [], ◌∷◌, ◌++◌, length, take, drop, min, pos, negsuc, Ok, Err}
-use Rattle.std.specs.Int.Signed.{le_z}
+use Rattle.std.proofs.Common.{refl, sym, ap, arith, inl, inr, get_or, length-append}
+use Rattle.std.specs.Prelude.{◌≡◌, ◌⊎◌, ℕ, ◌+◌, ◌-◌, ◌<◌, ◌≤◌, Bool, true, false, nat_le}
+use Rattle.std.specs.Prelude.{if◌then◌else◌, List, [], ◌∷◌, ◌++◌, length, take, drop, pos, negsuc, Ok, Err}
 use Rattle.std.specs.Str.{is_utf8}
-use Rattle.std.proofs.lemmas.Int.{ints}
 use Rattle.std.proofs.lemmas.Str.{IsUtf8-append, is_utf8-from_IsUtf8, IsUtf8-from_is_utf8}
-use Rattle.std.proofs.lemmas.Bool.{leb-false}
 use Rattle.std.proofs.lemmas.Bool.Decides.{leb_tells}
 use Rattle.std.proofs.lemmas.List.{length-take-le, take-take, get_or-take}
 use Rattle.fast_value.specs.declared.codes.Code.TheVariants.{D7, R2}
 use Rattle.fast_value.specs.declared.kinds.Kind.{Kind}
 use Rattle.fast_value.specs.declared.kinds.Kind.TheVariants.{UInt32, Int32, UInt64, Int64, Decimal, Ascii, Unicode, Bytes}
 use Rattle.fast_value.specs.meaning.Kinds.{UnicodeText, value_of_text}
-use Rattle.fast_dict.specs.meaning.Operators.{checked_text, append_to, prepend_to, kept_of, with_tail}
+use Rattle.fast_dict.specs.meaning.Operators.{checked_text, append_to, prepend_to, kept_of}
 use Rattle.fast_units.specs.device.NextUnits.{BeginsWithCharacter, IsNextText}
 use Rattle.fast_units.specs.declared.progress.Progress.TheVariants.{Whole}
 use Rattle.fast_units.proofs.NextTexts.{text_whole}
@@ -59,16 +55,6 @@ module _ (base : List ℕ) (dropped : ℕ) (within : dropped ≤ length base) wh
       by (inl t) = rw t.0 refl
       by (inr t) = absurd (omega (arith, within, t))
 
--- A tail keeps the front of its base that it leaves over.
-pub tail_behind : (base part : List ℕ) → with_tail base part ≡ take (length base - length part) base ++ part
-tail_behind base part = by (leb_tells (length part) (length base))
-  where
-    by : ((nat_le (length part) (length base) ≡ true) × (length part ≤ length base))
-        ⊎ ((nat_le (length part) (length base) ≡ false) × (length base < length part))
-        → (if nat_le (length part) (length base) then take (length base - length part) base ++ part else part) ≡ take (length base - length part) base ++ part
-    by (inl t) = rw t.0 refl
-    by (inr t) = let none : length base - length part ≡ 0 = omega (arith, t) in rw (t.0, none) refl
-
 -- An ASCII text that ends with the first stop bit.
 pub part_spelled : (rest : List ℕ) (last most : ℕ) → BeginsWithCharacter rest → last < length rest
     → ((k : ℕ) → k < last → get_or rest k 0 < 128) → 128 ≤ get_or rest last 0 → get_or rest last 0 < 256
@@ -84,28 +70,3 @@ part_spelled rest last most begins within before stop byte fits =
     text_whole false most rest begins (last + 1) last (take last rest) (take last rest ++ (get_or rest last 0 - 128) ∷ [])
     (omega (arith, within)) (omega (arith, fits, all, front)) (omega (arith, here)) (λ k h. rw (at k (omega (arith, h))) (before k h)) (rw end stop) byte
     (sym (take-take last (last + 1) rest (omega arith))) (ap (λ b. take last rest ++ (b - 128) ∷ []) (sym end))
-
--- A test of a subtraction length tells at which end the bytes are dropped.
-pub at_end : (k : ℤ) (d : ℕ) → le_z (pos 0) k ≡ true → (pos 0 ≤ℤ k → k ≡ pos d) → k ≡ pos d
-at_end (pos n) d h end = end (omega (arith, ints))
-at_end (negsuc n) d h end = absurd (cc h)
-
-pub at_front : (k : ℤ) (d : ℕ) → le_z (pos 0) k ≡ false → (k <ℤ pos 0 → k ≡ negsuc d) → k ≡ negsuc d
-at_front (pos n) d h front = absurd (omega (arith, leb-false 0 n h))
-at_front (negsuc n) d h front = front (omega (arith, ints))
-
--- A text begins with a character where its first byte is neither a zero nor a bare stop bit.
-pub first_begins : (w : List ℕ) (b : ℕ) → Some b ≡ slice_get w 0 → b ≢ 0 → b ≢ 128 → BeginsWithCharacter w
-first_begins [] b is no_zero no_bare = tt
-first_begins (x ∷ w) b is no_zero no_bare =
-    let same : b ≡ x = cc is in
-    (λ e. no_zero (same ∙ e), λ e. no_bare (same ∙ e))
-
--- An index of the bytes that there is room for.
-pub within_room : (rest : List ℕ) (room m last : ℕ) → m ≡ min (length rest) room → last < length (take m rest)
-    → (last < length rest) × (last < room) × (last < m)
-within_room rest room m last least here =
-    let left = min-le_left (length rest) room in
-    let right = min-le_right (length rest) room in
-    let long : length (take m rest) ≡ m = length-take-le m rest (omega (arith, least, left)) in
-    (omega (arith, here, long, least, left), omega (arith, here, long, least, right), omega (arith, here, long))

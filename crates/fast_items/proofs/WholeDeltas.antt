@@ -91,9 +91,6 @@ module _ (s : Bool) (l : Bounds) (f : FieldData) (old new : Dictionary) (scratch
       let q : entry ≡ e = cc i in subst (λ n. n < length old) q there in
       text_kept f old new scratch piece text (value_of_text f.kind text) checked (rw is_entry refl) within becomes
 
-  behind : Reader Outcome
-  behind = reader_of s (term_behind l f (previous_at f.entry old) (Part k))
-
   pub gives_ascii : (rest : List ℕ) (n : ℕ) → kind ≡ K.Ascii → IsNextText false (l.max_text - kept_length j.kept) rest part (Whole true n)
       → GivesField (reader_of s (term_behind l f (previous_at f.entry old) (Part k))) (take n rest) f From.Entry old new scratch piece
   gives_ascii rest n e h =

@@ -1,18 +1,17 @@
 -- What is decided for a field, case by case.
 use Rattle.std.proofs.Common.{refl, sym, ap, ◌∙◌, subst}
-use Rattle.std.specs.Prelude.{◌≡◌, ◌≢◌, ℕ, zero, suc, Bool, true, false, List, [], ◌∷◌, slice_index_or, slice_set, is_some, ℤ, pos, negsuc}
+use Rattle.std.specs.Prelude.{◌≡◌, ◌≢◌, ℕ, zero, suc, Bool, true, false, List, [], ◌∷◌, slice_index_or, slice_set, is_some, ℤ}
 use Rattle.std.specs.Prelude.{◌+ℤ◌, if◌then◌else◌, Option, Some, None, option_map, Result, Ok, Err}
 use Rattle.fast_value.specs.declared.kinds.Kind.{Kind}
 use Rattle.fast_value.specs.declared.kinds.Kind.TheVariants.{UInt32, Int32, UInt64, Int64, Decimal, Ascii, Unicode, Bytes}
 use Rattle.fast_value.specs.declared.codes.Code.{Code}
-use Rattle.fast_value.specs.declared.codes.Code.TheVariants.{D2, D4, R1}
+use Rattle.fast_value.specs.declared.codes.Code.TheVariants.{D2, D4}
 use Rattle.fast_value.specs.meaning.Kinds.{ScalarData, Family, integers, decimals, texts, family, integer_of, value_of_integer, same_kind}
-use Rattle.fast_value.specs.meaning.Kinds.{signed_range, mantissa_of, Dec}
 use Rattle.fast_tree.specs.declared.operators.Operator.{Operator}
 use Rattle.fast_tree.specs.declared.operators.Operator.TheVariants as Op
 use Rattle.fast_tree.specs.meaning.Tree.{FieldData}
 use Rattle.fast_dict.specs.meaning.Dictionary.{Dictionary, PreviousData, undefined, empty, assigned, previous_at, value_in, write_at}
-use Rattle.fast_dict.specs.meaning.Operators.{Outcome, delta_base, integer_step, mantissa_step, ranged, range_of, checked, checked_in, null}
+use Rattle.fast_dict.specs.meaning.Operators.{Outcome, delta_base, integer_step, ranged, range_of, checked, checked_in, null}
 use Rattle.fast_dict.specs.meaning.Operators.{value, gives, gives_none, decide, decide_by, nothing, fixed, ◌>>=◌, keeps, from_initial}
 use Rattle.fast_dict.specs.meaning.Operators.{unsent, next_value}
 use Rattle.fast_units.specs.declared.source.ValueSource.{ValueSource}
@@ -132,19 +131,6 @@ own_decided f d v source o p at =
     next_decided f d d f.kind v source p refl
     (sym (write_same f.entry (assigned f.kind (next_value f.operator f.kind v)) d (p ∙ ap (assigned f.kind) (sym same))))
     (λ scratch piece. ap Some same ∙ sym (at d scratch piece))
-
--- The integer of an integer's value is the integer.
-pub integer_again : (kind : Kind) (x : ℤ) → integer_of (value_of_integer kind x) ≡ x
-integer_again UInt32 (pos n) = refl
-integer_again UInt32 (negsuc n) = refl
-integer_again UInt64 (pos n) = refl
-integer_again UInt64 (negsuc n) = refl
-integer_again Int32 x = refl
-integer_again Int64 x = refl
-integer_again Decimal x = refl
-integer_again Ascii x = refl
-integer_again Unicode x = refl
-integer_again Bytes x = refl
 
 -- A field stands in the stream as under a presence bit that is set, or it is decided with nothing sent.
 stands_by : (op : Operator) (bit : Bool) (l : Bounds) (f : FieldData) (p : PreviousData) → needs_bytes op bit ≡ true
@@ -342,15 +328,3 @@ base_stepped f p k = by (delta_base f p)
         ≡ ((r >>= (λ v. Ok (integer_of v))) >>= (λ x. ranged (range_of f.kind) D2 (x +ℤ k) >>= (λ y. keeps f.kind (value_of_integer f.kind y))))
     by (Ok v) = refl
     by (Err c) = refl
-
--- A base that is a fault is the step's, and so is a sum.
-pub base_fault : (f : FieldData) (p : PreviousData) (k : ℤ) (c : Code) → base_integer f p ≡ Err c → integer_step f p k ≡ Err c
-base_fault f p k c e = base_stepped f p k ∙ ap (λ b. b >>= (λ x. ranged (range_of f.kind) D2 (x +ℤ k) >>= (λ y. keeps f.kind (value_of_integer f.kind y)))) e
-
-pub mantissa_fault : (f : FieldData) (p : PreviousData) (e k : ℤ) (c : Code) → delta_base f p ≡ Err c → mantissa_step f p e k ≡ Err c
-mantissa_fault f p e k c h = ap (λ b. b >>= (λ base. ranged (signed_range 63) R1 (mantissa_of base +ℤ k) >>= (λ m. keeps f.kind (Dec e m)))) h
-
-pub mantissa_out : (f : FieldData) (p : PreviousData) (e k : ℤ) (c : Code) (v : ScalarData) → delta_base f p ≡ Ok v
-    → ranged (signed_range 63) R1 (mantissa_of v +ℤ k) ≡ Err c → mantissa_step f p e k ≡ Err c
-mantissa_out f p e k c v h out = ap (λ b. b >>= (λ base. ranged (signed_range 63) R1 (mantissa_of base +ℤ k) >>=
-    (λ m. keeps f.kind (Dec e m)))) h ∙ ap (λ r. r >>= (λ m. keeps f.kind (Dec e m))) out

@@ -1,16 +1,13 @@
 -- What a unit that is whole, wrong or cut makes of the field that it stands in.
-use Rattle.std.proofs.Common.{refl, sym, ap, ◌∙◌, subst, arith}
+use Rattle.std.proofs.Common.{refl, sym, ap, ◌∙◌, subst}
 use Rattle.std.proofs.Common.{to_z, of_z, FitsSigned}
 use Rattle.std.proofs.Math.Facts.{to_z-of_z}
 use Rattle.std.specs.Int.{Width}
-use Rattle.std.proofs.lemmas.Int.{ints}
-use Rattle.std.specs.Prelude.{◌≡◌, ◌≢◌, ℕ, ◌<◌, ◌≤◌, ◌^◌, Bool, true, false, List, length}
-use Rattle.std.specs.Prelude.{take, ℤ, pos, neg_ℤ, ◌≤ℤ◌, Option, Some, IfSome, Result, Ok, Err}
+use Rattle.std.specs.Prelude.{◌≡◌, ◌≢◌, ℕ, ◌<◌, ◌≤◌, Bool, true, false, List, length}
+use Rattle.std.specs.Prelude.{take, ℤ, Option, Some, IfSome, Result, Ok, Err}
 use Rattle.fast_wire.specs.meaning.Integers.{Range, IsWithin, delta_range, signed_range, exponent_range}
 use Rattle.fast_value.specs.declared.codes.Code.{Code}
 use Rattle.fast_value.specs.declared.codes.Code.TheVariants.{D2, R1}
-use Rattle.fast_value.specs.declared.kinds.Kind.{Kind}
-use Rattle.fast_value.specs.declared.kinds.Kind.TheVariants.{UInt32, Int32, UInt64, Int64, Decimal, Ascii, Unicode, Bytes}
 use Rattle.fast_value.specs.meaning.Kinds.{integers, decimals, family}
 use Rattle.fast_value.specs.meaning.Limits.{Bounds}
 use Rattle.fast_tree.specs.declared.operators.Operator.{Operator}
@@ -142,14 +139,3 @@ number_within range wire x n same e h = subst (λ q. IsWithin q n) same (subst (
 -- a number again that was passed in so many bits
 pub again : (w : Width) (n : ℤ) → FitsSigned w n → to_z w (of_z w n) ≡ n
 again w n fits = to_z-of_z fits
-
--- the least integer of all kinds
-pub kind_low : (kind : Kind) (n : ℤ) → IsWithin (range_of kind) n → neg_ℤ (pos (2 ^ 63)) ≤ℤ n
-kind_low UInt32 n h = omega (arith, ints)
-kind_low Int32 n h = omega (arith, ints)
-kind_low UInt64 n h = omega (arith, ints)
-kind_low Int64 n h = omega (arith, ints)
-kind_low Decimal n h = omega (arith, ints)
-kind_low Ascii n h = omega (arith, ints)
-kind_low Unicode n h = omega (arith, ints)
-kind_low Bytes n h = omega (arith, ints)

@@ -1,7 +1,6 @@
 pub mod Turning
 pub mod Deciding
 pub mod NextUnits
-pub mod Prepending
 pub mod ShortIntegers
 pub mod NextTexts
 pub mod LastUnits

@@ -1,14 +1,14 @@
 -- What comes next of an ASCII text.
 use Rattle.std.proofs.Common.{refl, sym, ap, ◌∙◌, subst, arith, inl, inr, length-append, get_or}
 use Rattle.std.specs.Prelude.{not, slice_get, ◌≡◌, ◌≢◌, ℕ, zero, suc, ◌+◌, ◌-◌, ◌<◌, ◌≤◌, Bool, true, false, List, [], ◌∷◌, ◌++◌, length}
-use Rattle.std.specs.Prelude.{take, Some, None}
+use Rattle.std.specs.Prelude.{take, Some}
 use Rattle.std.proofs.lemmas.List.{length-take-le, take_more, take-take, take_all, get_or-take}
-use Rattle.std.proofs.lemmas.List.Elements.{All-nil, All-push, All-from_get_or}
+use Rattle.std.proofs.lemmas.List.Elements.{All-push, All-from_get_or}
 use Rattle.fast_wire.specs.meaning.Entities.{HaveNoStop}
 use Rattle.fast_wire.specs.meaning.Texts.{SpellsAscii}
 use Rattle.fast_value.specs.declared.codes.Code.TheVariants.{L1}
 use Rattle.fast_stream.specs.meaning.Units.{BeginsWithZero}
-use Rattle.fast_units.specs.device.NextUnits.{text_or_null, BeginsWithCharacter, IsNextText}
+use Rattle.fast_units.specs.device.NextUnits.{BeginsWithCharacter, IsNextText}
 use Rattle.fast_units.specs.declared.progress.Progress.TheVariants.{Whole, Wrong, Cut}
 
 -- What begins with a character
@@ -104,17 +104,3 @@ pub text_bare : (nullable : Bool) (room : ℕ) (rest : List ℕ) (b : ℕ) → S
 text_bare nullable room [] b e stop = absurd (cc e)
 text_bare false room (c ∷ rest) b e stop = let i : c ≡ 0x80 = cc in (omega arith, omega arith, rw i refl)
 text_bare true room (c ∷ rest) b e stop = let i : c ≡ 0x80 = cc in (omega arith, omega arith, (refl, rw i refl))
-
-pub text_nothing : (nullable : Bool) (room : ℕ) (rest : List ℕ) → None ≡ slice_get rest 0 → IsNextText nullable room rest [] Cut
-text_nothing nullable room [] e = (inl (All-nil (λ c. c < 128), omega arith, no_zero [] tt), refl)
-text_nothing nullable room (c ∷ rest) e = absurd (cc e)
-
--- A text that is whole has room.
-short_enough : (nullable : Bool) (room : ℕ) (v w : List ℕ) → SpellsAscii nullable room (Some v) w → length v ≤ room
-short_enough nullable room [] w h = omega arith
-short_enough nullable room (c ∷ v) w h = h.2
-
-pub text_short : (nullable : Bool) (room : ℕ) (rest after : List ℕ) (is_text : Bool) (n : ℕ) → is_text ≡ true
-    → IsNextText nullable room rest after (Whole is_text n) → length after ≤ room
-text_short nullable room rest after is_text n e h = short_enough nullable room after (take n rest)
-    (subst (λ t. SpellsAscii nullable room (text_or_null after t) (take n rest)) e h.2)

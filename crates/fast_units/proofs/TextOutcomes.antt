@@ -184,17 +184,7 @@ module _ (f : FieldData) (p : PreviousData) (text : List ℕ) (is_text : family 
       → decide f p true (sent_text f.kind (Some text)) ≡ kept_text f.kind (with_tail (text_of base) text)
   decided_tail-ok base e h = decided_tail e ∙ ap (λ (r : Result ScalarData Code). r >>= (λ b. kept_text f.kind (with_tail (text_of b) text))) h
 
--- A text of the greatest length, or shorter, can be put at an entry that takes one.
-pub text_storable : (t : Terms) (e : ℕ) (kind : Kind) (v : List ℕ) → length v ≤ t.max_text → t.takes_text e ≡ true → IsStorable t e (value_of_text kind v)
-text_storable t e UInt32 v l h = (l, h)
-text_storable t e Int32 v l h = (l, h)
-text_storable t e UInt64 v l h = (l, h)
-text_storable t e Int64 v l h = (l, h)
-text_storable t e Decimal v l h = (l, h)
-text_storable t e Ascii v l h = (l, h)
-text_storable t e Unicode v l h = (l, h)
-text_storable t e Bytes v l h = (l, h)
-
+-- What can be put at an entry has no text longer than the greatest.
 storable_fits : (t : Terms) (e : ℕ) (v : ScalarData) → IsStorable t e v → length (text_of v) ≤ t.max_text
 storable_fits t e (U n) h = omega arith
 storable_fits t e (I x) h = omega arith

@@ -18,7 +18,7 @@ use Rattle.fast_dict.specs.meaning.Dictionary.{Dictionary, PreviousData}
 use Rattle.fast_dict.specs.meaning.Operators.{Outcome, null, decide, decide_by, gives_none, Kept, kept_length, subtraction_step, text_step}
 use Rattle.fast_stream.specs.device.Readers.{Reader, Done, Stop}
 use Rattle.fast_stream.specs.device.Machine.{behind_size as size_stage, behind_part_size as part_stage, stage_term}
-use Rattle.fast_stream.specs.meaning.Grammar.{Grammar, give, fault, integer, ascii_text, raw, ◌>>=◌, of_result}
+use Rattle.fast_stream.specs.meaning.Grammar.{Grammar, give, integer, ascii_text, raw, ◌>>=◌, of_result}
 use Rattle.fast_stream.specs.device.GrammarReaders.{reader_of}
 use Rattle.fast_stream.specs.meaning.Fields.{text, sized, sent_text, item_in, part_change, text_change, change_in, field_by, field_term}
 use Rattle.fast_units.specs.device.Taking.{Turns}
@@ -26,7 +26,6 @@ use Rattle.fast_units.specs.device.Settling.{IsSettled, GivesField, IsLastUnit}
 use Rattle.fast_units.specs.device.Stages.{term_behind, IsFieldUnit}
 use Rattle.fast_units.specs.device.TextDecisions.{IsTextDecided, IsStepped, behind_size, behind_part_size, settled}
 use Rattle.fast_units.specs.device.Deciding.{answered}
-use Rattle.fast_units.specs.device.NextUnits.{IsShort, IfCut}
 use Rattle.fast_units.specs.declared.progress.Progress.{Progress}
 use Rattle.fast_units.specs.declared.progress.Progress.TheVariants.{Whole}
 use Rattle.fast_units.specs.declared.source.ValueSource.{ValueSource}
@@ -186,16 +185,6 @@ module _ (l : Bounds) (f : FieldData) (p : PreviousData) where
         by (inl t) e = let i : Ok n ≡ Ok size = rw t.0 at e in let j : n ≡ size = cc i in (sym j, t.1, rw t.0 refl)
         by (inr t) e = let i : Err L1 ≡ Ok size = rw t.0 at e in absurd (cc i)
 
-    pub part_size_wrong : (n : ℕ) (c : Code) → (if nat_le n (l.max_text - kept_length kept) then Ok n else Err L1) ≡ Err c
-        → behind_part_size l f p kept (Some (pos n)) ≡ fault c
-    part_size_wrong n c = by (leb_tells n (l.max_text - kept_length kept))
-      where
-        by : ((nat_le n (l.max_text - kept_length kept) ≡ true) × (n ≤ l.max_text - kept_length kept))
-            ⊎ ((nat_le n (l.max_text - kept_length kept) ≡ false) × (l.max_text - kept_length kept < n))
-            → (if nat_le n (l.max_text - kept_length kept) then Ok n else Err L1) ≡ Err c → behind_part_size l f p kept (Some (pos n)) ≡ fault c
-        by (inl t) e = let i : Ok n ≡ Err c = rw t.0 at e in absurd (cc i)
-        by (inr t) e = let i : Err L1 ≡ Err c = rw t.0 at e in let j : L1 ≡ c = cc i in rw t.0 (ap fault j)
-
 -- NULL under a delta.
 pub delta_null : (f : FieldData) (p : PreviousData) → f.operator ≡ Op.Delta → of_result (gives_none p) ≡ of_result (decide f p true null)
 delta_null f p e = sym (ap (λ (o : Operator). of_result (decide_by o true f p null)) e)
@@ -244,13 +233,3 @@ module _ (f : FieldData) (old new : Dictionary) (scratch piece : List ℕ) (sour
     turns = turns_as here.same (sym (ap (reader_of s) e ∙ ap (λ q. reader_of s (of_result q)) i)) (term_turns s g k t);
     settled = h;
   }
-
--- An answer behind a short unit is short.
-pub short_answer : {T : Type 0} (rest : List ℕ) (r : Result T Code) (p : Progress T) (n : ℕ) → p ≡ answered r n → n ≤ 10 → IsShort rest p
-short_answer rest (Ok x) p n e h = subst (IsShort rest) (sym e) h
-short_answer rest (Err c) p n e h = subst (IsShort rest) (sym e) tt
-
--- It is none of a unit that is cut.
-pub uncut : {T : Type 0} (P : Type 0) (r : Result T Code) (p : Progress T) (n : ℕ) → p ≡ answered r n → IfCut p P
-uncut P (Ok x) p n e = subst (λ q. IfCut q P) (sym e) tt
-uncut P (Err c) p n e = subst (λ q. IfCut q P) (sym e) tt

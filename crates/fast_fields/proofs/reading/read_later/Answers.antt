@@ -1,5 +1,5 @@
 -- The unit that comes next, and the last one after it.
-use Rattle.std.proofs.Common.{refl, sym, ap, subst}
+use Rattle.std.proofs.Common.{refl, sym, subst}
 use Rattle.std.proofs.lemmas.List.{take_rest}
 use Rattle.std.specs.Prelude.{ℕ, List, drop}
 use Rattle.fast_value.specs.meaning.Limits.{bounds}
@@ -7,18 +7,11 @@ use Rattle.fast_tree.specs.meaning.Nodes.{field_data}
 use Rattle.fast_dict.specs.meaning.Dictionary.{Dictionary, previous_at}
 use Rattle.fast_dict.specs.meaning.Slots.{slots_dictionary}
 use Rattle.fast_units.specs.device.TextDecisions.{reader_behind}
-use Rattle.fast_units.specs.declared.stages.FieldStep.{FieldStep}
-use Rattle.fast_units.specs.declared.progress.Progress.TheVariants as Progress
 use Rattle.fast_units.proofs.OpenUnits.{number_open}
 use Rattle.fast_fields.specs.device.Readings.{IsFieldReading}
 use Rattle.fast_fields.specs.declared.reading.Reading.{Reading}
 use Rattle.fast_fields.proofs.Readings.{reading_after, cut_reading, next_unit}
 use Rattle.fast_fields.proofs.reading.read_later.Goals as goal
-
-pub read_run-reading-requires-clause-run : goal.read_run-reading-requires-clause-run
-read_run-reading-requires-clause-run c =
-    c.in-Whole-Next-default.ensures.run c.in-Whole-Next-default.next c.in-Whole-Next-default.count
-    (ap (λ (s : FieldStep). Progress.Whole s c.in-Whole-Next-default.count) c.in-Whole-Next-default.field-0-is)
 
 pub returns-in-Whole-Next-default-clause-reading : goal.returns-in-Whole-Next-default-clause-reading
 returns-in-Whole-Next-default-clause-reading c =

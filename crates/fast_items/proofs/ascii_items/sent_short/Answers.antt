@@ -18,9 +18,3 @@ returns-clause-unit c optional =
     (next optional room c.requires.least) in
     sent_whole optional c.args.operator c.args.entry room c.args.rest.now c.args.slots.now c.put_short.new.slots
     c.put_short.new.scratch.text (text_source c.args.operator) text true n stands (c.if-not-put_short.ensures.put refl)
-
-pub returns-clause-source : goal.returns-clause-source
-returns-clause-source c = (c.if-not-put_short.ensures.put refl).1
-
-pub returns-clause-held : goal.returns-clause-held
-returns-clause-held c = (c.if-not-put_short.ensures.put refl).2

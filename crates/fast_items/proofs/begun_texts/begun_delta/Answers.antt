@@ -56,33 +56,3 @@ returns-else-size-behind c =
           c.in_default.not-Ascii sized fits short;
       fits = (omega (arith, within, behind, here), omega (arith, behind, short, fits, leaves));
     }
-
-pub returns-in_err-subtraction-clause-begun : goal.returns-in_err-subtraction-clause-begun
-returns-in_err-subtraction-clause-begun c = rw c.from_residual.ensures tt
-
-pub returns-in_err-subtraction-clause-fits : goal.returns-in_err-subtraction-clause-fits
-returns-in_err-subtraction-clause-fits c = rw c.from_residual.ensures tt
-
-pub returns-in_err-subtraction-2-clause-begun : goal.returns-in_err-subtraction-2-clause-begun
-returns-in_err-subtraction-2-clause-begun c = rw c.from_residual-in_err-subtraction-2.ensures tt
-
-pub returns-in_err-subtraction-2-clause-fits : goal.returns-in_err-subtraction-2-clause-fits
-returns-in_err-subtraction-2-clause-fits c = rw c.from_residual-in_err-subtraction-2.ensures tt
-
-pub returns-in_err-left-clause-begun : goal.returns-in_err-left-clause-begun
-returns-in_err-left-clause-begun c = rw c.from_residual-in_err-left.ensures tt
-
-pub returns-in_err-left-clause-fits : goal.returns-in_err-left-clause-fits
-returns-in_err-left-clause-fits c = rw c.from_residual-in_err-left.ensures tt
-
-pub returns-in_err-size-in_default : goal.returns-in_err-size-in_default
-returns-in_err-size-in_default c = record {
-  begun = rw c.from_residual-in_err-size-in_default.ensures tt;
-  fits = rw c.from_residual-in_err-size-in_default.ensures tt;
-}
-
-pub returns-in_err-size-in_default-2 : goal.returns-in_err-size-in_default-2
-returns-in_err-size-in_default-2 c = record {
-  begun = rw c.from_residual-in_err-size-in_default-2.ensures tt;
-  fits = rw c.from_residual-in_err-size-in_default-2.ensures tt;
-}

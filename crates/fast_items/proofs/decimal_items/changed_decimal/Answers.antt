@@ -53,27 +53,3 @@ returns-in-None-clause-unit c = λ f l scratch is serves.
 
 pub skip-requires : goal.skip-requires
 skip-requires c = (c.in_ok-item.ensures c.args.strict).0
-
-pub returns-in_err-item-clause-unit : goal.returns-in_err-item-clause-unit
-returns-in_err-item-clause-unit c = rw c.from_residual.ensures tt
-
-pub returns-in_err-item-clause-none : goal.returns-in_err-item-clause-none
-returns-in_err-item-clause-none c = rw c.from_residual.ensures refl
-
-pub returns-in_err-exponent-in-Some-clause-unit : goal.returns-in_err-exponent-in-Some-clause-unit
-returns-in_err-exponent-in-Some-clause-unit c = rw c.from_residual-in_err-exponent-in-Some.ensures tt
-
-pub returns-in_err-exponent-in-Some-clause-none : goal.returns-in_err-exponent-in-Some-clause-none
-returns-in_err-exponent-in-Some-clause-none c = rw c.from_residual-in_err-exponent-in-Some.ensures refl
-
-pub returns-in_err-exponent-in-Some-2-clause-unit : goal.returns-in_err-exponent-in-Some-2-clause-unit
-returns-in_err-exponent-in-Some-2-clause-unit c = rw c.from_residual-in_err-exponent-in-Some-2.ensures tt
-
-pub returns-in_err-exponent-in-Some-2-clause-none : goal.returns-in_err-exponent-in-Some-2-clause-none
-returns-in_err-exponent-in-Some-2-clause-none c = rw c.from_residual-in_err-exponent-in-Some-2.ensures refl
-
-pub returns-in_err-mantissa-in-Some-clause-unit : goal.returns-in_err-mantissa-in-Some-clause-unit
-returns-in_err-mantissa-in-Some-clause-unit c = rw c.from_residual-in_err-mantissa-in-Some.ensures tt
-
-pub returns-in_err-mantissa-in-Some-clause-none : goal.returns-in_err-mantissa-in-Some-clause-none
-returns-in_err-mantissa-in-Some-clause-none c = rw c.from_residual-in_err-mantissa-in-Some.ensures refl

@@ -1,19 +1,10 @@
 -- By what is sent.
 use Rattle.std.proofs.Common.{refl, sym, ap, ◌∙◌, subst, rules, to_z, of_z, FitsSigned, Option, ℤ}
 use Rattle.std.specs.Int.{w64}
-use Rattle.std.specs.Prelude.{true, Bool, Some}
+use Rattle.std.specs.Prelude.{Bool, Some}
 use Rattle.fast_items.specs.device.DecimalParts.{IsPartBy, IsPartKnown}
 use Rattle.fast_units.proofs.LastUnits.{again}
 use Rattle.fast_items.proofs.decimal_parts.mantissa_part.Goals as goal
-
-pub returns-then-needs_bytes : goal.returns-then-needs_bytes
-returns-then-needs_bytes c =
-    let fits : FitsSigned w64 c.in_ok-number.number = search rules in
-    subst (λ (b : Bool). IsPartBy b c.args.field.now c.args.bit c.args.strict c.args.rest.bytes.now c.args.slots.now
-    (Some (to_z w64 (of_z w64 c.in_ok-number.number))) c.in_ok-number.bytes)
-    (sym c.if-needs_bytes.true ∙ c.needs_bytes.ensures.needed)
-    (subst (λ (y : ℤ). IsPartBy true c.args.field.now c.args.bit c.args.strict c.args.rest.bytes.now c.args.slots.now
-    (Some y) c.in_ok-number.bytes) (sym (again w64 c.in_ok-number.number fits)) c.in_ok-number.ensures)
 
 pub returns-in-Some : goal.returns-in-Some
 returns-in-Some c =

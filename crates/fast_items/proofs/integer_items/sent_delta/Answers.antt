@@ -1,4 +1,4 @@
-use Rattle.std.proofs.Common.{refl, rules, subst, FitsSigned}
+use Rattle.std.proofs.Common.{rules, subst, FitsSigned}
 use Rattle.std.specs.Int.{w64}
 use Rattle.fast_fronts.specs.device.Fronts.{IsFirstInt}
 use Rattle.fast_wire.specs.meaning.Integers.{delta_range}
@@ -26,15 +26,3 @@ returns-in-None-clause-unit c =
     c.requires.integers
     (subst (λ x. IsFirstInt (λ y. y) c.args.strict delta_range c.args.optional (Whole x c.in_ok-change.bytes) c.args.rest.bytes.now) c.in-None.is
     c.in_ok-change.ensures)
-
-pub returns-in_err-change-clause-unit : goal.returns-in_err-change-clause-unit
-returns-in_err-change-clause-unit c = rw c.from_residual.ensures tt
-
-pub returns-in_err-change-clause-none : goal.returns-in_err-change-clause-none
-returns-in_err-change-clause-none c = rw c.from_residual.ensures refl
-
-pub returns-in_err-number-in-Some-clause-unit : goal.returns-in_err-number-in-Some-clause-unit
-returns-in_err-number-in-Some-clause-unit c = rw c.from_residual-in_err-number-in-Some.ensures tt
-
-pub returns-in_err-number-in-Some-clause-none : goal.returns-in_err-number-in-Some-clause-none
-returns-in_err-number-in-Some-clause-none c = rw c.from_residual-in_err-number-in-Some.ensures c.in_err-number-in-Some.ensures.none

@@ -1,4 +1,4 @@
-use Rattle.std.proofs.Common.{refl, ◌∙◌, ap, to_z, of_z, rules, subst, FitsSigned}
+use Rattle.std.proofs.Common.{◌∙◌, ap, to_z, of_z, rules, subst, FitsSigned}
 use Rattle.std.specs.Int.{w64}
 use Rattle.fast_fronts.specs.device.Fronts.{IsFirstInt}
 use Rattle.fast_wire.specs.meaning.Integers.{signed_between}
@@ -21,9 +21,3 @@ returns-clause-unit c =
     (passed ∙ c.requires.range) c.in_ok-number.ensures)
     (c.signed_number-item.ensures c.args.kind c.requires.signed)
     c.keep_item_at.ensures.entry
-
-pub returns-in_err-number-clause-unit : goal.returns-in_err-number-clause-unit
-returns-in_err-number-clause-unit c = rw c.from_residual.ensures tt
-
-pub returns-in_err-number-clause-none : goal.returns-in_err-number-clause-none
-returns-in_err-number-clause-none c = rw c.from_residual.ensures refl

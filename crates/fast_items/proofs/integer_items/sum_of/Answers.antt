@@ -45,15 +45,3 @@ returns-in_ok-sum-in-UInt64-Unsigned c =
           ∙ ap (λ k. ranged (range_of k) D2 (pos sum)) same ∙ inside_64 sum small,
       ap (λ k. value_of_integer k (pos sum)) (sym same),
     )
-
-pub returns-in_err-sum-in-UInt32-Unsigned : goal.returns-in_err-sum-in-UInt32-Unsigned
-returns-in_err-sum-in-UInt32-Unsigned c = rw c.from_residual.ensures tt
-
-pub returns-in_err-sum-in-UInt64-Unsigned : goal.returns-in_err-sum-in-UInt64-Unsigned
-returns-in_err-sum-in-UInt64-Unsigned c = rw c.from_residual-in_err-sum-in-UInt64-Unsigned.ensures tt
-
-pub returns-in_err-sum-in-Int32-Signed : goal.returns-in_err-sum-in-Int32-Signed
-returns-in_err-sum-in-Int32-Signed c = rw c.from_residual-in_err-sum-in-Int32-Signed.ensures tt
-
-pub returns-in_err-sum-in-Int64-Signed : goal.returns-in_err-sum-in-Int64-Signed
-returns-in_err-sum-in-Int64-Signed c = rw c.from_residual-in_err-sum-in-Int64-Signed.ensures tt

@@ -49,9 +49,3 @@ returns-clause-joined c =
           ∙ set-set old e (assigned Ascii (AsciiText some)) (assigned Ascii (AsciiText (take (keep + length front) some ++ c.args.last ∷ [])))
           ∙ ap (λ t. slice_set old e (assigned Ascii (AsciiText t))) text;
     }
-
-pub returns-in_err-base-clause-joined : goal.returns-in_err-base-clause-joined
-returns-in_err-base-clause-joined c = rw c.from_residual.ensures tt
-
-pub returns-in_err-base-clause-none : goal.returns-in_err-base-clause-none
-returns-in_err-base-clause-none c = rw c.from_residual.ensures refl

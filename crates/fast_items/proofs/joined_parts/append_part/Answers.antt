@@ -1,5 +1,5 @@
 -- The part stands behind what is kept.
-use Rattle.std.proofs.Common.{refl, ◌≡◌, ◌-◌, ◌≤◌, arith, length, take}
+use Rattle.std.proofs.Common.{◌≡◌, ◌-◌, ◌≤◌, arith, length, take}
 use Rattle.std.proofs.lemmas.List.{length-take-le}
 use Rattle.fast_dict.specs.meaning.Operators.{append_to}
 use Rattle.fast_items.proofs.JoinedTexts.{keeps_front}
@@ -20,9 +20,3 @@ returns-clause-joined c =
       checked = c.are_texts_of.ensures c.if-not-are_texts_of.false;
       becomes = c.extend_text.ensures.entry base c.in_ok-base.ensures.held (omega arith);
     }
-
-pub returns-in_err-base-clause-joined : goal.returns-in_err-base-clause-joined
-returns-in_err-base-clause-joined c = rw c.from_residual.ensures tt
-
-pub returns-in_err-base-clause-none : goal.returns-in_err-base-clause-none
-returns-in_err-base-clause-none c = rw c.from_residual.ensures refl

@@ -31,9 +31,3 @@ returns-clause-joined c =
       becomes = set ∙ ap (λ v. slice_set (slots_dictionary c.args.slots.now) c.args.entry (assigned Ascii v))
           (c.text_value.ensures ∙ ap (value_of_text Ascii) text);
     }
-
-pub returns-in_err-kept-clause-joined : goal.returns-in_err-kept-clause-joined
-returns-in_err-kept-clause-joined c = rw c.from_residual.ensures tt
-
-pub returns-in_err-kept-clause-none : goal.returns-in_err-kept-clause-none
-returns-in_err-kept-clause-none c = rw c.from_residual.ensures (refl, refl)

@@ -1,5 +1,5 @@
 -- The part stands before what is kept.
-use Rattle.std.proofs.Common.{refl, rules, ◌≡◌, ◌∙◌, ◌++◌, ap, drop, slice_set}
+use Rattle.std.proofs.Common.{rules, ◌≡◌, ◌∙◌, ◌++◌, ap, drop, slice_set}
 use Rattle.fast_value.specs.meaning.Kinds.{value_of_text}
 use Rattle.fast_value.specs.meaning.Values.{scalar_data}
 use Rattle.fast_dict.specs.meaning.Dictionary.{assigned}
@@ -28,9 +28,3 @@ returns-clause-joined c =
       becomes = set ∙ ap (λ v. slice_set (slots_dictionary c.args.slots.now) c.args.entry (assigned kind v))
           (c.text_value.ensures ∙ ap (value_of_text kind) text);
     }
-
-pub returns-in_err-kept-clause-joined : goal.returns-in_err-kept-clause-joined
-returns-in_err-kept-clause-joined c = rw c.from_residual.ensures tt
-
-pub returns-in_err-kept-clause-none : goal.returns-in_err-kept-clause-none
-returns-in_err-kept-clause-none c = rw c.from_residual.ensures (refl, refl)

@@ -25,9 +25,3 @@ returns-in-Tail-clause-put c h =
     tail_put c.args.operator c.args.entry c.args.slots.now c.tail_long.new.slots c.tail_long.new.scratch.text base part
     (with_tail base part) c.in-Tail.is (c.requires.within (ap keeps_value c.in-Tail.is))
     (c.tail_long.ensures.holds h) held refl written
-
-pub returns-in-Copy-clause-left : goal.returns-in-Copy-clause-left
-returns-in-Copy-clause-left c = c.copy_long.ensures.left
-
-pub returns-in-Tail-clause-left : goal.returns-in-Tail-clause-left
-returns-in-Tail-clause-left c = c.tail_long.ensures.left

@@ -11,21 +11,3 @@ returns-clause-unit c optional =
     sent_whole optional c.args.operator c.args.entry c.args.max_text c.args.rest.now c.args.slots.now c.put_text.new.slots
     c.put_text.new.scratch.text (text_source c.args.operator) text true (length c.in_ok-front.front.now + 1)
     (c.in_ok-front.ensures.next optional) (c.if-not-put_text.ensures.put refl)
-
-pub returns-clause-source : goal.returns-clause-source
-returns-clause-source c = (c.if-not-put_text.ensures.put refl).1
-
-pub returns-clause-held : goal.returns-clause-held
-returns-clause-held c = (c.if-not-put_text.ensures.put refl).2
-
-pub returns-in_err-front-clause-unit : goal.returns-in_err-front-clause-unit
-returns-in_err-front-clause-unit c = rw c.from_residual.ensures tt
-
-pub returns-in_err-front-clause-source : goal.returns-in_err-front-clause-source
-returns-in_err-front-clause-source c = rw c.from_residual.ensures tt
-
-pub returns-in_err-front-clause-held : goal.returns-in_err-front-clause-held
-returns-in_err-front-clause-held c = rw c.from_residual.ensures tt
-
-pub returns-in_err-front-clause-none : goal.returns-in_err-front-clause-none
-returns-in_err-front-clause-none c = rw c.from_residual.ensures (refl, refl)

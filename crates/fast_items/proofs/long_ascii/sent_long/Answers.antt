@@ -16,38 +16,5 @@ returns-else-not-put_text-clause-unit c =
     sent_whole c.args.optional c.args.operator c.args.entry c.args.max_text c.args.rest.now c.args.slots.now c.put_text.new.slots
     c.put_text.new.scratch.text (text_source c.args.operator) [] true 1 next (c.if-not-put_text.ensures.put refl)
 
-pub returns-else-not-put_text-clause-source : goal.returns-else-not-put_text-clause-source
-returns-else-not-put_text-clause-source c = (c.if-not-put_text.ensures.put refl).1
-
-pub returns-else-not-put_text-clause-held : goal.returns-else-not-put_text-clause-held
-returns-else-not-put_text-clause-held c = (c.if-not-put_text.ensures.put refl).2
-
 pub returns-in_ok-bytes-in-Some-clause-unit : goal.returns-in_ok-bytes-in-Some-clause-unit
 returns-in_ok-bytes-in-Some-clause-unit c = c.in_ok-bytes-in-Some.ensures.unit c.args.optional
-
-pub returns-in_err-bytes-in-Some-clause-unit : goal.returns-in_err-bytes-in-Some-clause-unit
-returns-in_err-bytes-in-Some-clause-unit c = rw c.from_residual.ensures tt
-
-pub returns-in_err-bytes-in-Some-clause-source : goal.returns-in_err-bytes-in-Some-clause-source
-returns-in_err-bytes-in-Some-clause-source c = rw c.from_residual.ensures tt
-
-pub returns-in_err-bytes-in-Some-clause-held : goal.returns-in_err-bytes-in-Some-clause-held
-returns-in_err-bytes-in-Some-clause-held c = rw c.from_residual.ensures tt
-
-pub put_text-requires-clause-within : goal.put_text-requires-clause-within
-put_text-requires-clause-within c = c.requires.within
-
-pub put_text-requires-clause-room : goal.put_text-requires-clause-room
-put_text-requires-clause-room c = c.requires.room
-
-pub sent_characters-requires-clause-within : goal.sent_characters-requires-clause-within
-sent_characters-requires-clause-within c = c.requires.within
-
-pub sent_characters-requires-clause-room : goal.sent_characters-requires-clause-room
-sent_characters-requires-clause-room c = c.requires.room
-
-pub returns-in_ok-bytes-in-Some-clause-source : goal.returns-in_ok-bytes-in-Some-clause-source
-returns-in_ok-bytes-in-Some-clause-source c = c.in_ok-bytes-in-Some.ensures.source
-
-pub returns-in_ok-bytes-in-Some-clause-held : goal.returns-in_ok-bytes-in-Some-clause-held
-returns-in_ok-bytes-in-Some-clause-held c = c.in_ok-bytes-in-Some.ensures.held

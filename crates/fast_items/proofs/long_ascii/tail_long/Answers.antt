@@ -1,9 +1,5 @@
 -- What is kept and the tail have room together.
-use Rattle.std.proofs.Common.{◌≡◌, ◌∙◌, ◌++◌, ap, arith, sym, slice_set, length-append, List, ℕ}
-use Rattle.fast_value.specs.declared.kinds.Kind.TheVariants.{Ascii}
-use Rattle.fast_value.specs.meaning.Kinds.{AsciiText}
-use Rattle.fast_dict.specs.meaning.Dictionary.{assigned}
-use Rattle.fast_dict.specs.meaning.Slots.{slots_dictionary}
+use Rattle.std.proofs.Common.{arith, sym, length-append, List, ℕ}
 use Rattle.fast_items.specs.device.TextItems.{with_last}
 use Rattle.fast_items.proofs.TextItems.{tail_fits}
 use Rattle.fast_items.proofs.long_ascii.tail_long.Goals as goal
@@ -30,19 +26,3 @@ set_ascii-requires-clause-fits c =
     let h = tail_fits c.args.slots.now c.args.entry c.kept_ascii-base.result.now c.tail_keeps.result.now part c.kept_ascii-base.ensures
     (c.tail_keeps.ensures part (sym c.size_of.ensures)) c.requires.fits in
     rw (c.as_slice.ensures, c.append_text.ensures.text, c.append.ensures.text, c.clear.ensures.text, length-append c.tail_keeps.result.now part) h
-
-pub returns-clause-kept : goal.returns-clause-kept
-returns-clause-kept c e =
-    let part : List ℕ = with_last c.args.front.now c.args.last in
-    let base : List ℕ = c.kept_ascii-base.result.now in
-    let keeps : List ℕ = c.tail_keeps.result.now in
-    let text : c.as_slice.result.now ≡ keeps ++ part = c.as_slice.ensures ∙ c.append_text.ensures.text
-    ∙ ap (λ t. t ++ part) (c.append.ensures.text ∙ ap (λ t. t ++ keeps) c.clear.ensures.text) in (
-      base,
-      c.kept_ascii-base.ensures,
-      c.set_ascii.ensures.entry ∙ ap (λ t. slice_set (slots_dictionary c.args.slots.now) c.args.entry (assigned Ascii (AsciiText t)))
-          (text ∙ sym (c.tail_keeps.ensures part (sym c.size_of.ensures))),
-    )
-
-pub returns-clause-holds : goal.returns-clause-holds
-returns-clause-holds c e = c.set_ascii.ensures.holds

@@ -22,9 +22,3 @@ returns-clause-next c nullable =
     (text_whole nullable room rest c.requires.begins m last (take last here) text
     (let k = c.min.ensures in omega (arith, k)) (let k = c.min.ensures in omega (arith, k)) stop.within stop.first stop.found
     (c.type_inv.rest last).fits refl refl)
-
-pub returns-in_err-last-clause-fits : goal.returns-in_err-last-clause-fits
-returns-in_err-last-clause-fits c = rw c.from_residual.ensures tt
-
-pub returns-in_err-last-clause-next : goal.returns-in_err-last-clause-next
-returns-in_err-last-clause-next c = rw c.from_residual.ensures tt

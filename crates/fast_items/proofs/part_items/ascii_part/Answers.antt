@@ -1,5 +1,5 @@
 -- The part ends with the first stop bit.
-use Rattle.std.proofs.Common.{refl, ◌-◌, ◌++◌, ◌∷◌, [], take, get_or, subst, List, ℕ, ℤ, FitsSigned}
+use Rattle.std.proofs.Common.{◌-◌, ◌++◌, ◌∷◌, [], take, get_or, subst, List, ℕ, ℤ, FitsSigned}
 use Rattle.std.specs.Int.{w64}
 use Rattle.fast_value.specs.declared.kinds.Kind.TheVariants.{Ascii}
 use Rattle.fast_dict.specs.meaning.Slots.{slots_dictionary}
@@ -21,21 +21,3 @@ returns-clause-part c =
       λ most fits. part_spelled rest last most c.in_ok-last.ensures.begins c.in_ok-last.ensures.within.0 c.in_ok-last.ensures.before
           c.in_ok-last.ensures.stop byte.fits fits,
     )
-
-pub returns-in_err-last-clause-part : goal.returns-in_err-last-clause-part
-returns-in_err-last-clause-part c = rw c.from_residual.ensures tt
-
-pub returns-in_err-last-clause-within : goal.returns-in_err-last-clause-within
-returns-in_err-last-clause-within c = rw c.from_residual.ensures tt
-
-pub returns-in_err-last-clause-none : goal.returns-in_err-last-clause-none
-returns-in_err-last-clause-none c = rw c.from_residual.ensures (refl, refl)
-
-pub returns-in_err-join_ascii-clause-part : goal.returns-in_err-join_ascii-clause-part
-returns-in_err-join_ascii-clause-part c = rw c.from_residual-in_err-join_ascii.ensures tt
-
-pub returns-in_err-join_ascii-clause-within : goal.returns-in_err-join_ascii-clause-within
-returns-in_err-join_ascii-clause-within c = rw c.from_residual-in_err-join_ascii.ensures tt
-
-pub returns-in_err-join_ascii-clause-none : goal.returns-in_err-join_ascii-clause-none
-returns-in_err-join_ascii-clause-none c = rw c.from_residual-in_err-join_ascii.ensures c.in_err-join_ascii.ensures.none

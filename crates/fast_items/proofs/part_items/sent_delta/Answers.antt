@@ -1,5 +1,5 @@
 -- The subtraction length and the part together are the field's.
-use Rattle.std.proofs.Common.{refl, rules, ◌≤◌, ◌∙◌, sym, ap, subst, take, drop, length, ℤ, List, ℕ, FitsSigned}
+use Rattle.std.proofs.Common.{rules, ◌≤◌, ◌∙◌, sym, ap, subst, take, drop, length, ℤ, List, ℕ, FitsSigned}
 use Rattle.std.specs.Int.{w64}
 use Rattle.std.specs.Prelude.{Bool, Some, None}
 use Rattle.fast_fronts.specs.device.Fronts.{IsFirstInt}
@@ -53,27 +53,3 @@ returns-clause-unit c f scratch is serves =
     c.skip-behind.result.bytes.now c.args.slots.now c.sent_part.new.slots b) (again w64 k fits) c.in_ok-bytes.ensures.part
     f c.args.optional scratch (take b (drop a rest)) is serves) in
     delta_whole s (bounds c.args.limits) f rest old new scratch (ap family is.kind ∙ c.requires.text) is.operator From.Entry k a b given within part
-
-pub returns-in_err-subtraction-clause-unit : goal.returns-in_err-subtraction-clause-unit
-returns-in_err-subtraction-clause-unit c = rw c.from_residual.ensures tt
-
-pub returns-in_err-subtraction-clause-source : goal.returns-in_err-subtraction-clause-source
-returns-in_err-subtraction-clause-source c = rw c.from_residual.ensures tt
-
-pub returns-in_err-subtraction-clause-within : goal.returns-in_err-subtraction-clause-within
-returns-in_err-subtraction-clause-within c = rw c.from_residual.ensures tt
-
-pub returns-in_err-subtraction-clause-none : goal.returns-in_err-subtraction-clause-none
-returns-in_err-subtraction-clause-none c = rw c.from_residual.ensures (refl, refl)
-
-pub returns-in_err-bytes-clause-unit : goal.returns-in_err-bytes-clause-unit
-returns-in_err-bytes-clause-unit c = rw c.from_residual-in_err-bytes.ensures tt
-
-pub returns-in_err-bytes-clause-source : goal.returns-in_err-bytes-clause-source
-returns-in_err-bytes-clause-source c = rw c.from_residual-in_err-bytes.ensures tt
-
-pub returns-in_err-bytes-clause-within : goal.returns-in_err-bytes-clause-within
-returns-in_err-bytes-clause-within c = rw c.from_residual-in_err-bytes.ensures tt
-
-pub returns-in_err-bytes-clause-none : goal.returns-in_err-bytes-clause-none
-returns-in_err-bytes-clause-none c = rw c.from_residual-in_err-bytes.ensures c.in_err-bytes.ensures.none

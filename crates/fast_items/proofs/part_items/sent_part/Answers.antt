@@ -44,21 +44,3 @@ returns-in_ok-bytes-in_default-clause-part c f optional scratch piece is serves 
     (take n c.args.rest.bytes.now) f From.Entry old new scratch piece) (sym all)
     (gives_vector c.args.strict (bounds c.args.limits) f old new scratch piece c.args.kind e k part is.kind (is.entry refl) c.requires.there j
     c.args.rest.bytes.now size len c.in_default.not-Ascii given within refl)
-
-pub returns-in_err-bytes-in-Ascii-clause-part : goal.returns-in_err-bytes-in-Ascii-clause-part
-returns-in_err-bytes-in-Ascii-clause-part c = rw c.from_residual.ensures tt
-
-pub returns-in_err-bytes-in-Ascii-clause-within : goal.returns-in_err-bytes-in-Ascii-clause-within
-returns-in_err-bytes-in-Ascii-clause-within c = rw c.from_residual.ensures tt
-
-pub returns-in_err-bytes-in-Ascii-clause-none : goal.returns-in_err-bytes-in-Ascii-clause-none
-returns-in_err-bytes-in-Ascii-clause-none c = rw c.from_residual.ensures c.in_err-bytes-in-Ascii.ensures.none
-
-pub returns-in_err-bytes-in_default : goal.returns-in_err-bytes-in_default
-returns-in_err-bytes-in_default c = record {
-  part = rw c.from_residual-in_err-bytes-in_default.ensures tt;
-  within = rw c.from_residual-in_err-bytes-in_default.ensures tt;
-  none = rw c.from_residual-in_err-bytes-in_default.ensures c.in_err-bytes-in_default.ensures.none;
-  terms = c.vector_part.ensures.terms;
-  joined = c.vector_part.ensures.capacity;
-}

@@ -1,5 +1,5 @@
 -- The bytes stand behind their size.
-use Rattle.std.proofs.Common.{refl, ◌≡◌, ◌+◌, ◌-◌, ◌≤◌, ◌∙◌, ap, take, drop, length, subst, ℤ, FitsSigned}
+use Rattle.std.proofs.Common.{◌≡◌, ◌+◌, ◌-◌, ◌≤◌, ◌∙◌, ap, take, drop, length, subst, ℤ, FitsSigned}
 use Rattle.std.specs.Int.{w64}
 use Rattle.std.proofs.lemmas.List.{length-take-le, take_rest}
 use Rattle.fast_dict.specs.meaning.Slots.{slots_dictionary}
@@ -28,39 +28,3 @@ returns-clause-part c =
       rw c.in_ok-size-2.was at c.in_ok-size.ensures,
       rw (← text) j,
     )
-
-pub returns-in_err-size-clause-part : goal.returns-in_err-size-clause-part
-returns-in_err-size-clause-part c = rw c.from_residual.ensures tt
-
-pub returns-in_err-size-clause-within : goal.returns-in_err-size-clause-within
-returns-in_err-size-clause-within c = rw c.from_residual.ensures tt
-
-pub returns-in_err-size-clause-none : goal.returns-in_err-size-clause-none
-returns-in_err-size-clause-none c = rw c.from_residual.ensures (refl, refl)
-
-pub returns-in_err-size-2-clause-part : goal.returns-in_err-size-2-clause-part
-returns-in_err-size-2-clause-part c = rw c.from_residual-in_err-size-2.ensures tt
-
-pub returns-in_err-size-2-clause-within : goal.returns-in_err-size-2-clause-within
-returns-in_err-size-2-clause-within c = rw c.from_residual-in_err-size-2.ensures tt
-
-pub returns-in_err-size-2-clause-none : goal.returns-in_err-size-2-clause-none
-returns-in_err-size-2-clause-none c = rw c.from_residual-in_err-size-2.ensures (refl, refl)
-
-pub returns-in_err-part-clause-part : goal.returns-in_err-part-clause-part
-returns-in_err-part-clause-part c = rw c.from_residual-in_err-part.ensures tt
-
-pub returns-in_err-part-clause-within : goal.returns-in_err-part-clause-within
-returns-in_err-part-clause-within c = rw c.from_residual-in_err-part.ensures tt
-
-pub returns-in_err-part-clause-none : goal.returns-in_err-part-clause-none
-returns-in_err-part-clause-none c = rw c.from_residual-in_err-part.ensures (refl, refl)
-
-pub returns-in_err-join_vector-clause-part : goal.returns-in_err-join_vector-clause-part
-returns-in_err-join_vector-clause-part c = rw c.from_residual-in_err-join_vector.ensures tt
-
-pub returns-in_err-join_vector-clause-within : goal.returns-in_err-join_vector-clause-within
-returns-in_err-join_vector-clause-within c = rw c.from_residual-in_err-join_vector.ensures tt
-
-pub returns-in_err-join_vector-clause-none : goal.returns-in_err-join_vector-clause-none
-returns-in_err-join_vector-clause-none c = rw c.from_residual-in_err-join_vector.ensures c.in_err-join_vector.ensures.none

@@ -50,39 +50,3 @@ returns-clause-unit c f scratch is serves =
     From.Entry a (a + n)) (sym len)
     (tail_whole s (bounds c.args.limits) f rest old new scratch c.args.kind c.args.entry is.kind c.requires.text c.requires.vector
     is.operator (is.entry refl) c.requires.there size a given c.in_ok-part.ensures.room within j)
-
-pub returns-in_err-size-clause-unit : goal.returns-in_err-size-clause-unit
-returns-in_err-size-clause-unit c = rw c.from_residual.ensures tt
-
-pub returns-in_err-size-clause-source : goal.returns-in_err-size-clause-source
-returns-in_err-size-clause-source c = rw c.from_residual.ensures tt
-
-pub returns-in_err-size-clause-within : goal.returns-in_err-size-clause-within
-returns-in_err-size-clause-within c = rw c.from_residual.ensures tt
-
-pub returns-in_err-size-clause-none : goal.returns-in_err-size-clause-none
-returns-in_err-size-clause-none c = rw c.from_residual.ensures refl
-
-pub returns-in_err-part-clause-unit : goal.returns-in_err-part-clause-unit
-returns-in_err-part-clause-unit c = rw c.from_residual-in_err-part.ensures tt
-
-pub returns-in_err-part-clause-source : goal.returns-in_err-part-clause-source
-returns-in_err-part-clause-source c = rw c.from_residual-in_err-part.ensures tt
-
-pub returns-in_err-part-clause-within : goal.returns-in_err-part-clause-within
-returns-in_err-part-clause-within c = rw c.from_residual-in_err-part.ensures tt
-
-pub returns-in_err-part-clause-none : goal.returns-in_err-part-clause-none
-returns-in_err-part-clause-none c = rw c.from_residual-in_err-part.ensures refl
-
-pub returns-in_err-put_tail-clause-unit : goal.returns-in_err-put_tail-clause-unit
-returns-in_err-put_tail-clause-unit c = rw c.from_residual-in_err-put_tail.ensures tt
-
-pub returns-in_err-put_tail-clause-source : goal.returns-in_err-put_tail-clause-source
-returns-in_err-put_tail-clause-source c = rw c.from_residual-in_err-put_tail.ensures tt
-
-pub returns-in_err-put_tail-clause-within : goal.returns-in_err-put_tail-clause-within
-returns-in_err-put_tail-clause-within c = rw c.from_residual-in_err-put_tail.ensures tt
-
-pub returns-in_err-put_tail-clause-none : goal.returns-in_err-put_tail-clause-none
-returns-in_err-put_tail-clause-none c = rw c.from_residual-in_err-put_tail.ensures c.in_err-put_tail.ensures.none

@@ -50,21 +50,3 @@ returns-clause-unit c entry slots f scratch is serves =
     (plain_vector s (bounds c.args.limits) f rest (slots_dictionary slots) scratch (ap family is.kind ∙ c.requires.text)
     (λ e. c.requires.vector (sym is.kind ∙ e)) (λ e. c.requires.sent (sym is.operator ∙ e))
     (ap keeps_value is.operator ∙ c.requires.unkept) size a given c.in_ok-text.ensures.room within checked)
-
-pub returns-in_err-size-clause-unit : goal.returns-in_err-size-clause-unit
-returns-in_err-size-clause-unit c = rw c.from_residual.ensures tt
-
-pub returns-in_err-size-clause-source : goal.returns-in_err-size-clause-source
-returns-in_err-size-clause-source c = rw c.from_residual.ensures tt
-
-pub returns-in_err-size-clause-within : goal.returns-in_err-size-clause-within
-returns-in_err-size-clause-within c = rw c.from_residual.ensures tt
-
-pub returns-in_err-text-clause-unit : goal.returns-in_err-text-clause-unit
-returns-in_err-text-clause-unit c = rw c.from_residual-in_err-text.ensures tt
-
-pub returns-in_err-text-clause-source : goal.returns-in_err-text-clause-source
-returns-in_err-text-clause-source c = rw c.from_residual-in_err-text.ensures tt
-
-pub returns-in_err-text-clause-within : goal.returns-in_err-text-clause-within
-returns-in_err-text-clause-within c = rw c.from_residual-in_err-text.ensures tt

@@ -1,12 +1,11 @@
 -- The mantissa comes next, or the decimal is absent.
-use Rattle.std.proofs.Common.{refl, ◌≤ℤ◌, rules, sym, ap, ◌∙◌, subst, FitsSigned, neg_ℤ, pos, take}
+use Rattle.std.proofs.Common.{refl, rules, sym, ap, ◌∙◌, FitsSigned, take}
 use Rattle.std.specs.Int.{w32, w128}
 use Rattle.std.specs.Prelude.{true, Some, Ok}
-use Rattle.fast_wire.specs.meaning.Integers.{IsWithin, exponent_range}
 use Rattle.fast_value.specs.meaning.Limits.{bounds}
 use Rattle.fast_tree.specs.meaning.Nodes.{field_data}
 use Rattle.fast_dict.specs.meaning.Dictionary.{previous_at}
-use Rattle.fast_dict.specs.meaning.Operators.{decide, null, range_in}
+use Rattle.fast_dict.specs.meaning.Operators.{decide, null}
 use Rattle.fast_dict.specs.meaning.Slots.{slots_dictionary}
 use Rattle.fast_stream.specs.device.GrammarReaders.{reader_of}
 use Rattle.fast_units.specs.device.NextUnits.{range_data}
@@ -14,24 +13,8 @@ use Rattle.fast_stream.specs.device.Machine.{behind_exponent, stage_term}
 use Rattle.fast_units.proofs.Turning.{turns_as}
 use Rattle.fast_stream.proofs.streams.Stepping.{exponent-turn}
 use Rattle.fast_units.specs.device.Words.{previous_of}
-use Rattle.fast_units.proofs.LastUnits.{mantissa_next, exponent_here, last_unit, unit_goes, unit_stops, unit_stays, number_within, again}
+use Rattle.fast_units.proofs.LastUnits.{mantissa_next, exponent_here, last_unit, unit_goes, unit_stops, unit_stays, again}
 use Rattle.fast_units.proofs.decimals.take_exponent_item.Goals as goal
-
-pub exponent-requires-clause-low : goal.exponent-requires-clause-low
-exponent-requires-clause-low c =
-    let fits : FitsSigned w128 c.in-Whole-Some-default.integer = search rules in
-    let inside : IsWithin exponent_range c.in-Whole-Some-default.integer =
-    number_within exponent_range (range_data c.range_on_wire-range.result) c.in-Whole-Some-default.field-0 c.in-Whole-Some-default.integer
-    (c.range_on_wire-range.ensures ∙ ap range_in c.requires.decimals) c.in-Whole-Some-default.field-0-is c.in-Whole-Some-default.ensures.within in
-    subst (λ x. neg_ℤ (pos 63) ≤ℤ x) (sym (again w128 c.in-Whole-Some-default.integer fits)) inside.0
-
-pub exponent-requires-clause-high : goal.exponent-requires-clause-high
-exponent-requires-clause-high c =
-    let fits : FitsSigned w128 c.in-Whole-Some-default.integer = search rules in
-    let inside : IsWithin exponent_range c.in-Whole-Some-default.integer =
-    number_within exponent_range (range_data c.range_on_wire-range.result) c.in-Whole-Some-default.field-0 c.in-Whole-Some-default.integer
-    (c.range_on_wire-range.ensures ∙ ap range_in c.requires.decimals) c.in-Whole-Some-default.field-0-is c.in-Whole-Some-default.ensures.within in
-    subst (λ x. x ≤ℤ pos 63) (sym (again w128 c.in-Whole-Some-default.integer fits)) inside.1
 
 pub returns-in-Whole-Some-default-clause-unit : goal.returns-in-Whole-Some-default-clause-unit
 returns-in-Whole-Some-default-clause-unit c scratch =

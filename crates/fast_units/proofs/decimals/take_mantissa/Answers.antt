@@ -1,8 +1,7 @@
 -- The decimal of the exponent and the mantissa.
-use Rattle.std.proofs.Common.{refl, ◌≤ℤ◌, rules, sym, ap, ◌∙◌, subst, to_z, of_z, FitsSigned}
+use Rattle.std.proofs.Common.{rules, sym, ap, ◌∙◌, to_z, of_z, FitsSigned}
 use Rattle.std.specs.Int.{w32, w128}
 use Rattle.std.specs.Prelude.{true, Some, Ok}
-use Rattle.fast_wire.specs.meaning.Integers.{IsWithin, signed_range}
 use Rattle.fast_value.specs.meaning.Kinds.{Dec}
 use Rattle.fast_value.specs.meaning.Limits.{bounds}
 use Rattle.fast_tree.specs.meaning.Nodes.{field_data}
@@ -12,24 +11,8 @@ use Rattle.fast_dict.specs.meaning.Slots.{slots_dictionary}
 use Rattle.fast_stream.specs.meaning.Grammar.{of_result}
 use Rattle.fast_units.specs.device.Deciding.{sent_number}
 use Rattle.fast_units.specs.device.Words.{previous_of}
-use Rattle.fast_units.proofs.LastUnits.{behind_mantissa, mantissa_field, last_unit, unit_stops, unit_stays, number_within, again}
+use Rattle.fast_units.proofs.LastUnits.{behind_mantissa, mantissa_field, last_unit, unit_stops, unit_stays, again}
 use Rattle.fast_units.proofs.decimals.take_mantissa.Goals as goal
-
-pub decimal-number-requires-clause-low : goal.decimal-number-requires-clause-low
-decimal-number-requires-clause-low c =
-    let fits : FitsSigned w128 c.in-Whole-Some-default.mantissa = search rules in
-    let inside : IsWithin (signed_range 63) c.in-Whole-Some-default.mantissa =
-    number_within (signed_range 63) (signed_range 63) c.in-Whole-Some-default.field-0
-    c.in-Whole-Some-default.mantissa refl c.in-Whole-Some-default.field-0-is c.in-Whole-Some-default.ensures.within in
-    subst (λ x. (signed_range 63).low ≤ℤ x) (sym (again w128 c.in-Whole-Some-default.mantissa fits)) inside.0
-
-pub decimal-number-requires-clause-high : goal.decimal-number-requires-clause-high
-decimal-number-requires-clause-high c =
-    let fits : FitsSigned w128 c.in-Whole-Some-default.mantissa = search rules in
-    let inside : IsWithin (signed_range 63) c.in-Whole-Some-default.mantissa =
-    number_within (signed_range 63) (signed_range 63) c.in-Whole-Some-default.field-0
-    c.in-Whole-Some-default.mantissa refl c.in-Whole-Some-default.field-0-is c.in-Whole-Some-default.ensures.within in
-    subst (λ x. x ≤ℤ (signed_range 63).high) (sym (again w128 c.in-Whole-Some-default.mantissa fits)) inside.1
 
 pub returns-in-Whole-Some-default-clause-unit : goal.returns-in-Whole-Some-default-clause-unit
 returns-in-Whole-Some-default-clause-unit c scratch =

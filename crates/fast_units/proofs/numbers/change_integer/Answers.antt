@@ -1,5 +1,5 @@
 -- The sum is kept.
-use Rattle.std.proofs.Common.{sym, ◌≡◌, ◌∙◌, ◌+ℤ◌, rules, Ok}
+use Rattle.std.proofs.Common.{◌≡◌, ◌∙◌, ◌+ℤ◌, rules, Ok}
 use Rattle.fast_value.specs.meaning.Kinds.{value_of_integer}
 use Rattle.fast_value.specs.declared.codes.Code.TheVariants.{D2}
 use Rattle.fast_tree.specs.meaning.Nodes.{field_data}
@@ -7,8 +7,7 @@ use Rattle.fast_dict.specs.meaning.Dictionary.{previous_at}
 use Rattle.fast_dict.specs.meaning.Operators.{◌>>=◌, keeps, ranged, range_of, integer_step}
 use Rattle.fast_dict.specs.meaning.Slots.{slots_dictionary}
 use Rattle.fast_units.specs.device.Deciding.{base_integer, number_data, IsDecided}
-use Rattle.fast_units.proofs.Deciding.{base_fault, decided_as, keep_decided, base_stepped}
-use Rattle.std.proofs.lemmas.Result.{err_from_is_err_and}
+use Rattle.fast_units.proofs.Deciding.{decided_as, keep_decided, base_stepped}
 use Rattle.fast_units.proofs.numbers.change_integer.Goals as goal
 
 pub returns-in_err-sum-clause-decided : goal.returns-in_err-sum-clause-decided
@@ -32,9 +31,3 @@ returns-clause-decided c =
     decided_as f old (slots_dictionary c.keep.new.slots) (Ok c.keep.result) step
     (keep_decided f old (slots_dictionary c.keep.new.slots)
     (number_data c.of_integer.result) c.keep.result c.keep.ensures.entry c.keep.ensures.value)
-
-pub returns-in_err-base-clause-decided : goal.returns-in_err-base-clause-decided
-returns-in_err-base-clause-decided c =
-    let f = field_data c.args.field.now in
-    let p = err_from_is_err_and c.from_residual.result c.from_residual.ensures.1 in
-    rw (p.1, p.2) (base_fault f (previous_at f.entry (slots_dictionary c.args.slots.now)) c.args.delta c.in_err-base.field-0.0 (sym c.in_err-base.ensures))

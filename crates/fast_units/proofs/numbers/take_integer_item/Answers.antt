@@ -1,41 +1,18 @@
 -- What is decided of the integer, or of NULL, behind its unit.
-use Rattle.std.proofs.Common.{None, ◌≤ℤ◌, rules, sym, ap, ◌∙◌, subst, FitsSigned, neg_ℤ, pos, ◌^◌}
+use Rattle.std.proofs.Common.{None, rules, sym, ap, ◌∙◌, FitsSigned}
 use Rattle.std.specs.Int.{w128}
 use Rattle.std.specs.Prelude.{true, Some, Ok}
-use Rattle.fast_wire.specs.meaning.Integers.{IsWithin}
 use Rattle.fast_value.specs.meaning.Kinds.{value_of_integer}
 use Rattle.fast_tree.specs.meaning.Nodes.{field_data}
 use Rattle.fast_dict.specs.meaning.Dictionary.{previous_at}
-use Rattle.fast_dict.specs.meaning.Operators.{decide, value, range_of}
+use Rattle.fast_dict.specs.meaning.Operators.{decide, value}
 use Rattle.fast_dict.specs.meaning.Slots.{slots_dictionary}
 use Rattle.fast_stream.specs.meaning.Grammar.{of_result}
 use Rattle.fast_units.specs.device.NextUnits.{range_data}
 use Rattle.fast_units.specs.device.Deciding.{sent_number}
 use Rattle.fast_units.specs.device.Words.{previous_of}
-use Rattle.fast_units.proofs.LastUnits.{behind_integer, integer_here, last_unit, unit_stops, unit_stays, number_within, again, kind_low}
+use Rattle.fast_units.proofs.LastUnits.{behind_integer, integer_here, last_unit, unit_stops, unit_stays, again}
 use Rattle.fast_units.proofs.numbers.take_integer_item.Goals as goal
-
-pub of_integer-number-requires-clause-low : goal.of_integer-number-requires-clause-low
-of_integer-number-requires-clause-low c =
-    let kind = c.args.field.now.kind in
-    let wire = range_data c.range_on_wire-range.result in
-    let fits : FitsSigned w128 c.in-Whole-Some-default.integer = search rules in
-    let inside : IsWithin (range_of kind) c.in-Whole-Some-default.integer =
-    number_within (range_of kind) wire c.in-Whole-Some-default.field-0
-    c.in-Whole-Some-default.integer c.range_on_wire-range.ensures c.in-Whole-Some-default.field-0-is
-    c.in-Whole-Some-default.ensures.within in
-    subst (λ x. neg_ℤ (pos (2 ^ 63)) ≤ℤ x) (sym (again w128 c.in-Whole-Some-default.integer fits)) (kind_low kind c.in-Whole-Some-default.integer inside)
-
-pub of_integer-number-requires-clause-high : goal.of_integer-number-requires-clause-high
-of_integer-number-requires-clause-high c =
-    let kind = c.args.field.now.kind in
-    let wire = range_data c.range_on_wire-range.result in
-    let fits : FitsSigned w128 c.in-Whole-Some-default.integer = search rules in
-    let inside : IsWithin (range_of kind) c.in-Whole-Some-default.integer =
-    number_within (range_of kind) wire c.in-Whole-Some-default.field-0
-    c.in-Whole-Some-default.integer c.range_on_wire-range.ensures c.in-Whole-Some-default.field-0-is
-    c.in-Whole-Some-default.ensures.within in
-    subst (λ x. x ≤ℤ (range_of kind).high) (sym (again w128 c.in-Whole-Some-default.integer fits)) inside.1
 
 pub returns-in-Whole-Some-default-clause-unit : goal.returns-in-Whole-Some-default-clause-unit
 returns-in-Whole-Some-default-clause-unit c l scratch =

@@ -1,14 +1,10 @@
 use Rattle.fast_value.specs.meaning.Limits.{bounds}
-use Rattle.fast_units.proofs.ScalarTakes.{unit_settled, short_settled}
+use Rattle.fast_units.proofs.ScalarTakes.{unit_settled}
 use Rattle.fast_units.proofs.scalars.take_first.Goals as goal
 
 pub returns-in-UInt32-clause-unit : goal.returns-in-UInt32-clause-unit
 returns-in-UInt32-clause-unit c = unit_settled _ _ _ _ _ _ _ c.take_integer.result c.settled.result c.settled.ensures
     (c.take_integer.ensures.unit (bounds c.args.limits) c.args.scratch.now.text)
-
-pub returns-in-UInt32-clause-short : goal.returns-in-UInt32-clause-short
-returns-in-UInt32-clause-short c =
-    short_settled c.args.rest.now c.take_integer.result c.settled.result c.settled.ensures c.take_integer.ensures.short
 
 pub returns-in-Decimal-clause-unit : goal.returns-in-Decimal-clause-unit
 returns-in-Decimal-clause-unit c = c.take_exponent.ensures.unit c.args.scratch.now.text

@@ -8,7 +8,7 @@ use Rattle.fast_units.specs.device.Stages.{IsFieldUnit}
 use Rattle.fast_units.specs.device.TextDecisions.{reader_behind}
 use Rattle.fast_units.specs.declared.stages.Stage.{Stage}
 use Rattle.fast_units.specs.declared.stages.Stage.TheVariants.{Mantissa, MantissaDelta, Part}
-use Rattle.fast_units.proofs.ScalarTakes.{not_next, unit_settled, short_settled, no_number}
+use Rattle.fast_units.proofs.ScalarTakes.{unit_settled}
 use Rattle.fast_units.proofs.scalars.take_number.Goals as goal
 
 pub returns-in-Mantissa-clause-unit : goal.returns-in-Mantissa-clause-unit
@@ -24,13 +24,6 @@ returns-in-Mantissa-clause-unit c =
     (unit_settled l (reader_behind l f old here) f c.args.rest.now old (slots_dictionary c.take_mantissa.new.slots) text
     c.take_mantissa.result c.settled.result c.settled.ensures (c.take_mantissa.ensures.unit text))
 
-pub returns-in-Mantissa-clause-short : goal.returns-in-Mantissa-clause-short
-returns-in-Mantissa-clause-short c =
-    short_settled c.args.rest.now c.take_mantissa.result c.settled.result c.settled.ensures c.take_mantissa.ensures.short
-
-pub returns-in-Mantissa-clause-run : goal.returns-in-Mantissa-clause-run
-returns-in-Mantissa-clause-run c stage n e = absurd (not_next c.take_mantissa.result c.settled.result c.settled.ensures stage n e)
-
 pub returns-in-MantissaDelta-clause-unit : goal.returns-in-MantissaDelta-clause-unit
 returns-in-MantissaDelta-clause-unit c =
     let text = c.args.scratch.now.text in
@@ -44,14 +37,6 @@ returns-in-MantissaDelta-clause-unit c =
     (unit_settled l (reader_behind l f old here) f c.args.rest.now old (slots_dictionary c.take_mantissa_delta.new.slots) text
     c.take_mantissa_delta.result c.settled-in-MantissaDelta.result c.settled-in-MantissaDelta.ensures (c.take_mantissa_delta.ensures.unit text))
 
-pub returns-in-MantissaDelta-clause-short : goal.returns-in-MantissaDelta-clause-short
-returns-in-MantissaDelta-clause-short c = short_settled c.args.rest.now c.take_mantissa_delta.result c.settled-in-MantissaDelta.result
-    c.settled-in-MantissaDelta.ensures c.take_mantissa_delta.ensures.short
-
-pub returns-in-MantissaDelta-clause-run : goal.returns-in-MantissaDelta-clause-run
-returns-in-MantissaDelta-clause-run c stage n e =
-    absurd (not_next c.take_mantissa_delta.result c.settled-in-MantissaDelta.result c.settled-in-MantissaDelta.ensures stage n e)
-
 pub returns-in-Part-clause-unit : goal.returns-in-Part-clause-unit
 returns-in-Part-clause-unit c =
     let text = c.take_part_size.new.scratch.text in
@@ -62,9 +47,3 @@ returns-in-Part-clause-unit c =
     (slots_dictionary c.take_part_size.new.slots) text c.take_part_size.result)
     (ap Part (to_z-of_z w32 c.in-Part.subtraction (search rules)) ∙ sym c.in-Part.is)
     (c.take_part_size.ensures.unit text)
-
-pub returns-in-Vector-clause-unit : goal.returns-in-Vector-clause-unit
-returns-in-Vector-clause-unit c = absurd (no_number (field_data c.args.field.now) c.args.stage c.in-Vector.is c.requires.number)
-
-pub returns-in-Vector-clause-short : goal.returns-in-Vector-clause-short
-returns-in-Vector-clause-short c = absurd (no_number (field_data c.args.field.now) c.args.stage c.in-Vector.is c.requires.number)

@@ -13,8 +13,7 @@ use Rattle.fast_units.specs.device.Stages.{term_behind}
 use Rattle.fast_units.specs.device.TextDecisions.{IsStepped, behind_part_size}
 use Rattle.fast_units.specs.declared.stages.Stage.TheVariants.{PartVector}
 use Rattle.fast_units.proofs.TextOutcomes.{decided_as}
-use Rattle.fast_units.proofs.TextUnits.{part_size_fits, part_size_none, part_vector_here, stepped, part_size_wrong}
-use Rattle.std.proofs.lemmas.Result.{err_from_is_err_and}
+use Rattle.fast_units.proofs.TextUnits.{part_size_fits, part_size_none, part_vector_here, stepped}
 use Rattle.fast_units.proofs.text_deltas.part_vector_next.Goals as goal
 
 pub returns-then-size-gt0-clause-step : goal.returns-then-size-gt0-clause-step
@@ -50,15 +49,3 @@ returns-clause-step c kept e scratch piece =
     (stepped l _ f old (slots_dictionary c.finish_part.new.slots) scratch piece _ c.finish_part.result none
     (decided_as f old (slots_dictionary c.finish_part.new.slots) scratch piece c.finish_part.result
     (ap (λ (t : List ℕ). text_step f kept t) (sym c.clear.ensures.text)) (c.finish_part.ensures.field kept (wrapped ∙ e) scratch piece)))
-
-pub returns-in_err-size-clause-step : goal.returns-in_err-size-clause-step
-returns-in_err-size-clause-step c kept e scratch piece =
-    let l = c.args.limits in
-    let f = field_data c.args.field.now in
-    let p = previous_at f.entry (slots_dictionary c.args.slots.now) in
-    let r = err_from_is_err_and c.from_residual.result c.from_residual.ensures.1 in
-    let wrapped = ap (λ (x : ℤ). subtraction_step f p x) (to_z-of_z w32 c.args.subtraction c.ranges.subtraction) in
-    let room : c.part_room-room.result ≡ l.max_text - kept_length kept = c.part_room-room.ensures.room kept (wrapped ∙ e) in
-    let sized = subst (λ (most : ℕ). (if nat_le c.args.size most then Ok c.args.size else Err L1) ≡ Err c.in_err-size.field-0.0) room
-    (sym c.in_err-size.ensures) in
-    rw (r.1, r.2) (ap (reader_of l.strict) (part_size_wrong (bounds l) f p kept c.args.size c.in_err-size.field-0.0 sized))

@@ -1,6 +1,5 @@
-use Rattle.std.proofs.Common.{◌∙◌, sym, ap, subst, ℤ, take}
+use Rattle.std.proofs.Common.{◌∙◌, ap, subst, ℤ, take}
 use Rattle.std.specs.Prelude.{Some, Option, pos}
-use Rattle.fast_wire.specs.meaning.Integers.{unsigned_range}
 use mir.Syntax.{w32, w128}
 use mir.Val.{to_z, of_z}
 use Rattle.std.proofs.lemmas.Int.{to_z-of_z}
@@ -14,17 +13,9 @@ use Rattle.fast_stream.specs.device.GrammarReaders.{reader_of}
 use Rattle.fast_units.specs.device.TextDecisions.{IsStepped, behind_part_size}
 use Rattle.fast_units.specs.device.Words.{previous_of}
 use Rattle.fast_units.proofs.LastUnits.{unit_stops, unit_stays}
-use Rattle.fast_wire.specs.meaning.Integers.{IsWithin}
 use Rattle.fast_units.proofs.TextSizes.{size_again}
-use Rattle.fast_units.proofs.TextUnits.{short_answer, part_size_field, text_next}
+use Rattle.fast_units.proofs.TextUnits.{part_size_field, text_next}
 use Rattle.fast_units.proofs.text_deltas.take_part_size.Goals as goal
-
-pub size_of-size-requires : goal.size_of-size-requires
-size_of-size-requires c =
-    let l = c.args.limits in
-    let in_range = c.in-Whole.ensures.within in
-    let same = ap (λ (z : ℤ). to_z w128 (of_z w128 z)) c.from.ensures ∙ size_again (pos c.in-Whole.size) in_range in
-    subst (λ (z : ℤ). IsWithin (unsigned_range 32) z) (sym same) in_range
 
 pub returns-in-Whole-clause-unit : goal.returns-in-Whole-clause-unit
 returns-in-Whole-clause-unit c scratch =
@@ -48,10 +39,6 @@ returns-in-Whole-clause-unit c scratch =
     (c.size_of-size.ensures ∙ same)
     (c.part_vector_next.ensures.step kept (ap (λ (x : ℤ). subtraction_step f p x) (to_z-of_z w32 c.args.subtraction c.ranges.subtraction)
     ∙ step) scratch (take n c.args.rest.now)))
-
-pub returns-in-Whole-clause-short : goal.returns-in-Whole-clause-short
-returns-in-Whole-clause-short c = short_answer c.args.rest.now c.part_vector_next.result c.answered.result c.in-Whole.bytes
-    c.answered.ensures c.in-Whole.ensures.short
 
 pub returns-in-Wrong-clause-unit : goal.returns-in-Wrong-clause-unit
 returns-in-Wrong-clause-unit c scratch =

@@ -1,4 +1,4 @@
-use Rattle.std.proofs.Common.{◌≡◌, ◌∙◌, sym, ap, arith, List, ℕ, ℤ, take}
+use Rattle.std.proofs.Common.{◌∙◌, sym, ap, List, ℕ, ℤ, take}
 use Rattle.std.specs.Prelude.{Some}
 use mir.Syntax.{w32}
 use Rattle.std.proofs.lemmas.List.{length-take-le}
@@ -6,13 +6,13 @@ use Rattle.std.proofs.lemmas.Int.{to_z-of_z}
 use Rattle.fast_value.specs.meaning.Limits.{bounds}
 use Rattle.fast_tree.specs.meaning.Nodes.{field_data}
 use Rattle.fast_dict.specs.meaning.Dictionary.{previous_at}
-use Rattle.fast_dict.specs.meaning.Operators.{kept_length, subtraction_step, text_step}
+use Rattle.fast_dict.specs.meaning.Operators.{subtraction_step, text_step}
 use Rattle.fast_dict.specs.meaning.Slots.{slots_dictionary}
 use Rattle.fast_stream.specs.meaning.Fields.{part_change}
 use Rattle.fast_stream.specs.meaning.Grammar.{Grammar}
 use Rattle.fast_units.proofs.LastUnits.{unit_stays}
 use Rattle.fast_units.proofs.NextUnits.{run_whole, run_cut}
-use Rattle.fast_units.proofs.TextUnits.{uncut, part_vector_field, text_last, one_kept}
+use Rattle.fast_units.proofs.TextUnits.{part_vector_field, text_last}
 use Rattle.fast_units.proofs.text_deltas.take_part_vector.Goals as goal
 
 pub returns-then-rest-size-clause-unit : goal.returns-then-rest-size-clause-unit
@@ -26,26 +26,6 @@ returns-then-rest-size-clause-unit c =
     let here = part_vector_field l.strict (bounds l) f p k kept c.args.size step in
     let then : List ℕ → Grammar _ = λ v. part_change f p kept (Some v) in
     unit_stays here c.args.rest.now _ (run_cut l.strict c.args.size c.args.rest.now c.if-rest-size.true)
-
-pub set-requires : goal.set-requires
-set-requires c =
-    let len = length-take-le c.args.size c.args.rest.now c.if-rest-size.false in
-    let room = c.requires.scratch in
-    let most = c.requires.limit.0 in
-    let (is_text, not_ascii, delta, some, (kept, step, fits)) = c.requires.stage in
-    omega (arith, len, fits, most, room)
-
-pub finish_part-requires-clause-fits : goal.finish_part-requires-clause-fits
-finish_part-requires-clause-fits c other e =
-    let f = field_data c.args.field.now in
-    let p = previous_at f.entry (slots_dictionary c.args.slots.now) in
-    let (is_text, not_ascii, delta, some, (kept, step, fits)) = c.requires.stage in
-    let len = length-take-le c.args.size c.args.rest.now c.if-rest-size.false in
-    let same : kept ≡ other = one_kept kept other step (ap (λ (x : ℤ). subtraction_step f p x)
-    (sym (to_z-of_z w32 c.args.subtraction c.ranges.subtraction)) ∙ e) in
-    let most = c.requires.limit.0 in
-    let kepts : kept_length kept ≡ kept_length other = ap kept_length same in
-    rw c.set.ensures.text (omega (arith, len, fits, most, kepts))
 
 pub returns-clause-unit : goal.returns-clause-unit
 returns-clause-unit c =
@@ -67,6 +47,3 @@ returns-clause-unit c =
     (ap (λ v. then v) (sym c.set.ensures.text))
     (c.finish_part.ensures.field kept (ap (λ (z : ℤ). subtraction_step f p z) (to_z-of_z w32 c.args.subtraction c.ranges.subtraction)
     ∙ step) c.finish_part.new.scratch.text x)
-
-pub returns-clause-cut : goal.returns-clause-cut
-returns-clause-cut c = uncut _ c.finish_part.result c.answered.result c.args.size c.answered.ensures

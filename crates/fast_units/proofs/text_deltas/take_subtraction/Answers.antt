@@ -14,18 +14,9 @@ use Rattle.fast_stream.specs.device.GrammarReaders.{reader_of}
 use Rattle.fast_units.specs.device.TextDecisions.{IsStepped}
 use Rattle.fast_units.specs.device.Words.{previous_of}
 use Rattle.fast_units.proofs.LastUnits.{unit_stops, unit_stays, number_within}
-use Rattle.fast_wire.specs.meaning.Integers.{IsWithin}
 use Rattle.fast_units.proofs.TextSizes.{length_again, length_narrow}
-use Rattle.fast_units.proofs.TextUnits.{short_answer, delta_null, subtraction_field, text_next, text_settled}
+use Rattle.fast_units.proofs.TextUnits.{delta_null, subtraction_field, text_next, text_settled}
 use Rattle.fast_units.proofs.text_deltas.take_subtraction.Goals as goal
-
-pub length_of-requires : goal.length_of-requires
-length_of-requires c =
-    let l = c.args.limits in
-    let f = field_data c.args.field.now in
-    let in_range = number_within (signed_range 31) (signed_range 31) c.in-Whole-Some-default.field-0
-    c.in-Whole-Some-default.length refl c.in-Whole-Some-default.field-0-is c.in-Whole-Some-default.ensures.within in
-    subst (λ (z : ℤ). IsWithin (signed_range 31) z) (sym (length_again c.in-Whole-Some-default.length in_range)) in_range
 
 pub returns-in-Whole-Some-default-clause-unit : goal.returns-in-Whole-Some-default-clause-unit
 returns-in-Whole-Some-default-clause-unit c scratch =
@@ -59,10 +50,6 @@ returns-in-Whole-None-default-clause-unit c scratch =
     (slots_dictionary c.finish_absent.new.slots) scratch n c.in-Whole-None-default.field-0 c.in-Whole-None-default.ensures.unit
     (decide f p true null) c.finish_absent.result (ap next c.in-Whole-None-default.field-0-is ∙ delta_null f p c.requires.delta)
     (c.finish_absent.ensures.field scratch (take n c.args.rest.now))
-
-pub returns-in-Whole-Some-default-clause-short : goal.returns-in-Whole-Some-default-clause-short
-returns-in-Whole-Some-default-clause-short c = short_answer c.args.rest.now c.part_next.result c.answered.result c.in-Whole-Some-default.bytes
-    c.answered.ensures c.in-Whole-Some-default.ensures.short
 
 pub returns-in-Wrong-clause-unit : goal.returns-in-Wrong-clause-unit
 returns-in-Wrong-clause-unit c scratch =

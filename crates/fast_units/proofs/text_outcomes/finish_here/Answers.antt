@@ -1,4 +1,4 @@
-use Rattle.std.proofs.Common.{sym, ap, refl, List, ℕ, true}
+use Rattle.std.proofs.Common.{sym, ap, List, ℕ, true}
 use Rattle.std.specs.Prelude.{Some}
 use Rattle.fast_tree.specs.meaning.Nodes.{field_data}
 use Rattle.fast_dict.specs.meaning.Dictionary.{previous_at}
@@ -16,6 +16,3 @@ returns-in-Tail-clause-field c held =
     decided_as f old (slots_dictionary c.finish_tail.new.slots) held text c.finish_tail.result
     (ap (λ (t : List ℕ). decide f (previous_at f.entry old) true (sent_text f.kind (Some t))) (sym c.set.ensures.text))
     (c.finish_tail.ensures.field held text)
-
-pub returns-in_default-clause-field : goal.returns-in_default-clause-field
-returns-in_default-clause-field c held = c.finish_text.ensures.field held c.args.text.now refl

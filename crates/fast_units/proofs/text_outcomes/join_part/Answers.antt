@@ -20,14 +20,6 @@ join_kept-requires c =
     let r = c.requires.room in
     omega (arith, h, r)
 
-pub returns-clause-joined : goal.returns-clause-joined
-returns-clause-joined c =
-    let step = ap (λ (k : ℤ). subtraction_step (field_data c.args.field.now)
-    (previous_at c.args.field.now.entry (slots_dictionary c.args.slots.now)) k)
-    (sym (to_z-of_z w32 c.args.subtraction c.ranges.subtraction))
-    ∙ sym c.in_ok-kept.ensures in
-    (kept_data c.in_ok-kept.kept, step, c.join_kept.ensures.text)
-
 pub returns-clause-fits : goal.returns-clause-fits
 returns-clause-fits c e =
     let step = ap (λ (k : ℤ). subtraction_step (field_data c.args.field.now)

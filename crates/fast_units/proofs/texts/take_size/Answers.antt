@@ -11,18 +11,9 @@ use Rattle.fast_stream.specs.device.GrammarReaders.{reader_of}
 use Rattle.fast_units.specs.device.TextDecisions.{IsStepped, behind_size}
 use Rattle.fast_units.specs.device.Words.{previous_of}
 use Rattle.fast_units.proofs.LastUnits.{unit_stops, unit_stays, number_within}
-use Rattle.fast_wire.specs.meaning.Integers.{IsWithin}
 use Rattle.fast_units.proofs.TextSizes.{size_again}
-use Rattle.fast_units.proofs.TextUnits.{short_answer, size_field, text_next, text_settled}
+use Rattle.fast_units.proofs.TextUnits.{size_field, text_next, text_settled}
 use Rattle.fast_units.proofs.texts.take_size.Goals as goal
-
-pub size_of-requires : goal.size_of-requires
-size_of-requires c =
-    let l = c.args.limits in
-    let f = field_data c.args.field.now in
-    let in_range = number_within (unsigned_range 32) (unsigned_range 32) c.in-Whole-Some-default.field-0
-    c.in-Whole-Some-default.size refl c.in-Whole-Some-default.field-0-is c.in-Whole-Some-default.ensures.within in
-    subst (λ (z : ℤ). IsWithin (unsigned_range 32) z) (sym (size_again c.in-Whole-Some-default.size in_range)) in_range
 
 pub returns-in-Whole-Some-default-clause-unit : goal.returns-in-Whole-Some-default-clause-unit
 returns-in-Whole-Some-default-clause-unit c =
@@ -56,10 +47,6 @@ returns-in-Whole-None-default-clause-unit c =
     c.args.scratch.now.text n c.in-Whole-None-default.field-0 c.in-Whole-None-default.ensures.unit
     (decide f p true null) c.finish_absent.result (ap next c.in-Whole-None-default.field-0-is) (c.finish_absent.ensures.field c.args.scratch.now.text (take n
     c.args.rest.now))
-
-pub returns-in-Whole-Some-default-clause-short : goal.returns-in-Whole-Some-default-clause-short
-returns-in-Whole-Some-default-clause-short c = short_answer c.args.rest.now c.vector_next.result c.answered.result c.in-Whole-Some-default.bytes
-    c.answered.ensures c.in-Whole-Some-default.ensures.short
 
 pub returns-in-Wrong-clause-unit : goal.returns-in-Wrong-clause-unit
 returns-in-Wrong-clause-unit c =

@@ -1,4 +1,4 @@
-use Rattle.std.proofs.Common.{subst, ◌≤◌, arith, ◌≡◌, ap, refl, List, ℕ, take}
+use Rattle.std.proofs.Common.{◌≡◌, ap, refl, List, ℕ, take}
 use Rattle.std.specs.Prelude.{Ok, Some, None, Option, true}
 use Rattle.fast_value.specs.meaning.Limits.{bounds}
 use Rattle.fast_tree.specs.meaning.Nodes.{field_data}
@@ -9,9 +9,8 @@ use Rattle.fast_stream.specs.meaning.Fields.{sent_text}
 use Rattle.fast_units.specs.device.NextUnits.{text_or_null}
 use Rattle.fast_units.specs.device.Words.{previous_of}
 use Rattle.fast_units.proofs.LastUnits.{unit_stops, unit_stays}
-use Rattle.fast_units.proofs.NextTexts.{text_short}
 use Rattle.fast_units.proofs.NextUnits.{text_unit}
-use Rattle.fast_units.proofs.TextUnits.{uncut, text_field, text_last, behind_text}
+use Rattle.fast_units.proofs.TextUnits.{text_field, text_last, behind_text}
 use Rattle.fast_units.specs.declared.progress.Progress.TheVariants.{Whole, Wrong, Cut}
 use Rattle.fast_units.proofs.texts.take_text.Goals as goal
 
@@ -66,16 +65,3 @@ returns-in-Cut-clause-unit c =
     c.args.rest.now _
     (text_unit c.args.limits.strict c.args.field.now.optional c.args.limits.max_text c.args.rest.now c.next_ascii.new.scratch.text
     Cut c.in-Cut.ensures.text)
-
-pub next_ascii-requires : goal.next_ascii-requires
-next_ascii-requires c = subst (λ (most : ℕ). most ≤ c.args.scratch.now.capacity) c.requires.limit.0 c.requires.scratch
-
-pub finish_ascii-requires-clause-fits : goal.finish_ascii-requires-clause-fits
-finish_ascii-requires-clause-fits c =
-    let whole = text_short c.args.field.now.optional c.args.limits.max_text c.args.rest.now c.next_ascii.new.scratch.text
-    c.in-Whole-true-default.field-0 c.in-Whole-true-default.bytes c.in-Whole-true-default.field-0-test c.in-Whole-true-default.ensures.text in
-    let most = c.requires.limit.0 in
-    omega (arith, whole, most)
-
-pub returns-in-Whole-true-default-clause-cut : goal.returns-in-Whole-true-default-clause-cut
-returns-in-Whole-true-default-clause-cut c = uncut _ c.finish_ascii.result c.answered.result c.in-Whole-true-default.bytes c.answered.ensures

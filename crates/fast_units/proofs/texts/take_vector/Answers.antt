@@ -1,4 +1,4 @@
-use Rattle.std.proofs.Common.{refl, arith, take}
+use Rattle.std.proofs.Common.{refl, take}
 use Rattle.std.specs.Prelude.{Some, true}
 use Rattle.std.proofs.lemmas.List.{length-take-le}
 use Rattle.fast_value.specs.meaning.Limits.{bounds}
@@ -9,7 +9,7 @@ use Rattle.fast_dict.specs.meaning.Slots.{slots_dictionary}
 use Rattle.fast_stream.specs.meaning.Fields.{sent_text}
 use Rattle.fast_units.proofs.LastUnits.{unit_stays}
 use Rattle.fast_units.proofs.NextUnits.{run_whole, run_cut}
-use Rattle.fast_units.proofs.TextUnits.{uncut, vector_field, text_last}
+use Rattle.fast_units.proofs.TextUnits.{vector_field, text_last}
 use Rattle.fast_units.proofs.texts.take_vector.Goals as goal
 
 pub returns-then-rest-size-clause-unit : goal.returns-then-rest-size-clause-unit
@@ -20,13 +20,6 @@ returns-then-rest-size-clause-unit c =
     let p = previous_at f.entry old in
     let here = vector_field l.strict (bounds l) f p c.args.size in
     unit_stays here c.args.rest.now _ (run_cut l.strict c.args.size c.args.rest.now c.if-rest-size.true)
-
-pub finish_here-requires-clause-fits : goal.finish_here-requires-clause-fits
-finish_here-requires-clause-fits c =
-    let len = length-take-le c.args.size c.args.rest.now c.if-rest-size.false in
-    let fits = c.requires.stage.4 in
-    let most = c.requires.limit.0 in
-    omega (arith, len, fits, most)
 
 pub returns-clause-unit : goal.returns-clause-unit
 returns-clause-unit c =
@@ -42,6 +35,3 @@ returns-clause-unit c =
     c.finish_here.new.scratch.text n x (c.requires.stage.5, within, run_whole l.strict n x (length-take-le n c.args.rest.now within))
     (decide f p true (sent_text f.kind (Some x))) c.finish_here.result c.answered.result c.answered.ensures refl
     (c.finish_here.ensures.field c.finish_here.new.scratch.text)
-
-pub returns-clause-cut : goal.returns-clause-cut
-returns-clause-cut c = uncut _ c.finish_here.result c.answered.result c.args.size c.answered.ensures

@@ -1,12 +1,4 @@
-use Rattle.fast_units.proofs.NextTexts.{text_bare, text_nothing}
 use Rattle.fast_units.proofs.units.next_ascii.Goals as goal
-
-pub returns-in-None-clause-text : goal.returns-in-None-clause-text
-returns-in-None-clause-text c = text_nothing c.args.nullable c.args.room c.args.rest.now c.in-None.ensures.value
-
-pub returns-in-Some-eq128-clause-text : goal.returns-in-Some-eq128-clause-text
-returns-in-Some-eq128-clause-text c = rw c.clear.ensures.text
-    (text_bare c.args.nullable c.args.room c.args.rest.now c.in-Some-eq128.field-0.now c.in-Some-eq128.ensures.value c.in-Some-eq128.field-0-test)
 
 pub returns-in-Some-eq0-clause-text : goal.returns-in-Some-eq0-clause-text
 returns-in-Some-eq0-clause-text c = rw c.clear.ensures.text (c.zero_first.ensures c.args.room)

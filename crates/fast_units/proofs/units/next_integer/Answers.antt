@@ -1,11 +1,6 @@
-use Rattle.std.proofs.Common.{sym}
-use Rattle.std.proofs.lemmas.List.{length-take-le}
 use Rattle.fast_units.specs.device.NextUnits.{range_data}
 use Rattle.fast_units.proofs.NextUnits.{first_whole, first_wrong, first_cut}
 use Rattle.fast_units.proofs.units.next_integer.Goals as goal
-
-pub slice_bounds-stream_fault-end : goal.slice_bounds-stream_fault-end
-slice_bounds-stream_fault-end c = sym (length-take-le c.in-Wrong.len c.args.rest.now c.in-Wrong.ensures.0)
 
 pub returns-in-Whole-clause-unit : goal.returns-in-Whole-clause-unit
 returns-in-Whole-clause-unit c =

@@ -14,21 +14,6 @@ use Rattle.fast_fields.specs.device.Readings.{IsUndecided}
 use Rattle.fast_fields.proofs.Carries.{all_taken, stays_now, whole_after, whole_carried, whole_bytes, wrong_after, wrong_carried}
 use Rattle.fast_fields.proofs.carry.Carry.read.Goals as goal
 
-pub returns-then-carries_string-clause-unit : goal.returns-then-carries_string-clause-unit
-returns-then-carries_string-clause-unit c =
-    let r = first_reader c.args.limits (field_data c.args.field.now) (slots_dictionary c.args.slots.now) in
-    let carry = c.carries_string.new.self in
-    let (none, all) = c.if-carries_string.ensures.bytes refl in (
-      subst (λ (w : List ℕ). Stays r w) (all ∙ ap (λ (w : List ℕ). w ++ c.args.rest.now) (sym none))
-          (stays_now r carry.bytes.text carry.missing (c.if-carries_string.ensures.carried refl).0),
-      refl,
-    )
-
-pub returns-then-carries_string-clause-cut : goal.returns-then-carries_string-clause-cut
-returns-then-carries_string-clause-cut c _ =
-    let (none, all) = c.if-carries_string.ensures.bytes refl in
-    (all ∙ ap (λ (w : List ℕ). w ++ c.args.rest.now) (sym none), c.if-carries_string.ensures.carried refl)
-
 pub overflow_sub-result : goal.overflow_sub-result
 overflow_sub-result c =
     let f = field_data c.args.field.now in
