@@ -1,7 +1,7 @@
 -- From what leads to a decoder to what the stream says of the bytes that were fed.
 use Rattle.std.proofs.Common.{◌≡◌, ℕ, ◌+◌, ◌*◌, ◌≤◌, ◌<◌, List, [], ◌∷◌, ◌++◌, length, take, drop, get_or, refl, sym, ap, ◌∙◌, subst, arith}
 use Rattle.std.proofs.Common.{append_assoc, append-nil, length-append}
-use Rattle.std.specs.Prelude.{Option, Some, None, IsSome, IfSome, Result, Ok, Err}
+use Rattle.std.specs.Prelude.{Option, Some, None, IfSome, Result, Ok, Err}
 use Rattle.std.specs.Borrow.{Bor}
 use Rattle.std.proofs.lemmas.List.{length-take-le, take_more, drop_more}
 use Rattle.std.proofs.lemmas.Grind.{flat_map-append}
@@ -259,20 +259,8 @@ told_none : (o : Option Fault) (u : Unit {0}) → Ok u ≡ answer o → o ≡ No
 told_none None u e = refl
 told_none (Some g) u e = absurd (cc e)
 
--- So where there is no fault.
-pub no_fault : {A : Type 0} (o : Option Fault) → o ≡ None → IsSome o → A
-no_fault None e some = absurd (cc some)
-no_fault (Some f) e some = absurd (cc e)
-
-pub no_fault_and_one : {A : Type 0} (o : Option Fault) (f : Fault) → o ≡ None → o ≡ Some f → A
-no_fault_and_one None f e some = absurd (cc some)
-no_fault_and_one (Some g) f e some = absurd (cc e)
-
 pub none_at_place : (d : DecoderData) → d.fault ≡ None → IsAtPlace d
 none_at_place d e = subst (λ (o : Option Fault). IfSome o (λ f. d.consumed ≡ f.place)) (sym e) tt
-
-pub consumed_none : (old new : DecoderData) (n : ℕ) → ConsumesAtMost 0 old new → ConsumesAtMost n old new
-consumed_none old new n h = let low = h.0 in let high = h.1 in (low, omega (arith, high))
 
 -- What calls consumed, one after the other.
 pub consumed_both : (old d new : DecoderData) (front piece : List ℕ) → ConsumesAtMost (length front) old d

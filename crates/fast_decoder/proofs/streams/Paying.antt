@@ -1,23 +1,16 @@
 -- The bytes of a call pay for its turns.
 use Rattle.fast_machine.proofs.steps.Recounted.{supplied-turns, takes-turns}
-use Rattle.fast_stream.specs.declared.faults.FaultCode.TheVariants as Why
-use Rattle.fast_stream.specs.device.Running.{Position}
-use Rattle.fast_dict.specs.meaning.Dictionary.{Dictionary}
-use Rattle.fast_tree.specs.meaning.Tree.{Tree}
-use Rattle.fast_stream.specs.meaning.Events.{EventData}
-use Rattle.fast_stream.specs.meaning.Account.{Account}
-use Rattle.fast_machine.specs.device.Handing.{Fed}
-use Rattle.std.proofs.Common.{sym, ap, subst, arith, ◌∙◌}
-use Rattle.std.specs.Prelude.{◌≡◌, ℕ, ◌+◌, ◌-◌, ◌*◌, ◌≤◌, Option, None, Result, Ok, Err, OnOk, Some, IfSome, ◌<◌, Bool, ◌&&◌, is_none, List}
+use Rattle.std.proofs.Common.{sym, ap, subst, arith}
+use Rattle.std.specs.Prelude.{◌≡◌, ℕ, ◌+◌, ◌-◌, ◌*◌, ◌≤◌, Option, None, Result, Ok, Err, OnOk, ◌<◌}
 use Rattle.fast_value.specs.declared.settings.Limits.{Limits}
 use Rattle.fast_tree.specs.meaning.Sizes.{turn_cap}
 use Rattle.fast_stream.specs.declared.faults.Fault.{Fault}
 use Rattle.fast_stream.specs.declared.faults.FaultCode.{FaultCode}
 use Rattle.fast_machine.specs.declared.machine.Machine.{Machine}
 use Rattle.fast_tree.specs.meaning.Numbers.{NameLaterNodes}
-use Rattle.fast_machine.specs.device.Positions.{Set, tree_in, IsSupplied, IsReady, is_idle}
+use Rattle.fast_machine.specs.device.Positions.{Set, tree_in, IsSupplied, IsReady}
 use Rattle.fast_machine.specs.device.TurnsLeft.{Way, most_by, HasTurnsWaiting, IsWithinMessage}
-use Rattle.fast_decoder.specs.meaning.Decoding.{DecoderData, tree, IsSoundAt, IsPaidAt, IsSound, account}
+use Rattle.fast_decoder.specs.meaning.Decoding.{DecoderData, tree, IsSoundAt, IsPaidAt, IsSound}
 use Rattle.fast_machine.proofs.steps.TurnCounts.{counted_anew, turns_bounded}
 
 -- what is known of a machine behind so many bytes, by how they ended
@@ -58,33 +51,9 @@ sound_on d m k running later supplied ready within = record {
   paid = subst (λ (f : Option Fault). IsPaidAt f d.set d.limits m) (sym running) within;
 }
 
--- The place of a fault, and what stays as it was behind one.
-pub placed : (o : Option Fault) (set : Set) (l : Limits) (m : Machine) (n : ℕ) → IsSoundAt o set l m n → IfSome o (λ f. n ≡ f.place)
-placed None set l m n h = tt
-placed (Some f) set l m n h = sym h
-
-pub none_placed : (o : Option Fault) (n : ℕ) → o ≡ None → IfSome o (λ f. n ≡ f.place)
-none_placed o n e = subst (λ (p : Option Fault). IfSome p (λ f. n ≡ f.place)) (sym e) tt
-
-pub same_stopped : (d old : DecoderData) (m : Machine) (f : Fault) → d.fault ≡ Some f → d ≡ old → account (record d { machine = m }) ≡ account old
-same_stopped d old m f is same =
-    let no : (is_none d.fault && is_idle m) ≡ (is_none d.fault && is_idle d.machine) = ap (λ (o : Option Fault). is_none o && is_idle m) is
-    ∙ ap (λ (o : Option Fault). is_none o && is_idle d.machine) (sym is) in
-    let told : Bool → Account = λ b. record { is_between = b; fault = d.fault; consumed = d.consumed } in
-    ap told no ∙ ap (λ (e : DecoderData). account e) same
-
 -- Bytes that are too many to be counted, and that are not.
 pub past_count : (a b n : ℕ) → a ≡ b → 18446744073709551615 - a < n → 18446744073709551616 ≤ b + n
 past_count a b n same many = omega (arith, same, many)
-
-pub within_count : {A : Type 0} (a b n : ℕ) → a ≡ b → a ≤ 18446744073709551615 → n ≤ 18446744073709551615 - a → 18446744073709551616 ≤ b + n → A
-within_count a b n same small few many = absurd (omega (arith, same, small, few, many))
-
-pub no_l4 : {S A : Type 0} (takes stops : S → EventData → S → Type 0) (t : Tree) (l : Limits) (from to : Position Dictionary) (w : List ℕ)
-    (s s' : S) (r : Result Unit FaultCode) (c : FaultCode) → r ≡ Err c → Fed takes stops t l from w s r s' to → c ≡ Why.L4 → A
-no_l4 takes stops t l from to w s s' r c is fed e = absurd
-    (subst (λ (k : FaultCode). Fed takes stops t l from w s (Err k) s' to) e
-    (subst (λ (q : Result Unit FaultCode). Fed takes stops t l from w s q s' to) is fed))
 
 -- A machine whose turns are counted anew is ready for what it was.
 pub ready_begun : (o : Option Fault) (set : Set) (l : Limits) (m m' : Machine) (k : ℕ) → o ≡ None → m' ≡ record m { turns = m'.turns }

@@ -1,6 +1,6 @@
 -- A decoder before the first byte.
-use Rattle.std.proofs.Common.{inl, inr, ◌≤◌, refl, sym, ap, ◌∙◌, subst, arith}
-use Rattle.std.specs.Prelude.{◌≡◌, ℕ, ◌<◌, List, [], length, None, Bool, true, false, Result, Ok, Err}
+use Rattle.std.proofs.Common.{refl, sym, ap, ◌∙◌, subst, arith}
+use Rattle.std.specs.Prelude.{◌≡◌, ℕ, ◌<◌, List, [], length, None}
 use Rattle.std.proofs.lemmas.List.Elements.{All-nil}
 use Rattle.fast_wire.specs.meaning.Entities.{HaveNoStop}
 use Rattle.fast_wire.specs.meaning.Maps.{map_limit}
@@ -11,13 +11,11 @@ use Rattle.fast_dict.specs.meaning.Slots.{slots_dictionary}
 use Rattle.fast_machine.specs.declared.machine.Machine.{Machine}
 use Rattle.fast_machine.specs.declared.machine.Waiting.{Waiting}
 use Rattle.fast_cursor.specs.device.Cursors.{CursorData, resting}
-use Rattle.fast_stream.specs.declared.faults.MakeError.{MakeError}
-use Rattle.fast_stream.specs.declared.faults.MakeError.TheVariants as Why
 use Rattle.fast_stream.specs.device.Readers.{Done}
 use Rattle.fast_stream.specs.device.Running.{at_start}
 use Rattle.fast_machine.specs.device.Handing.{waiting_at}
 use Rattle.fast_machine.specs.device.Positions.{Set, meaning, meaning_at, map_reader, CanTake, IsSupplied, IsReady, IsFresh}
-use Rattle.fast_decoder.specs.meaning.Decoding.{DecoderData, AreBadLimits, IsSoundAt, IsPaidAt, IsSound, IsAt, HasRead}
+use Rattle.fast_decoder.specs.meaning.Decoding.{DecoderData, IsSoundAt, IsPaidAt, IsSound, IsAt, HasRead}
 use Rattle.fast_machine.proofs.steps.TurnCounts.{fresh_turns}
 
 none_open : (m : List ℕ) → m ≡ [] → HaveNoStop m
@@ -61,29 +59,3 @@ read_fresh d later supplied f zero none = record {
   read = refl;
   at = subst (λ o. IsAt o d 0 (at_start (fresh d.set.entries))) (sym none) (ap waiting_at (sym (fresh_meaning d.set d.limits d.machine f)), zero);
 }
-
--- What making a decoder can answer is told apart.
-pub bad_is_not_long : {R : Type 0} {A : Type 0} → ◌≡◌ {A = Result R MakeError} (Err Why.BadLimits) (Err Why.InitialTooLong) → A
-bad_is_not_long e = absurd (cc e)
-
-pub long_is_not_bad : {R : Type 0} {A : Type 0} → ◌≡◌ {A = Result R MakeError} (Err Why.InitialTooLong) (Err Why.BadLimits) → A
-long_is_not_bad e = absurd (cc e)
-
-pub memory_is_not_bad : {R : Type 0} {A : Type 0} → ◌≡◌ {A = Result R MakeError} (Err Why.Memory) (Err Why.BadLimits) → A
-memory_is_not_bad e = absurd (cc e)
-
-pub memory_is_not_long : {R : Type 0} {A : Type 0} → ◌≡◌ {A = Result R MakeError} (Err Why.Memory) (Err Why.InitialTooLong) → A
-memory_is_not_long e = absurd (cc e)
-
-pub made_is_no_error : {R : Type 0} {A : Type 0} (d : R) (f : MakeError) → ◌≡◌ {A = Result R MakeError} (Ok d) (Err f) → A
-made_is_no_error d f e = absurd (cc e)
-
-pub yes_and_no : {A : Type 0} (b : Bool) → b ≡ true → b ≡ false → A
-yes_and_no true e f = absurd (cc f)
-yes_and_no false e f = absurd (cc e)
-
-pub good_limits : (l : Limits) → 16 ≤ l.max_text → l.max_text ≤ 1048576 → ¬ (AreBadLimits l)
-good_limits l least most h = elim h [
-  | inl few ↦ omega (arith, least, few)
-  | inr many ↦ omega (arith, most, many)
-]

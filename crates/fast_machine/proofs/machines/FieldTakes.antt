@@ -1,13 +1,12 @@
 -- A machine that takes a field: the next instruction, both parts of a decimal, and the length of a sequence.
 use Rattle.std.proofs.Common.{refl, sym, ap, ◌∙◌, subst, arith}
 use Rattle.std.proofs.lemmas.List.{drop-take}
-use Rattle.std.proofs.lemmas.Bool.Decides.{nat_tests}
-use Rattle.std.specs.Prelude.{◌≡◌, ◌≢◌, ◌==◌, ℕ, ◌-◌, ◌<◌, ◌≤◌, true, false, List, [], ◌∷◌, ◌++◌, length, take, drop, ℤ, Option, Some, Result, Ok, Err}
+use Rattle.std.specs.Prelude.{◌≡◌, ℕ, ◌-◌, ◌<◌, ◌≤◌, List, [], ◌++◌, length, take, drop, ℤ, Option, Some, Result, Ok, Err}
 use Rattle.fast_value.specs.declared.codes.Code.{Code}
 use Rattle.fast_value.specs.declared.kinds.Kind.{Kind}
 use Rattle.fast_value.specs.declared.kinds.Kind.TheVariants.{UInt32, Int32, UInt64, Int64, Decimal, Ascii, Unicode, Bytes}
 use Rattle.fast_value.specs.declared.settings.Limits.{Limits}
-use Rattle.fast_value.specs.meaning.Kinds.{ScalarData, value_of_text}
+use Rattle.fast_value.specs.meaning.Kinds.{ScalarData, AsciiText, UnicodeText, ByteVector, value_of_text}
 use Rattle.fast_value.specs.meaning.Limits.{Bounds, bounds}
 use Rattle.fast_tree.specs.meaning.Tree.{FieldData, Body}
 use Rattle.fast_dict.specs.meaning.Dictionary.{Dictionary}
@@ -51,14 +50,6 @@ use Rattle.fast_machine.proofs.machines.UnitTaken.{taken_to}
 use Rattle.fast_machine.proofs.units.Takes.{taken_fault, taken_stays}
 use Rattle.fast_machine.proofs.steps.FieldTurns.{state_of, behind, mantissa_from, supplied_like, field_next}
 
--- Whether bytes are carried.
-pub not_none : (w : List ℕ) → false ≡ (length w == 0) → w ≢ []
-not_none w some e = let k : false ≡ true = some ∙ ap (λ (x : List ℕ). length x == 0) e in cc k
-
-pub is_none : (w : List ℕ) → true ≡ (length w == 0) → w ≡ []
-is_none [] e = refl
-is_none (b ∷ w) e = let none : length (b ∷ w) ≡ 0 = grind (arith, nat_tests) in absurd (omega (arith, none))
-
 -- the bytes between two places
 pub bytes_between : (a b : ℕ) (w : List ℕ) → a ≤ b → take (b - a) (drop a w) ≡ drop a (take b w)
 bytes_between a b w within = sym (drop-take a (b - a) w) ∙ ap (λ k. drop a (take k w)) (omega (arith, within))
@@ -77,40 +68,33 @@ by_source g blind From.Initial f d scratch piece = refl
 by_source g blind From.Scratch f d scratch piece = refl
 by_source g blind From.Piece f d scratch piece = blind f.kind piece
 
+-- what sees no bytes of a text of any form
+pub by_kind : {X : Type 0} (g : ScalarData → X) → ((w : List ℕ) → g (AsciiText w) ≡ g (AsciiText []))
+    → ((w : List ℕ) → g (UnicodeText w) ≡ g (UnicodeText [])) → ((w : List ℕ) → g (ByteVector w) ≡ g (ByteVector []))
+    → (kind : Kind) (piece : List ℕ) → g (value_of_text kind piece) ≡ g (value_of_text kind [])
+by_kind g ascii unicode bytes UInt32 piece = ascii piece
+by_kind g ascii unicode bytes Int32 piece = ascii piece
+by_kind g ascii unicode bytes UInt64 piece = ascii piece
+by_kind g ascii unicode bytes Int64 piece = ascii piece
+by_kind g ascii unicode bytes Decimal piece = ascii piece
+by_kind g ascii unicode bytes Ascii piece = ascii piece
+by_kind g ascii unicode bytes Unicode piece = unicode piece
+by_kind g ascii unicode bytes Bytes piece = bytes piece
+
 -- what is read behind a field sees only the integer of its value
 abbrev pub SeesInteger : (Found → Grammar Dictionary) → Type 0
 SeesInteger k = (s : State) (kind : Kind) (piece : List ℕ) → k (Some (value_of_text kind piece), s) ≡ k (Some (value_of_text kind []), s)
 
 pub exponent_sees : (l : Bounds) (n : ℕ) (f : FieldData) (k : State → Grammar Dictionary) → SeesInteger (mantissa_after_then l n f k)
-exponent_sees l n f k s UInt32 piece = refl
-exponent_sees l n f k s Int32 piece = refl
-exponent_sees l n f k s UInt64 piece = refl
-exponent_sees l n f k s Int64 piece = refl
-exponent_sees l n f k s Decimal piece = refl
-exponent_sees l n f k s Ascii piece = refl
-exponent_sees l n f k s Unicode piece = refl
-exponent_sees l n f k s Bytes piece = refl
+exponent_sees l n f k s = by_kind (λ v. mantissa_after_then l n f k (Some v, s)) (λ w. refl) (λ w. refl) (λ w. refl)
 
 pub mantissa_sees : (n : ℕ) (x : ℤ) (k : State → Grammar Dictionary) → SeesInteger (λ r. handed_then n k (decimal_with x r.0) r.1)
-mantissa_sees n x k s UInt32 piece = refl
-mantissa_sees n x k s Int32 piece = refl
-mantissa_sees n x k s UInt64 piece = refl
-mantissa_sees n x k s Int64 piece = refl
-mantissa_sees n x k s Decimal piece = refl
-mantissa_sees n x k s Ascii piece = refl
-mantissa_sees n x k s Unicode piece = refl
-mantissa_sees n x k s Bytes piece = refl
+mantissa_sees n x k s = by_kind (λ v. handed_then n k (decimal_with x (Some v)) s) (λ w. refl) (λ w. refl) (λ w. refl)
 
 pub length_sees : (l : Bounds) (n : ℕ) (body : Body) (k : State → Grammar Dictionary)
     → SeesInteger (sequence_from_then l n (segment_then body (body_then l body)) k)
-length_sees l n body k s UInt32 piece = refl
-length_sees l n body k s Int32 piece = refl
-length_sees l n body k s UInt64 piece = refl
-length_sees l n body k s Int64 piece = refl
-length_sees l n body k s Decimal piece = refl
-length_sees l n body k s Ascii piece = refl
-length_sees l n body k s Unicode piece = refl
-length_sees l n body k s Bytes piece = refl
+length_sees l n body k s =
+    by_kind (λ v. sequence_from_then l n (segment_then body (body_then l body)) k (Some v, s)) (λ w. refl) (λ w. refl) (λ w. refl)
 
 -- what is read behind the next instruction, a field
 abbrev pub behind_field : Set → Limits → Machine → FieldData → ℕ → Outcome → Grammar Dictionary

@@ -26,7 +26,7 @@ use Rattle.fast_machine.specs.declared.machine.Turn.TheVariants.{Silent, Handed,
 use Rattle.fast_machine.specs.declared.machine.Waiting.TheVariants.{Map, SegmentMap, Field}
 use Rattle.fast_units.specs.declared.source.ValueSource.{ValueSource}
 use Rattle.fast_stream.specs.meaning.Events.{EventData, GroupStart, GroupEnd, SequenceStart, ElementStart, ElementEnd, MessageEnd}
-use Rattle.fast_stream.specs.device.Readers.{Stop, Reader, Done, Emit}
+use Rattle.fast_stream.specs.device.Readers.{Reader, Done, Emit}
 use Rattle.fast_stream.specs.meaning.Grammar.{Grammar, hand, presence_map, narrow, ◌>>=◌, of_result}
 use Rattle.fast_stream.specs.device.GrammarReaders.{presence_map_reader, reader_of}
 use Rattle.fast_stream.specs.meaning.Messages.{Context, State, field_in, map_bits, within_limits, length_in}
@@ -438,9 +438,6 @@ behind_field f m mid c n counted same later is count = record {
   bits = ap (λ w. bits_behind w mid.cursor.used) (sym (ap (λ (x : Machine). x.cursor.map) same)) ∙ later;
 }
 
-pub counted_still : (m mid : Machine) (c : CursorData) → mid ≡ record m { cursor = c } → mid.counted ≡ m.counted
-counted_still m mid c same = ap (λ (x : Machine). x.counted) same
-
 pub can_turn_behind : (set : Set) (l : Limits) (f : FieldData) (m m' : Machine) (counted : ℕ) → CanTurn set l m → IsBehind f m m' counted
     → counted ≤ l.max_total → CanTurn set l m'
 can_turn_behind set l f m m' counted h behind few =
@@ -483,21 +480,6 @@ length_within set l m m' node (Some x) f body claimed count some within behind =
     ∙ ap (λ b. Emit (SequenceStart node count) (reader_of l.strict (elements_turn (bounds l) fs count (body_in set body) is
     (record { context = record { dictionary = slots_dictionary m.slots; counted = m.counted + count }; bits = b })))) (sym behind.bits)
     ∙ ap (λ (x : Machine). Emit (SequenceStart node count) (elements_of set l x count body)) (sym behind.same)
-
--- A length beyond them ends the message.
-pub length_wrong : (set : Set) (l : Limits) (m : Machine) (node : ℕ) (v : Option ScalarData) (f : FieldData) (body : List ℕ) (claimed : ℤ)
-    (c : Code) → Some claimed ≡ option_map integer_of v
-    → Err c ≡ within_limits (bounds l) m.counted (nat_abs claimed) → length_from set l m node v f body ≡ Stop c
-length_wrong set l m node None f body claimed c some beyond = absurd (cc some)
-length_wrong set l m node (Some x) f body claimed c some beyond =
-    let fs = frames_in set m.cursor.frames in
-    let is = body_in set (drop 1 m.cursor.left) in
-    let s : State = state_past f (slots_dictionary m.slots) m.counted m.cursor in
-    let same : integer_of x ≡ claimed = cc some in
-    let wrong : length_in (bounds l) s.context x ≡ Err c = ap (λ z. within_limits (bounds l) m.counted (nat_abs z)) same ∙ sym beyond in
-    ap (reader_of l.strict) (sequence-same (bounds l) fs node (body_in set body) is (Some x, s))
-    ∙ ap (λ q. reader_of l.strict (of_result q >>= (λ n. hand (SequenceStart node n)
-    (elements_turn (bounds l) fs n (body_in set body) is (counting n s))))) wrong
 
 -- The next instruction is a sequence: what is to be read.
 pub sequence_next : (set : Set) (l : Limits) (m : Machine) (n : ℕ) (f : FieldData) (body : List ℕ) → IsAtSequence set m.cursor n f body

@@ -75,62 +75,43 @@ sequence_turns by_message l w at f body n few h =
 -- The message ends at last.
 some_end : (way : Way) (set : Set) (l : Limits) (fs : List FrameData) → 1 ≤ frames_turns way set l fs
 some_end way set l [] = omega arith
-some_end way set l (f ∷ fs) = one (body_turns way l (body_in set f.after)) (elements_turns way set l f.elements) (frames_turns way set l fs)
-  where
-    one : (x y z : ℕ) → 1 ≤ 1 + x + y + z
-    one x y z = omega arith
+some_end way set l (f ∷ fs) = omega arith
 
 -- From one place to another that leaves fewer turns.
 pub moved : (way : Way) (set : Set) (l : Limits) (k j n t t' counted counted' : ℕ) (c c' : CursorData)
     (h : IsWithinTurns way set l k n t counted c) → t' ≡ t → AreWithin way h.each (body_in set c'.left)
     → AreFramesWithin way set h.each c'.frames
     → turns_left way set l h.each counted' c' + k ≤ turns_left way set l h.each counted c + j → IsWithinTurns way set l j n t' counted' c'
-moved way set l k j n t t' counted counted' c c' h same body frames less = record {
+moved way set l k j n t t' counted counted' c c' h same body frames less = let most = h.most in let all = h.all in record {
   each = h.each;
   body = body;
   frames = frames;
-  most = fewer (turns_left way set l h.each counted' c') (turns_left way set l h.each counted c) k j (most_by way (tree_in set) l) less h.most;
-  all = rw same (all t (turns_left way set l h.each counted' c') (turns_left way set l h.each counted c) k j n less h.all);
+  most = omega (arith, less, most);
+  all = rw same (omega (arith, less, all));
 }
-  where
-    fewer : (y x k j m : ℕ) → y + k ≤ x + j → x ≤ m + k → y ≤ m + j
-    fewer y x k j m e i = omega (arith, e, i)
-
-    all : (t y x k j n : ℕ) → y + k ≤ x + j → t + x ≤ n + k → t + y ≤ n + j
-    all t y x k j n e i = omega (arith, e, i)
 
 -- The same with a turn, for which the place leaves one fewer.
 pub moved_on : (way : Way) (set : Set) (l : Limits) (k j n t t' counted counted' : ℕ) (c c' : CursorData)
     (h : IsWithinTurns way set l k n t counted c) → t' ≡ t + 1 → AreWithin way h.each (body_in set c'.left)
     → AreFramesWithin way set h.each c'.frames
     → turns_left way set l h.each counted' c' + k + 1 ≤ turns_left way set l h.each counted c + j → IsWithinTurns way set l j n t' counted' c'
-moved_on way set l k j n t t' counted counted' c c' h same body frames less = record {
+moved_on way set l k j n t t' counted counted' c c' h same body frames less = let most = h.most in let all = h.all in record {
   each = h.each;
   body = body;
   frames = frames;
-  most = fewer (turns_left way set l h.each counted' c') (turns_left way set l h.each counted c) k j (most_by way (tree_in set) l) less h.most;
-  all = rw same (all t (turns_left way set l h.each counted' c') (turns_left way set l h.each counted c) k j n less h.all);
+  most = omega (arith, less, most);
+  all = rw same (omega (arith, less, all));
 }
-  where
-    fewer : (y x k j m : ℕ) → y + k + 1 ≤ x + j → x ≤ m + k → y ≤ m + j
-    fewer y x k j m e i = omega (arith, e, i)
-
-    all : (t y x k j n : ℕ) → y + k + 1 ≤ x + j → t + x ≤ n + k → t + 1 + y ≤ n + j
-    all t y x k j n e i = omega (arith, e, i)
 
 -- The turns taken are within the number.
 pub turns_taken : (way : Way) (set : Set) (l : Limits) (n t counted : ℕ) (c : CursorData) → IsWithinTurns way set l 1 n t counted c → t ≤ n
-turns_taken way set l n t counted c h = taken t (body_turns way l (body_in set c.left)) (frames_turns way set l c.frames)
-    ((l.max_total - counted) * h.each) n (some_end way set l c.frames) h.all
-  where
-    taken : (t b f e n : ℕ) → 1 ≤ f → t + (b + f + e) ≤ n + 1 → t ≤ n
-    taken t b f e n i j = omega (arith, i, j)
+turns_taken way set l n t counted c h =
+    let some = some_end way set l c.frames in
+    let all : t + (body_turns way l (body_in set c.left) + frames_turns way set l c.frames + (l.max_total - counted) * h.each) ≤ n + 1 = h.all in
+    omega (arith, some, all)
 
 pub none_taken : (way : Way) (set : Set) (l : Limits) (n t counted : ℕ) (c : CursorData) → IsWithinTurns way set l 0 n t counted c → t ≤ n
-none_taken way set l n t counted c h = taken t (turns_left way set l h.each counted c) n h.all
-  where
-    taken : (t x n : ℕ) → t + x ≤ n + 0 → t ≤ n
-    taken t x n j = omega (arith, j)
+none_taken way set l n t counted c h = let all = h.all in omega (arith, all)
 
 -- without instructions
 nothing_left : (way : Way) (set : Set) (l : Limits) → body_turns way l (body_in set []) ≡ 0
@@ -359,35 +340,44 @@ segment_turns way set l n m m' turn (suc width) waits goes h = let (is, same) = 
 some_turn : (way : Way) (l : Limits) (i : Instruction) → 1 ≤ turns_of way l i
 some_turn by_sequence l (field at f) = omega arith
 some_turn by_sequence l (parts at e m) = omega arith
-some_turn by_sequence l (group at b body) = one (body_size turn_weights l body)
-  where
-    one : (x : ℕ) → 1 ≤ 2 + x
-    one x = omega arith
-some_turn by_sequence l (sequence at f body) = one (l.max_elements * (2 + body_size turn_weights l body))
-  where
-    one : (x : ℕ) → 1 ≤ 3 + x
-    one x = omega arith
+some_turn by_sequence l (group at b body) = omega arith
+some_turn by_sequence l (sequence at f body) = omega arith
 some_turn by_message l (field at f) = omega arith
 some_turn by_message l (parts at e m) = omega arith
-some_turn by_message l (group at b body) = one (body_outer turn_weights body)
-  where
-    one : (x : ℕ) → 1 ≤ 2 + x
-    one x = omega arith
+some_turn by_message l (group at b body) = omega arith
 some_turn by_message l (sequence at f body) = omega arith
 
--- a unit more, with a turn that it pays for itself
-pub one_unit : (way : Way) (set : Set) (l : Limits) (k n t t' counted : ℕ) (c : CursorData) → t' ≡ t + 1
-    → IsWithinTurns way set l k n t counted c → IsWithinTurns way set l k (1 + n) t' counted c
-one_unit way set l k n t t' counted c same h = record {
+-- The turns that are left are the same, and those made are others, by what is said of any number left.
+abbrev AreTurned : Way → Set → Limits → (n n' t t' : ℕ) → Type 0
+AreTurned way set l n n' t t' = (x k : ℕ) → x ≤ most_by way (tree_in set) l + k → t + x ≤ n + k → t' + x ≤ n' + k
+
+turned : (way : Way) (set : Set) (l : Limits) (k n n' t t' counted : ℕ) (c : CursorData) → AreTurned way set l n n' t t'
+    → IsWithinTurns way set l k n t counted c → IsWithinTurns way set l k n' t' counted c
+turned way set l k n n' t t' counted c so h = record {
   each = h.each;
   body = h.body;
   frames = h.frames;
   most = h.most;
-  all = rw same (all t (turns_left way set l h.each counted c) n k h.all);
+  all = so (turns_left way set l h.each counted c) k h.most h.all;
 }
-  where
-    all : (t x n k : ℕ) → t + x ≤ n + k → t + 1 + x ≤ 1 + n + k
-    all t x n k i = omega (arith, i)
+
+turned_map : (way : Way) (set : Set) (l : Limits) (n n' t t' : ℕ) (map : List ℕ) → AreTurned way set l n n' t t' → HasTurnsInMap map way set l n t
+    → HasTurnsInMap map way set l n' t'
+turned_map way set l n n' t t' [] so h = let i = so 0 0 (omega arith) (omega (arith, h)) in omega (arith, i)
+turned_map way set l n n' t t' (b ∷ w) so h = let i = so (most_by way (tree_in set) l) 0 (omega arith) (omega (arith, h)) in omega (arith, i)
+
+turned_at : (w : Waiting) (way : Way) (set : Set) (l : Limits) (n n' : ℕ) (m : Machine) (t : Turns) → AreTurned way set l n n' m.turns.count t.count
+    → HasTurnsAt w way set l n m → HasTurnsAt w way set l n' (record m { turns = t })
+turned_at Map way set l n n' m t so h = turned_map way set l n n' m.turns.count t.count m.cursor.map so h
+turned_at Identifier way set l n n' m t so h = turned_map way set l n n' m.turns.count t.count (0 ∷ []) so h
+turned_at (SegmentMap width) way set l n n' m t so h = turned way set l 0 n n' m.turns.count t.count m.counted m.cursor so h
+turned_at Field way set l n n' m t so h = turned way set l 1 n n' m.turns.count t.count m.counted m.cursor so h
+turned_at (Mantissa x) way set l n n' m t so h = turned way set l 1 n n' m.turns.count t.count m.counted m.cursor so h
+
+-- a unit more, with a turn that it pays for itself
+pub one_unit : (way : Way) (set : Set) (l : Limits) (k n t t' counted : ℕ) (c : CursorData) → t' ≡ t + 1
+    → IsWithinTurns way set l k n t counted c → IsWithinTurns way set l k (1 + n) t' counted c
+one_unit way set l k n t t' counted c same h = turned way set l k n (1 + n) t t' counted c (λ x j most all. omega (arith, same, all)) h
 
 -- The next instruction is passed.
 pub passed : (way : Way) (set : Set) (l : Limits) (n t t' counted counted' : ℕ) (c c' : CursorData) (i : Instruction)
@@ -410,18 +400,6 @@ passed way set l n t t' counted counted' c c' i next turns same left frames h =
   where
     fewer : (i b f e : ℕ) → 1 ≤ i → b + f + e + 1 ≤ i + b + f + e + 0
     fewer i b f e h = omega (arith, h)
-
--- Bits of the map are used up.
-pub turns_used : (way : Way) (set : Set) (l : Limits) (n : ℕ) (m m' : Machine) → m' ≡ record m {
-  cursor = record m.cursor { used = m'.cursor.used; ends = m'.cursor.ends };
-} → HasTurns way set l 1 n m → HasTurns way set l 1 n m'
-turns_used way set l n m m' same h = subst (λ (x : Machine). HasTurns way set l 1 n x) (sym same) (record {
-  each = h.each;
-  body = h.body;
-  frames = h.frames;
-  most = h.most;
-  all = h.all;
-})
 
 -- A fault ends a turn that is counted.
 pub fault_turns : (way : Way) (set : Set) (l : Limits) (n : ℕ) (m m' : Machine) (result : Result Turn FaultCode) (code : FaultCode)
@@ -454,34 +432,10 @@ claim_within l before k m e = by (nat_le k l.max_elements) refl (nat_le (before 
     by false f b g = absurd (cc g)
 
 -- Of a machine that counts anew what is left is within the most turns of a message.
-anew : (way : Way) (set : Set) (l : Limits) (k n t t' counted : ℕ) (c : CursorData) → t' ≡ 0 → IsWithinTurns way set l k n t counted c
-    → IsWithinTurns way set l k (most_by way (tree_in set) l) t' counted c
-anew way set l k n t t' counted c none h = record {
-  each = h.each;
-  body = h.body;
-  frames = h.frames;
-  most = h.most;
-  all = rw none (all (turns_left way set l h.each counted c) (most_by way (tree_in set) l + k) h.most);
-}
-  where
-    all : (x y : ℕ) → x ≤ y → 0 + x ≤ y
-    all x y i = omega (arith, i)
-
-anew_map : (way : Way) (set : Set) (l : Limits) (t : ℕ) (map : List ℕ) → t ≡ 0 → HasTurnsInMap map way set l (most_by way (tree_in set) l) t
-anew_map way set l t [] e = omega (arith, e)
-anew_map way set l t (b ∷ w) e = omega (arith, e)
-
-anew_at : (w : Waiting) (way : Way) (set : Set) (l : Limits) (n : ℕ) (m : Machine) (t : Turns) → t.count ≡ 0 → HasTurnsAt w way set l n m
-    → HasTurnsAt w way set l (most_by way (tree_in set) l) (record m { turns = t })
-anew_at Map way set l n m t none h = anew_map way set l t.count m.cursor.map none
-anew_at Identifier way set l n m t none h = omega (arith, none)
-anew_at (SegmentMap width) way set l n m t none h = anew way set l 0 n m.turns.count t.count m.counted m.cursor none h
-anew_at Field way set l n m t none h = anew way set l 1 n m.turns.count t.count m.counted m.cursor none h
-anew_at (Mantissa x) way set l n m t none h = anew way set l 1 n m.turns.count t.count m.counted m.cursor none h
-
 pub counted_anew : (way : Way) (set : Set) (l : Limits) (n : ℕ) (m : Machine) (t : Turns) → t.count ≡ 0 → HasTurnsWaiting way set l n m
     → HasTurnsWaiting way set l (most_by way (tree_in set) l) (record m { turns = t })
-counted_anew way set l n m t none h = anew_at m.waiting way set l n m t none h
+counted_anew way set l n m t none h =
+    turned_at m.waiting way set l n (most_by way (tree_in set) l) m t (λ x k most all. omega (arith, none, most)) h
 
 -- The turns of a machine that waits are within the number.
 taken_map : (way : Way) (set : Set) (l : Limits) (n t : ℕ) (map : List ℕ) → HasTurnsInMap map way set l n t → t ≤ n
@@ -499,86 +453,46 @@ pub waiting_taken : (way : Way) (set : Set) (l : Limits) (n : ℕ) (m : Machine)
 waiting_taken way set l n m h = taken_at m.waiting way set l n m h
 
 -- More turns are allowed.
-more_within : (way : Way) (set : Set) (l : Limits) (k n n' t counted : ℕ) (c : CursorData) → n ≤ n'
-    → IsWithinTurns way set l k n t counted c → IsWithinTurns way set l k n' t counted c
-more_within way set l k n n' t counted c more h = record {
-  each = h.each;
-  body = h.body;
-  frames = h.frames;
-  most = h.most;
-  all = up (t + turns_left way set l h.each counted c) n n' k more h.all;
-}
-  where
-    up : (x n n' k : ℕ) → n ≤ n' → x ≤ n + k → x ≤ n' + k
-    up x n n' k i j = omega (arith, i, j)
-
-more_map : (way : Way) (set : Set) (l : Limits) (n n' t : ℕ) (map : List ℕ) → n ≤ n' → HasTurnsInMap map way set l n t → HasTurnsInMap map way set l n' t
-more_map way set l n n' t [] more h = le_trans h more
-more_map way set l n n' t (b ∷ w) more h = le_trans h more
+more : (way : Way) (set : Set) (l : Limits) (n n' t : ℕ) → n ≤ n' → AreTurned way set l n n' t t
+more way set l n n' t less x k most all = omega (arith, less, all)
 
 more_at : (w : Waiting) (way : Way) (set : Set) (l : Limits) (n n' : ℕ) (m : Machine) → n ≤ n' → HasTurnsAt w way set l n m → HasTurnsAt w way set l n' m
-more_at Map way set l n n' m more h = more_map way set l n n' m.turns.count m.cursor.map more h
-more_at Identifier way set l n n' m more h = le_trans h more
-more_at (SegmentMap width) way set l n n' m more h = more_within way set l 0 n n' m.turns.count m.counted m.cursor more h
-more_at Field way set l n n' m more h = more_within way set l 1 n n' m.turns.count m.counted m.cursor more h
-more_at (Mantissa x) way set l n n' m more h = more_within way set l 1 n n' m.turns.count m.counted m.cursor more h
+more_at w way set l n n' m less h = turned_at w way set l n n' m m.turns (more way set l n n' m.turns.count less) h
 
 -- So they are behind a turn, however it ends.
 pub more_behind : (result : Result Turn FaultCode) (way : Way) (set : Set) (l : Limits) (n n' : ℕ) (m : Machine) → n ≤ n'
     → HasTurnsBehind result way set l n m → HasTurnsBehind result way set l n' m
-more_behind (Ok Silent) way set l n n' m more h = more_within way set l 0 n n' m.turns.count m.counted m.cursor more h
-more_behind (Ok Handed) way set l n n' m more h = more_within way set l 0 n n' m.turns.count m.counted m.cursor more h
-more_behind (Ok Waits) way set l n n' m more h = more_at m.waiting way set l n n' m more h
-more_behind (Err c) way set l n n' m more h = le_trans h more
+more_behind (Ok Silent) way set l n n' m less h = more_at (SegmentMap 0) way set l n n' m less h
+more_behind (Ok Handed) way set l n n' m less h = more_at (SegmentMap 0) way set l n n' m less h
+more_behind (Ok Waits) way set l n n' m less h = more_at m.waiting way set l n n' m less h
+more_behind (Err c) way set l n n' m less h = le_trans h less
 
 -- Of an instruction that is next a turn may be taken already.
 pub one_taken : (way : Way) (set : Set) (l : Limits) (n t counted : ℕ) (c : CursorData) → IsWithinTurns way set l 0 n t counted c
     → IsWithinTurns way set l 1 n t counted c
-one_taken way set l n t counted c h = record {
+one_taken way set l n t counted c h = let most = h.most in let all = h.all in record {
   each = h.each;
   body = h.body;
   frames = h.frames;
-  most = le_trans h.most (up (most_by way (tree_in set) l));
-  all = le_trans h.all (up n);
+  most = omega (arith, most);
+  all = omega (arith, all);
 }
-  where
-    up : (x : ℕ) → x + 0 ≤ x + 1
-    up x = omega arith
 
 -- The same where it is counted.
 pub one_turn : (way : Way) (set : Set) (l : Limits) (n t t' counted : ℕ) (c : CursorData) → t' ≡ t + 1
     → IsWithinTurns way set l 0 n t counted c → IsWithinTurns way set l 1 n t' counted c
-one_turn way set l n t t' counted c same h = record {
+one_turn way set l n t t' counted c same h = let most = h.most in let all = h.all in record {
   each = h.each;
   body = h.body;
   frames = h.frames;
-  most = le_trans h.most (up (most_by way (tree_in set) l));
-  all = rw same (one t (turns_left way set l h.each counted c) n h.all);
+  most = omega (arith, most);
+  all = omega (arith, same, all);
 }
-  where
-    up : (x : ℕ) → x + 0 ≤ x + 1
-    up x = omega arith
-
-    one : (t x n : ℕ) → t + x ≤ n + 0 → t + 1 + x ≤ n + 1
-    one t x n i = omega (arith, i)
 
 -- A unit more, with a turn that it pays for itself.
-paid_map : (way : Way) (set : Set) (l : Limits) (n t t' : ℕ) (map : List ℕ) → t' ≡ t + 1 → HasTurnsInMap map way set l n t
-    → HasTurnsInMap map way set l (1 + n) t'
-paid_map way set l n t t' [] e h = omega (arith, e, h)
-paid_map way set l n t t' (b ∷ w) e h = omega (arith, e, h)
-
-paid_at : (w : Waiting) (way : Way) (set : Set) (l : Limits) (n : ℕ) (m : Machine) (t : Turns) → t.count ≡ m.turns.count + 1
-    → HasTurnsAt w way set l n m → HasTurnsAt w way set l (1 + n) (record m { turns = t })
-paid_at Map way set l n m t e h = paid_map way set l n m.turns.count t.count m.cursor.map e h
-paid_at Identifier way set l n m t e h = omega (arith, e, h)
-paid_at (SegmentMap width) way set l n m t e h = one_unit way set l 0 n m.turns.count t.count m.counted m.cursor e h
-paid_at Field way set l n m t e h = one_unit way set l 1 n m.turns.count t.count m.counted m.cursor e h
-paid_at (Mantissa x) way set l n m t e h = one_unit way set l 1 n m.turns.count t.count m.counted m.cursor e h
-
 pub unit_paid : (way : Way) (set : Set) (l : Limits) (n : ℕ) (m : Machine) (t : Turns) → t.count ≡ m.turns.count + 1
     → HasTurnsWaiting way set l n m → HasTurnsWaiting way set l (1 + n) (record m { turns = t })
-unit_paid way set l n m t e h = paid_at m.waiting way set l n m t e h
+unit_paid way set l n m t e h = turned_at m.waiting way set l n (1 + n) m t (λ x k most all. omega (arith, e, all)) h
 
 -- So many bytes of a call were taken. With the first of them a message goes on, or one begins.
 abbrev pub IsSpent : Way → Set → Limits → ℕ → Machine → Type 0
@@ -617,14 +531,8 @@ unit_covers way set l n bytes m some =
 first_map : (way : Way) (set : Set) (l : Limits) (t : ℕ) (map : List ℕ) → t ≡ 0
     → (n : ℕ) × HasTurnsInMap map way set l n t × (n + turns_begun map way
     (tree_in set) l ≤ 0 * (1 + most_by way (tree_in set) l) + most_by way (tree_in set) l)
-first_map way set l t [] e = (0, omega (arith, e), none (most_by way (tree_in set) l))
-  where
-    none : (m : ℕ) → 0 + m ≤ 0 * (1 + m) + m
-    none m = omega arith
-first_map way set l t (b ∷ w) e = (most_by way (tree_in set) l, omega (arith, e), all (most_by way (tree_in set) l))
-  where
-    all : (m : ℕ) → m + 0 ≤ 0 * (1 + m) + m
-    all m = omega arith
+first_map way set l t [] e = (0, omega (arith, e), omega arith)
+first_map way set l t (b ∷ w) e = (most_by way (tree_in set) l, omega (arith, e), omega arith)
 
 first_at : (w : Waiting) (way : Way) (set : Set) (l : Limits) (m : Machine) → m.turns.count ≡ 0 → HasTurnsAt w way set l (most_by way (tree_in set) l) m
     → (n : ℕ) × HasTurnsAt w way set l n m × (n + turns_begun_at w m.cursor.map way
@@ -637,15 +545,11 @@ first_at (Mantissa x) way set l m e h = (most_by way (tree_in set) l, h, omega a
 
 can_spend : (way : Way) (set : Set) (l : Limits) (k : ℕ) (m : Machine) → IsSpent way set l k m → CanSpend way set l k m
 can_spend way set l zero m h = let (n, has, within) = first_at m.waiting way set l m h.0 h.1 in record { upto = n; has = has; within = within }
-can_spend way set l (suc k) m h = record {
+can_spend way set l (suc k) m h = let begun = begun_within way (tree_in set) l m.waiting m.cursor.map in record {
   upto = suc k * (1 + most_by way (tree_in set) l);
   has = h;
-  within = up (suc k * (1 + most_by way (tree_in set) l)) (turns_begun_at m.waiting m.cursor.map way (tree_in set) l)
-      (most_by way (tree_in set) l) (begun_within way (tree_in set) l m.waiting m.cursor.map);
+  within = omega (arith, begun);
 }
-  where
-    up : (x b m : ℕ) → b ≤ m → x + b ≤ x + m
-    up x b m i = omega (arith, i)
 
 -- A unit pays for its own turn, and for those of the message that it begins, and units behind it pay for theirs.
 some_pay : (k n more x b m : ℕ) → more < n → x + b ≤ k * (1 + m) + m → 1 + x + b + more * (1 + m) ≤ (k + n) * (1 + m)

@@ -27,22 +27,26 @@ use Rattle.fast_machine.proofs.machines.UnitTaken.{can_turn_on, has_turns_on}
 use Rattle.std.proofs.Math.Nat.{add-mul}
 use Rattle.fast_machine.proofs.streams.Feeding.{by_list, fed_both}
 
--- The turns that are left behind a turn at whose end the machine waits, or stands at an end.
-pub after_end : (set : Set) (l : Limits) (m : Machine) (turn : Result Turn FaultCode) (o : Result Unit FaultCode) (way : Way) (n : ℕ)
+-- What holds of a turn at whose end the machine waits, or stands at an end, is told of how it ended.
+told_end : (P : Result Turn FaultCode → Type 0) (Q : Result Unit FaultCode → Type 0) (turn : Result Turn FaultCode) (o : Result Unit FaultCode)
+    → ((t : Turn) → turn ≡ Ok t → t ≡ TurnWaits) → ((t : Turn) → turn ≡ Ok t → o ≡ Ok tt) → ((c : FaultCode) → turn ≡ Err c → o ≡ Err c)
+    → (P (Ok TurnWaits) → Q (Ok tt)) → ((c : FaultCode) → P (Err c) → Q (Err c)) → P turn → Q o
+told_end P Q (Ok Silent) o ends ok err waits fault h = let never : Silent ≡ TurnWaits = ends Silent refl in absurd (cc never)
+told_end P Q (Ok Handed) o ends ok err waits fault h = let never : Handed ≡ TurnWaits = ends Handed refl in absurd (cc never)
+told_end P Q (Ok TurnWaits) o ends ok err waits fault h = rw (ok TurnWaits refl) (waits h)
+told_end P Q (Err c) o ends ok err waits fault h = rw (err c refl) (fault c h)
+
+-- The turns that are left behind such a turn.
+after_end : (set : Set) (l : Limits) (m : Machine) (turn : Result Turn FaultCode) (o : Result Unit FaultCode) (way : Way) (n : ℕ)
     → ((t : Turn) → turn ≡ Ok t → t ≡ TurnWaits)
     → ((t : Turn) → turn ≡ Ok t → o ≡ Ok tt) → ((c : FaultCode) → turn ≡ Err c → o ≡ Err c) → HasTurnsBehind turn way set l n m → HasTurnsAfter o way set l n m
-after_end set l m (Ok Silent) o way n ends ok err h = let never : Silent ≡ TurnWaits = ends Silent refl in absurd (cc never)
-after_end set l m (Ok Handed) o way n ends ok err h = let never : Handed ≡ TurnWaits = ends Handed refl in absurd (cc never)
-after_end set l m (Ok TurnWaits) o way n ends ok err h = rw (ok TurnWaits refl) h
-after_end set l m (Err c) o way n ends ok err h = rw (err c refl) h
+after_end set l m turn o way n ends ok err h =
+    told_end (λ t. HasTurnsBehind t way set l n m) (λ q. HasTurnsAfter q way set l n m) turn o ends ok err (λ k. k) (λ c k. k) h
 
 -- A machine that waits is ready.
 pub ready_end : (set : Set) (l : Limits) (m : Machine) (turn : Result Turn FaultCode) (o : Result Unit FaultCode) → ((t : Turn) → turn ≡ Ok t → t ≡ TurnWaits)
     → ((t : Turn) → turn ≡ Ok t → o ≡ Ok tt) → ((c : FaultCode) → turn ≡ Err c → o ≡ Err c) → GoesOn set l m turn → OnOk o (IsReady set l m)
-ready_end set l m (Ok Silent) o ends ok err h = let never : Silent ≡ TurnWaits = ends Silent refl in absurd (cc never)
-ready_end set l m (Ok Handed) o ends ok err h = let never : Handed ≡ TurnWaits = ends Handed refl in absurd (cc never)
-ready_end set l m (Ok TurnWaits) o ends ok err h = rw (ok TurnWaits refl) h
-ready_end set l m (Err c) o ends ok err h = rw (err c refl) tt
+ready_end set l m turn o ends ok err h = told_end (GoesOn set l m) (λ q. OnOk q (IsReady set l m)) turn o ends ok err (λ k. k) (λ c k. tt) h
 
 module _ {S : Type 0} (takes stops : S → EventData → S → Type 0) (set : Set) (l : Limits) where
   -- What is due is handed over, and no byte is taken.
@@ -358,7 +362,10 @@ module _ {S : Type 0} (takes stops : S → EventData → S → Type 0) (set : Se
   unit_and_steps m b rest s mid n turn q o s' m' on taken step ends ok err =
       subst (λ (w : List ℕ). Fed takes stops (tree_in set) l (waiting_at (meaning set l m)) w s o s' (waiting_at (meaning set l m')))
       (ap (λ w. take n rest ++ take q.bytes w) (take_rest rest n) ∙ sym (take-add n q.bytes rest))
-      (by q.turn ends ok err step.runs)
+      (told_end (λ r. Runs takes stops set l b mid (take q.bytes rest1) r s' m')
+      (λ r. Fed takes stops (tree_in set) l (waiting_at (meaning set l m)) (take n rest ++ take q.bytes rest1) s r s' (waiting_at (meaning set l m')))
+      q.turn o ends ok err (λ runs. runs (meaning set l m) (take n rest) s size taken.quiet onward)
+      (λ c runs. runs (meaning set l m') (meaning set l m) (take n rest) s size taken.quiet onward) step.runs)
     where
       rest1 : List ℕ
       rest1 = take (length rest - n) (drop n rest)
@@ -372,29 +379,16 @@ module _ {S : Type 0} (takes stops : S → EventData → S → Type 0) (set : Se
       onward : Onward takes stops gone s (turning set l b) mid
       onward = turn_onward gone (turning set l b) (meaning set l b) s turn mid on taken.turn.moves
 
-      by : (result : Result Turn FaultCode) → ((t : Turn) → result ≡ Ok t → t ≡ TurnWaits) → ((t : Turn) → result ≡ Ok t → o ≡ Ok tt)
-          → ((c : FaultCode) → result ≡ Err c → o ≡ Err c)
-          → Runs takes stops set l b mid (take q.bytes rest1) result s' m'
-          → Fed takes stops (tree_in set) l (waiting_at (meaning set l m)) (take n rest ++ take q.bytes rest1) s o s'
-          (waiting_at (meaning set l m'))
-      by (Ok Silent) ends ok err runs = let never : Silent ≡ TurnWaits = ends Silent refl in absurd (cc never)
-      by (Ok Handed) ends ok err runs = let never : Handed ≡ TurnWaits = ends Handed refl in absurd (cc never)
-      by (Ok TurnWaits) ends ok err runs =
-          subst (λ (x : Result Unit FaultCode). Fed takes stops (tree_in set) l (waiting_at (meaning set l m))
-          (take n rest ++ take q.bytes rest1) s x s' (waiting_at (meaning set l m'))) (sym (ok TurnWaits refl))
-          (runs (meaning set l m) (take n rest) s size taken.quiet onward)
-      by (Err c) ends ok err runs =
-          subst (λ (x : Result Unit FaultCode). Fed takes stops (tree_in set) l (waiting_at (meaning set l m))
-          (take n rest ++ take q.bytes rest1) s x s' (waiting_at (meaning set l m'))) (sym (err c refl))
-          (runs (meaning set l m') (meaning set l m) (take n rest) s size taken.quiet onward)
-
   -- A unit alone: what was fed.
   pub unit_alone : (m : Machine) (rest : List ℕ) (s : S) (n : ℕ) (turn : Result Turn FaultCode) (o : Result Unit FaultCode) (s' : S)
       (m' : Machine) → ((t : Turn) → turn ≡ Ok t → t ≡ TurnWaits)
       → ((t : Turn) → turn ≡ Ok t → o ≡ Ok tt) → ((c : FaultCode) → turn ≡ Err c → o ≡ Err c)
       → IsTakenTo takes stops set l (meaning set l m) rest s n turn s' m'
       → Fed takes stops (tree_in set) l (waiting_at (meaning set l m)) (take n rest) s o s' (waiting_at (meaning set l m'))
-  unit_alone m rest s n turn o s' m' ends ok err taken = by turn ends ok err taken.turn.moves
+  unit_alone m rest s n turn o s' m' ends ok err taken =
+      told_end (λ r. Moves takes stops gone s r s' (turning set l m') (meaning set l m'))
+      (λ r. Fed takes stops (tree_in set) l (waiting_at (meaning set l m)) (take n rest) s r s' (waiting_at (meaning set l m')))
+      turn o ends ok err (fed (Ok tt) (meaning set l m')) (λ c moves. fed (Err c) (meaning set l m') (moves (meaning set l m'))) taken.turn.moves
     where
       size : 0 < length (take n rest)
       size = let len = length-take-le n rest taken.within in let some = taken.some in omega (arith, len, some)
@@ -405,15 +399,6 @@ module _ {S : Type 0} (takes stops : S → EventData → S → Type 0) (set : Se
       fed : (x : Result Unit FaultCode) (to : Reader Dictionary) → Hands takes stops gone s x s' to
           → Fed takes stops (tree_in set) l (waiting_at (meaning set l m)) (take n rest) s x s' (waiting_at to)
       fed x to h = by_list (tree_in set) l takes stops (meaning set l m) (take n rest) s x s' to size taken.quiet h
-
-      by : (result : Result Turn FaultCode) → ((t : Turn) → result ≡ Ok t → t ≡ TurnWaits) → ((t : Turn) → result ≡ Ok t → o ≡ Ok tt)
-          → ((c : FaultCode) → result ≡ Err c → o ≡ Err c)
-          → Moves takes stops gone s result s' (turning set l m') (meaning set l m')
-          → Fed takes stops (tree_in set) l (waiting_at (meaning set l m)) (take n rest) s o s' (waiting_at (meaning set l m'))
-      by (Ok Silent) ends ok err moves = let never : Silent ≡ TurnWaits = ends Silent refl in absurd (cc never)
-      by (Ok Handed) ends ok err moves = let never : Handed ≡ TurnWaits = ends Handed refl in absurd (cc never)
-      by (Ok TurnWaits) ends ok err moves = rw (ok TurnWaits refl) (fed (Ok tt) (meaning set l m') moves)
-      by (Err c) ends ok err moves = rw (err c refl) (fed (Err c) (meaning set l m') (moves (meaning set l m')))
 
 -- The turns of a unit and of steps behind it.
 pub counted_both : (set : Set) (l : Limits) (m b m' : Machine) (n : ℕ) (turn : Turn) (q : UnitTaken) (o : Result Unit FaultCode)

@@ -7,7 +7,7 @@ use Rattle.fast_dict.specs.meaning.Dictionary.{previous_at}
 use Rattle.fast_dict.specs.meaning.Slots.{slots_dictionary}
 use Rattle.fast_stream.specs.device.Continuations.{mantissa_after_then}
 use Rattle.fast_machine.specs.device.Positions.{set_of, turning}
-use Rattle.fast_machine.proofs.steps.FieldTurns.{serves_here, serves_known, can_turn_slots, state_of, behind, parts_next, sent_here}
+use Rattle.fast_machine.proofs.steps.FieldTurns.{serves_here, can_turn_slots, state_of, behind, parts_next, sent_here}
 use Rattle.fast_machine.proofs.steps.FieldTurns.{field_known, field_wrong, exponent_waits, turn_fault, turn_as}
 use Rattle.fast_machine.proofs.machine.Machine.begin_decimal.Goals as goal
 
@@ -27,18 +27,6 @@ unsent-requires g c = record {
   serves = serves_here (set_of c.args.templates.now) c.args.limits c.args.self.now
       (field_data c.args.exponent.now) c.requires.turn.supplied c.requires.exponent;
 }
-
-pub exponent_known-requires-clause-turn : goal.exponent_known-requires-clause-turn
-exponent_known-requires-clause-turn g c = can_turn_slots
-    (set_of c.args.templates.now) c.args.limits c.args.self.now c.unsent.new.slots c.requires.turn c.unsent.ensures.terms
-
-pub exponent_known-requires-clause-exponent : goal.exponent_known-requires-clause-exponent
-exponent_known-requires-clause-exponent g c = serves_known (set_of c.args.templates.now) c.args.self.now c.unsent.new.slots
-    (field_data c.args.exponent.now) c.unsent.ensures.terms c.requires.exponent
-
-pub exponent_known-requires-clause-mantissa : goal.exponent_known-requires-clause-mantissa
-exponent_known-requires-clause-mantissa g c = serves_known (set_of c.args.templates.now) c.args.self.now c.unsent.new.slots
-    (field_data c.args.mantissa.now) c.unsent.ensures.terms c.requires.mantissa
 
 pub returns-in-Err-clause-turn : goal.returns-in-Err-clause-turn
 returns-in-Err-clause-turn g c =

@@ -1,9 +1,9 @@
 -- The next element's event, and the cursor in it, or the end of the sequence.
-use Rattle.std.proofs.Common.{◌<◌, ◌-◌, ◌∙◌, ap, sym, subst, refl, Some, List, rules}
+use Rattle.std.proofs.Common.{◌<◌, ◌-◌, ◌∙◌, ap, Some, List, rules}
 use Rattle.fast_value.specs.meaning.Limits.{bounds}
 use Rattle.fast_dict.specs.meaning.Slots.{slots_dictionary}
 use Rattle.fast_program.specs.declared.ops.Op.{Op}
-use Rattle.fast_cursor.specs.device.Runs.{run_at, IsRun}
+use Rattle.fast_cursor.specs.device.Runs.{run_at}
 use Rattle.fast_cursor.specs.device.Cursors.{entered}
 use Rattle.fast_stream.specs.meaning.Events.{ElementStart}
 use Rattle.fast_stream.specs.device.GrammarReaders.{reader_of}
@@ -11,9 +11,8 @@ use Rattle.fast_machine.specs.declared.machine.Machine.{Machine}
 use Rattle.fast_machine.specs.device.Opening.{opened_turn, awaiting}
 use Rattle.fast_machine.specs.device.Positions.{set_of, run_in, body_in, frames_in, state_in}
 use Rattle.fast_machine.proofs.steps.Recounted.{can_turn-turns}
-use Rattle.fast_machine.proofs.steps.Opened.{opened_waits, opened_goes, awaiting_turns}
+use Rattle.fast_machine.proofs.steps.Opened.{opened_waits, opened_goes}
 use Rattle.fast_machine.proofs.steps.SegmentTurns.{element_turn, turn_in}
-use Rattle.fast_machine.proofs.steps.TurnCounts.{element_opened}
 use Rattle.fast_machine.proofs.machine.Machine.begin_element.Goals as goal
 
 pub returns-clause-turn : goal.returns-clause-turn
@@ -41,20 +40,3 @@ returns-clause-turn g c =
     (body_in set (run_in (set_of c.args.templates.now) c.args.start)) (body_in set m.cursor.left)
     (state_in (slots_dictionary m.slots) m.counted m.cursor) some))
     c.in_ok-hand-2.ensures
-
-pub returns-clause-turns : goal.returns-clause-turns
-returns-clause-turns g c way n h =
-    let m = c.args.self.now in
-    let set = set_of c.args.templates.now in
-    let some : 0 < c.args.count = search rules in
-    awaiting_turns way set c.args.limits n (record m { cursor = c.open_element.new.self; turns = c.after-self.result }) c.args.width
-    (element_opened way set c.args.limits n m.turns.count c.after-self.result.count m.counted m.counted m.cursor c.open_element.new.self
-    (run_in (set_of c.args.templates.now) c.args.start) c.args.count c.args.width some c.after-self.ensures refl
-    (c.open_element.ensures ∙ ap (λ (ops : List Op). entered m.cursor (Some (record {
-      more = c.args.count - 1;
-      body = run_at ops c.args.start;
-      width = c.args.width;
-    })) (run_at ops c.args.start)) c.requires.turn.supplied.program) h)
-
-pub open_element-requires-clause-run : goal.open_element-requires-clause-run
-open_element-requires-clause-run g c = subst (λ (ops : List Op). IsRun ops c.args.start) (sym c.requires.turn.supplied.program) c.requires.run

@@ -1,19 +1,18 @@
 -- The end of a group, or of an element and what comes behind it.
-use Rattle.std.proofs.Common.{ap, subst, List, option_map}
+use Rattle.std.proofs.Common.{ap, length, option_map, Some}
 use Rattle.std.proofs.lemmas.Result.{err_from_is_err_and}
 use Rattle.fast_value.specs.meaning.Limits.{bounds}
 use Rattle.fast_dict.specs.meaning.Slots.{slots_dictionary}
 use Rattle.fast_stream.specs.meaning.Events.{GroupEnd, ElementEnd}
 use Rattle.fast_stream.specs.device.GrammarReaders.{reader_of}
-use Rattle.fast_program.specs.declared.ops.Op.{Op}
-use Rattle.fast_cursor.specs.device.Runs.{IsRun}
-use Rattle.fast_cursor.specs.device.Segments.{elements_data, IsRunOf}
+use Rattle.fast_cursor.specs.device.Segments.{elements_data}
 use Rattle.fast_machine.specs.device.Opening.{opened_result, opened_by}
 use Rattle.fast_machine.specs.device.Passing.{elements_from}
-use Rattle.fast_machine.specs.device.Positions.{placed, set_of, turning}
+use Rattle.fast_machine.specs.device.Positions.{placed, set_of, turning, AreElementsFit}
 use Rattle.fast_machine.proofs.steps.Opened.{opened_not_silent}
-use Rattle.fast_machine.proofs.steps.SegmentTurns.{closed, closed_in, turn_halt, turn_one, turn_more}
+use Rattle.fast_machine.proofs.steps.SegmentTurns.{IsClosed, closed, closed_in, turn_halt, turn_one, turn_more}
 use Rattle.fast_machine.proofs.steps.TurnCounts.{group_left, element_left, turns_taken}
+use Rattle.fast_machine.proofs.machine.Machine.close_segment.Given.{Over}
 use Rattle.fast_machine.proofs.machine.Machine.close_segment.Goals as goal
 
 pub returns-in_err-hand-in-None-clause-turn : goal.returns-in_err-hand-in-None-clause-turn
@@ -43,39 +42,31 @@ returns-in_err-hand-in-Some-clause-turn g c =
     ElementEnd c.args.sink.now c.in_err-hand-in-Some.field-0.0 c.hand-in-Some.new.sink (record m { cursor = c.close.new.self })
     (h.element e (ap (option_map (elements_data (set_of c.args.templates.now).program)) c.in-Some.is)) c.in_err-hand-in-Some.ensures h.can.supplied)
 
-pub begin_element-requires-clause-turn : goal.begin_element-requires-clause-turn
-begin_element-requires-clause-turn g c =
+-- Behind an element the next one of its sequence fits.
+behind : (g : Over) (c : goal.After-begin_element-arg-in-Some-1 g) → IsClosed (set_of c.args.templates.now) c.args.limits (placed c.args.self.now c.args.place)
+    c.close.new.self (option_map (elements_data (set_of c.args.templates.now).program) c.close.result)
+behind g c =
     let m = placed c.args.self.now c.args.place in
-    (closed (set_of c.args.templates.now) c.args.limits m c.close.new.self
+    closed (set_of c.args.templates.now) c.args.limits m c.close.new.self
     (option_map (elements_data (set_of c.args.templates.now).program) c.close.result) c.requires.turn c.requires.end c.requires.inner
-    (closed_in (set_of c.args.templates.now) c.args.limits m c.close.new.self c.close.result c.requires.turn.supplied c.close.ensures.left)).can
+    (closed_in (set_of c.args.templates.now) c.args.limits m c.close.new.self c.close.result c.requires.turn.supplied c.close.ensures.left)
+
+fits : (g : Over) (c : goal.After-begin_element-arg-in-Some-1 g) → AreElementsFit (set_of c.args.templates.now) c.close.new.self.depth
+    (length c.close.new.self.frames) (Some (elements_data (set_of c.args.templates.now).program c.in-Some.elements))
+fits g c = (behind g c).elements_fit (elements_data (set_of c.args.templates.now).program c.in-Some.elements)
+    (ap (option_map (elements_data (set_of c.args.templates.now).program)) c.in-Some.is)
+
+pub begin_element-requires-clause-turn : goal.begin_element-requires-clause-turn
+begin_element-requires-clause-turn g c = (behind g c).can
 
 pub begin_element-requires-clause-below : goal.begin_element-requires-clause-below
-begin_element-requires-clause-below g c =
-    let m = placed c.args.self.now c.args.place in
-    let h = closed (set_of c.args.templates.now) c.args.limits m c.close.new.self
-    (option_map (elements_data (set_of c.args.templates.now).program) c.close.result) c.requires.turn c.requires.end c.requires.inner
-    (closed_in (set_of c.args.templates.now) c.args.limits m c.close.new.self c.close.result c.requires.turn.supplied c.close.ensures.left) in
-    (h.elements_fit (elements_data (set_of c.args.templates.now).program c.in-Some.elements)
-    (ap (option_map (elements_data (set_of c.args.templates.now).program)) c.in-Some.is)).0
+begin_element-requires-clause-below g c = (fits g c).0
 
 pub begin_element-requires-clause-nested : goal.begin_element-requires-clause-nested
-begin_element-requires-clause-nested g c =
-    let m = placed c.args.self.now c.args.place in
-    let h = closed (set_of c.args.templates.now) c.args.limits m c.close.new.self
-    (option_map (elements_data (set_of c.args.templates.now).program) c.close.result) c.requires.turn c.requires.end c.requires.inner
-    (closed_in (set_of c.args.templates.now) c.args.limits m c.close.new.self c.close.result c.requires.turn.supplied c.close.ensures.left) in
-    (h.elements_fit (elements_data (set_of c.args.templates.now).program c.in-Some.elements)
-    (ap (option_map (elements_data (set_of c.args.templates.now).program)) c.in-Some.is)).1
+begin_element-requires-clause-nested g c = (fits g c).1
 
 pub begin_element-requires-clause-width : goal.begin_element-requires-clause-width
-begin_element-requires-clause-width g c =
-    let m = placed c.args.self.now c.args.place in
-    let h = closed (set_of c.args.templates.now) c.args.limits m c.close.new.self
-    (option_map (elements_data (set_of c.args.templates.now).program) c.close.result) c.requires.turn c.requires.end c.requires.inner
-    (closed_in (set_of c.args.templates.now) c.args.limits m c.close.new.self c.close.result c.requires.turn.supplied c.close.ensures.left) in
-    (h.elements_fit (elements_data (set_of c.args.templates.now).program c.in-Some.elements)
-    (ap (option_map (elements_data (set_of c.args.templates.now).program)) c.in-Some.is)).2
+begin_element-requires-clause-width g c = (fits g c).2
 
 pub returns-in_ok-hand-in-None-clause-turn : goal.returns-in_ok-hand-in-None-clause-turn
 returns-in_ok-hand-in-None-clause-turn g c =
@@ -132,8 +123,3 @@ returns-in_ok-hand-in-Some-clause-turns g c way n h =
     (elements_data (set_of c.args.templates.now).program c.in-Some.elements) c.requires.end c.requires.inner
     (closed_in (set_of c.args.templates.now) c.args.limits m c.close.new.self c.close.result c.requires.turn.supplied c.close.ensures.left)
     (ap (option_map (elements_data (set_of c.args.templates.now).program)) c.in-Some.is) h)
-
-pub begin_element-requires-clause-run : goal.begin_element-requires-clause-run
-begin_element-requires-clause-run g c =
-    subst (λ (ops : List Op). IsRun ops c.in-Some.elements.start) c.requires.turn.supplied.program
-    (subst (IsRunOf c.args.self.now.cursor.ops) c.in-Some.is c.close.ensures.run)

@@ -1,10 +1,10 @@
 -- The group's event, and the cursor in the group.
-use Rattle.std.proofs.Common.{refl, sym, ap, subst, ◌∙◌}
+use Rattle.std.proofs.Common.{refl, ap, ◌∙◌}
 use Rattle.std.specs.Prelude.{List, drop, None}
 use Rattle.fast_value.specs.meaning.Limits.{bounds}
 use Rattle.fast_dict.specs.meaning.Slots.{slots_dictionary}
 use Rattle.fast_program.specs.declared.ops.Op.{Op}
-use Rattle.fast_cursor.specs.device.Runs.{run_at, IsRun}
+use Rattle.fast_cursor.specs.device.Runs.{run_at}
 use Rattle.fast_cursor.specs.device.Cursors.{CursorData, entered}
 use Rattle.fast_stream.specs.device.GrammarReaders.{reader_of}
 use Rattle.fast_stream.specs.meaning.Events.{GroupStart}
@@ -13,7 +13,7 @@ use Rattle.fast_machine.specs.device.Opening.{opened_turn, awaiting}
 use Rattle.fast_machine.specs.device.Passing.{group_from}
 use Rattle.fast_machine.specs.device.Positions.{set_of, run_in}
 use Rattle.fast_machine.proofs.steps.FieldTurns.{can_turn_past}
-use Rattle.fast_machine.proofs.steps.Opened.{opened_waits, opened_goes, awaiting_turns, group_opened}
+use Rattle.fast_machine.proofs.steps.Opened.{opened_waits, opened_goes}
 use Rattle.fast_machine.proofs.steps.SegmentTurns.{like_at, turn_in, width_from}
 use Rattle.fast_machine.proofs.machine.Machine.enter_group.Goals as goal
 
@@ -38,18 +38,3 @@ returns-clause-turn g c =
     (ap (λ (x : CursorData). x.ops) c.advance.ensures ∙ c.requires.turn.supplied.program)
     ∙ ap (λ x. entered x None (run_in (set_of c.args.templates.now) c.args.start)) c.advance.ensures)
     can width c.requires.below c.requires.nested tt refl c.in_ok-hand.ensures
-
-pub returns-clause-turns : goal.returns-clause-turns
-returns-clause-turns g c way n optional (at, number, some, next) h =
-    let m = c.args.self.now in
-    let set = set_of c.args.templates.now in
-    awaiting_turns way set c.args.limits n (record m { cursor = c.open_group.new.self }) c.segment_bits-width.result
-    (group_opened way set c.args.limits n m.turns.count m.counted m.cursor c.open_group.new.self at optional
-    (run_in (set_of c.args.templates.now) c.args.start) next (c.open_group.ensures
-    ∙ ap (λ (ops : List Op). entered c.advance.new.self None (run_at ops c.args.start))
-    (ap (λ (x : CursorData). x.ops) c.advance.ensures ∙ c.requires.turn.supplied.program)
-    ∙ ap (λ x. entered x None (run_in (set_of c.args.templates.now) c.args.start)) c.advance.ensures) h)
-
-pub open_group-requires-clause-run : goal.open_group-requires-clause-run
-open_group-requires-clause-run g c =
-    subst (λ (ops : List Op). IsRun ops c.args.start) (sym (ap (λ (x : CursorData). x.ops) c.advance.ensures ∙ c.requires.turn.supplied.program)) c.requires.run

@@ -26,4 +26,5 @@ returns-clause-moves g c set l strict waits =
     c.as_slice-text.ensures
     ∙ ap (λ (w : List ℕ). value_at c.args.found.source f d m.text.text (take (c.args.found.bytes - c.args.found.from) (drop c.args.found.from w)))
     c.at_hand.ensures
-    ∙ ap (value_at c.args.found.source f d m.text.text) (bytes_between c.args.found.from c.args.found.bytes (at_hand m.carry.bytes.text c.args.rest.now) c.requires.from)) turn
+    ∙ ap (value_at c.args.found.source f d m.text.text)
+    (bytes_between c.args.found.from c.args.found.bytes (at_hand m.carry.bytes.text c.args.rest.now) c.requires.from)) turn

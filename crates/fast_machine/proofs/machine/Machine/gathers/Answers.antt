@@ -5,7 +5,7 @@ use Rattle.fast_machine.specs.device.Positions.{set_of}
 use Rattle.fast_machine.specs.device.Gathered.{IsGatheredBy}
 use Rattle.fast_machine.specs.declared.machine.Waiting.{Waiting}
 use Rattle.fast_machine.specs.declared.machine.Waiting.TheVariants.{Identifier, Field, Mantissa}
-use Rattle.fast_machine.proofs.machines.Gathers.{Carries, carry_fits, carry_gathered}
+use Rattle.fast_machine.proofs.machines.Gathers.{Carries, carry_gathered}
 use Rattle.fast_machine.proofs.machine.Machine.gathers.Goals as goal
 
 pub returns-in-Identifier : goal.returns-in-Identifier
@@ -24,16 +24,3 @@ returns-in-Identifier c =
       ];
       same = λ e. ap (λ (x : Carry). record m { carry = x }) (kept.same e);
     }
-
-pub keeps-requires : goal.keeps-requires
-keeps-requires c =
-    let set = set_of c.args.templates.now in
-    let l = c.args.limits in
-    let m = c.args.self.now in
-    elim c.in-Identifier.is [
-      | inl is ↦ carry_fits set l m c.requires.ready Identifier is tt
-      | inr more ↦ elim more [
-        | inl is ↦ carry_fits set l m c.requires.ready Field is tt
-        | inr x ↦ carry_fits set l m c.requires.ready (Mantissa x.0) x.1 tt
-      ]
-    ]

@@ -13,7 +13,6 @@ use Rattle.fast_machine.specs.device.Passing.{state_past}
 use Rattle.fast_stream.specs.device.Continuations.{message_of_then}
 use Rattle.fast_machine.specs.device.Positions.{set_of}
 use Rattle.fast_machine.proofs.steps.FieldTurns.{turn_fault, turn_as}
-use Rattle.fast_machine.proofs.machines.KnownStarts.{start_in}
 use Rattle.fast_machine.proofs.fields.Identifiers.{id_of, named_none, named_first, behind_unknown, behind_known, narrow-wide, narrow-fits, identifier_served}
 use Rattle.fast_machine.proofs.machine.Machine.identified.Goals as goal
 
@@ -68,11 +67,6 @@ returns-then-is_too_wide-clause-turn g c =
     (named_first set v id c.in-Some.start.now.number t (sym same ∙ is) found w.own w.first)
     ∙ narrow-wide strict (message_bits named) m (message_of_then (bounds c.args.limits) c.in-Some.start.now.number named st) wide)
     c.requires.behind.supplied
-
-pub start_message-requires-clause-start : goal.start_message-requires-clause-start
-start_message-requires-clause-start g c =
-    let (id, is, w) = c.in-Some.ensures.some in
-    start_in (set_of c.args.templates.now) id c.in-Some.start.now w
 
 pub returns-clause-turn : goal.returns-clause-turn
 returns-clause-turn g c =

@@ -1,13 +1,10 @@
 -- The end of an element and the start of the next one, where there is one.
-use Rattle.std.proofs.Common.{inl, inr, ◌≡◌, subst, sym}
+use Rattle.std.proofs.Common.{inl, inr}
 use Rattle.std.proofs.lemmas.Result.{err_from_is_err_and}
 use Rattle.fast_stream.specs.declared.faults.FaultCode.{FaultCode}
-use Rattle.fast_machine.specs.device.Positions.{placed, set_of, CanTurn, IsTurn, turning}
+use Rattle.fast_machine.specs.device.Positions.{placed, set_of}
 use Rattle.fast_machine.proofs.steps.NextElements.{next_begun, next_counts, next_stops, next_halts, next_begins}
 use Rattle.fast_machine.proofs.steps.TurnCounts.{turns_taken}
-use Rattle.fast_machine.specs.device.Opening.{opened_result, opened_by}
-use Rattle.fast_machine.specs.device.TurnsLeft.{HasTurns}
-use Rattle.fast_cursor.specs.device.Cursors.{CursorData}
 use Rattle.fast_machine.proofs.machine.Machine.leave_segment.Goals as goal
 
 pub returns-in_err-hand_next-clause-turn : goal.returns-in_err-hand_next-clause-turn
@@ -53,25 +50,3 @@ returns-clause-turns g c way n h =
     let b = next_begun c.args.self.now c.args.place d c.next_element.result c.in-Some.width c.in-Some.is c.requires.inner
     c.next_element.ensures.next c.next_element.ensures.width in
     next_counts (set_of c.args.templates.now) c.args.limits m d c.in-Some.width b c.requires.end c.after-self.result c.after-self.ensures way n h
-
-pub close_segment-requires-clause-turn : goal.close_segment-requires-clause-turn
-close_segment-requires-clause-turn g c =
-    let same : c.next_element.new.self ≡ c.args.self.now.cursor = c.next_element.ensures.none c.in_default.is in
-    subst (λ (x : CursorData). CanTurn (set_of c.args.templates.now) c.args.limits
-    (placed (record c.args.self.now { cursor = x }) c.args.place)) (sym same) c.requires.turn
-
-pub returns-in_default-clause-turn : goal.returns-in_default-clause-turn
-returns-in_default-clause-turn g c =
-    let set = set_of c.args.templates.now in
-    let l = c.args.limits in
-    let same : c.next_element.new.self ≡ c.args.self.now.cursor = c.next_element.ensures.none c.in_default.is in
-    let r = c.close_segment.result in
-    subst (λ (x : CursorData). IsTurn g.S.Sink.takes g.S.Sink.stops set l
-    (turning set l (placed (record c.args.self.now { cursor = x }) c.args.place)) c.args.sink.now
-    (opened_result r) c.close_segment.new.sink (opened_by r c.close_segment.new.self)) same c.close_segment.ensures.turn
-
-pub returns-in_default-clause-turns : goal.returns-in_default-clause-turns
-returns-in_default-clause-turns g c way n h =
-    let same : c.next_element.new.self ≡ c.args.self.now.cursor = c.next_element.ensures.none c.in_default.is in
-    c.close_segment.ensures.turns way n (subst (λ (x : CursorData). HasTurns way (set_of c.args.templates.now) c.args.limits 1 n
-    (placed (record c.args.self.now { cursor = x }) c.args.place)) (sym same) h)

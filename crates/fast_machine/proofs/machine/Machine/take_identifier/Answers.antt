@@ -1,8 +1,5 @@
 use Rattle.std.proofs.Common.{ℕ, ap, ◌∙◌, sym, subst, refl, length, take}
 use Rattle.std.specs.Prelude.{◌≡◌, List, [], ◌++◌, drop, Some}
-use Rattle.fast_value.specs.declared.kinds.Kind.{Kind}
-use Rattle.fast_value.specs.declared.kinds.Kind.TheVariants.{UInt32, Int32, UInt64, Int64, Decimal, Ascii, Unicode, Bytes}
-use Rattle.fast_value.specs.meaning.Kinds.{value_of_text}
 use Rattle.fast_value.specs.meaning.Limits.{Bounds}
 use Rattle.fast_tree.specs.meaning.Tree.{identifier}
 use Rattle.fast_cursor.specs.device.Cursors.{CursorData}
@@ -26,7 +23,7 @@ use Rattle.fast_machine.proofs.steps.FieldTurns.{turn_as}
 use Rattle.fast_fields.specs.device.Carries.{IsCarried, IsCarriedUnit}
 use Rattle.fast_units.specs.device.TextDecisions.{first_reader}
 use Rattle.fast_units.specs.declared.progress.Progress.TheVariants.{Whole}
-use Rattle.fast_machine.proofs.machines.FieldTakes.{still_supplied, by_source}
+use Rattle.fast_machine.proofs.machines.FieldTakes.{still_supplied, by_source, by_kind}
 use Rattle.fast_machine.proofs.machines.UnitTaken.{taken_to, cut_to, wrong_to}
 use Rattle.fast_machine.proofs.units.Takes.{taken_fault, taken_stays}
 use Rattle.fast_machine.proofs.units.Takings.{taken_as}
@@ -36,28 +33,11 @@ use Rattle.fast_machine.proofs.machine.Machine.take_identifier.Goals as goal
 -- What follows the identifier sees its number alone.
 identified_sees : (set : Set) (l : Bounds) (d : Dictionary) (c : CursorData) (source : ValueSource) (scratch piece : List ℕ)
     → identified_then set l (value_at source identifier d scratch piece) d c ≡ identified_then set l (value_at source identifier d scratch []) d c
-identified_sees set l d c source scratch piece = by_source (λ v. identified_then set l v d c) (blind set l d c) source identifier d scratch piece
-  where
-    blind : (set : Set) (l : Bounds) (d : Dictionary) (c : CursorData) (kind : Kind) (piece : List ℕ)
-        → identified_then set l (Some (value_of_text kind piece)) d c ≡ identified_then set l (Some (value_of_text kind [])) d c
-    blind set l d c UInt32 piece = refl
-    blind set l d c Int32 piece = refl
-    blind set l d c UInt64 piece = refl
-    blind set l d c Int64 piece = refl
-    blind set l d c Decimal piece = refl
-    blind set l d c Ascii piece = refl
-    blind set l d c Unicode piece = refl
-    blind set l d c Bytes piece = refl
+identified_sees set l d c source scratch piece = by_source (λ v. identified_then set l v d c)
+    (by_kind (λ v. identified_then set l (Some v) d c) (λ w. refl) (λ w. refl) (λ w. refl)) source identifier d scratch piece
 
 pub read-requires-clause-serves : goal.read-requires-clause-serves
 read-requires-clause-serves g c = identifier_served (set_of c.args.templates.now) c.args.limits c.args.self.now c.requires.ready.supplied
-
-pub read-requires-clause-carried : goal.read-requires-clause-carried
-read-requires-clause-carried g c =
-    let m : Machine = c.args.self.now in
-    let l = c.args.limits in
-    let can = subst (λ (w : Waiting). CanTake w (set_of c.args.templates.now) l m) c.requires.waits c.requires.ready.takes in
-    subst (λ (f : FieldData). IsCarried l (first_reader l f (slots_dictionary m.slots)) m.carry) (sym c.requires.ready.supplied.identifier) can.3
 
 pub returns-in-Cut-clause-taken : goal.returns-in-Cut-clause-taken
 returns-in-Cut-clause-taken g c =

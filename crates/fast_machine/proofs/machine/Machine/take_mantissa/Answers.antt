@@ -13,15 +13,19 @@ use Rattle.fast_stream.specs.device.GrammarReaders.{reader_of}
 use Rattle.fast_stream.specs.device.Readers.{Reader}
 use Rattle.fast_stream.specs.declared.faults.FaultCode.TheVariants as Why
 use Rattle.fast_units.specs.device.Settling.{value_at}
+use Rattle.fast_units.specs.device.TextDecisions.{first_reader}
+use Rattle.fast_units.specs.device.UnitFronts.{IsSent}
+use Rattle.fast_fields.specs.device.Carries.{IsCarried}
 use Rattle.fast_machine.specs.device.Passing.{decimal_then}
 use Rattle.fast_stream.specs.meaning.Messages.{Found, decimal_with}
-use Rattle.fast_machine.specs.device.Positions.{set_of, meaning, CanTake, IsTurn}
+use Rattle.fast_machine.specs.device.Positions.{set_of, meaning, bit_of, CanTake, IsTurn}
 use Rattle.fast_machine.specs.declared.machine.Waiting.{Waiting}
 use Rattle.fast_machine.proofs.machines.UnitTaken.{cut_to, wrong_to}
-use Rattle.fast_machine.proofs.steps.FieldTurns.{serves_here, behind, mantissa_from, mantissa_next, serves_known, entry_here, turn_moved}
+use Rattle.fast_machine.proofs.steps.FieldTurns.{state_of, serves_here, behind, mantissa_from, mantissa_next, serves_known, entry_here, turn_moved}
 use Rattle.fast_machine.proofs.fields.FieldNodes.{at_parts_node, mantissa_parts, not_decimal, served_node, first_below}
 use Rattle.fast_machine.proofs.machines.FieldTakes.{integer_whole, field_wrong, field_cut, mantissa_sees, mantissa_begun, mantissa_on, meaning_second}
 use Rattle.fast_machine.proofs.machines.FieldTakes.{second_cut, second_ready, second_turn, field_supplied}
+use Rattle.fast_machine.proofs.machine.Machine.take_mantissa.Given.{Over}
 use Rattle.fast_machine.proofs.machine.Machine.take_mantissa.Goals as goal
 
 pub returns-in_default-shape : goal.returns-in_default-shape
@@ -44,44 +48,39 @@ read_integer-requires-clause-serves g c =
     c.node.ensures.found c.in-Decimal.is in
     serves_here set l m f c.requires.ready.supplied served.1
 
-pub read_integer-requires-clause-varies : goal.read_integer-requires-clause-varies
-read_integer-requires-clause-varies g c =
+-- The mantissa stands in the stream, and these bytes of it are carried.
+sent : (g : Over) (c : goal.After-read_integer-arg-3-1 g) → let m = c.args.self.now in let f = field_data c.in-Decimal.mantissa in
+    IsSent f (bit_of f (state_of m)) × IsCarried c.args.limits (first_reader c.args.limits f (slots_dictionary m.slots)) m.carry
+sent g c =
     let set = set_of c.args.templates.now in
-    let l = c.args.limits in
     let m = c.args.self.now in
-    let f = field_data c.in-Decimal.mantissa in
     let n = c.in-Some.number in
     let at = at_parts_node set m.cursor n c.node.result.now c.args.templates.now.nodes_name_later_nodes
     (sym c.next.ensures ∙ c.in-Some.is) c.node.ensures.found c.in-Decimal.exponent c.in-Decimal.mantissa c.in-Decimal.is in
-    let x = c.args.exponent in
-    let (sent, begun) = mantissa_begun set l m n c.requires.ready (field_data c.in-Decimal.exponent) f x c.requires.waits at in
-    sent.varies
+    mantissa_begun set c.args.limits m n c.requires.ready (field_data c.in-Decimal.exponent) (field_data c.in-Decimal.mantissa) c.args.exponent
+    c.requires.waits at
+
+pub read_integer-requires-clause-varies : goal.read_integer-requires-clause-varies
+read_integer-requires-clause-varies g c = (sent g c).0.varies
 
 pub read_integer-requires-clause-carried : goal.read_integer-requires-clause-carried
-read_integer-requires-clause-carried g c =
-    let set = set_of c.args.templates.now in
-    let l = c.args.limits in
-    let m = c.args.self.now in
-    let f = field_data c.in-Decimal.mantissa in
-    let n = c.in-Some.number in
-    let at = at_parts_node set m.cursor n c.node.result.now c.args.templates.now.nodes_name_later_nodes
-    (sym c.next.ensures ∙ c.in-Some.is) c.node.ensures.found c.in-Decimal.exponent c.in-Decimal.mantissa c.in-Decimal.is in
-    (mantissa_begun set l m n c.requires.ready (field_data c.in-Decimal.exponent) f c.args.exponent c.requires.waits at).1
+read_integer-requires-clause-carried g c = (sent g c).1
 
 pub finish_decimal-turn-requires-clause-entry : goal.finish_decimal-turn-requires-clause-entry
 finish_decimal-turn-requires-clause-entry g c =
     let set = set_of c.args.templates.now in
     let l = c.args.limits in
+    let new = c.read_integer.new in
+    let kept = c.read_integer.ensures in
     let m = c.args.self.now in
     let f = field_data c.in-Decimal.mantissa in
     let n = c.in-Some.number in
     let served = served_node set l m n c.node.result.now (Decimal c.in-Decimal.exponent c.in-Decimal.mantissa) c.requires.ready.supplied
     c.node.ensures.found c.in-Decimal.is in
-    let slots = c.read_integer.new.slots in
-    let a = record m { slots = slots; carry = c.read_integer.new.self; text = c.read_integer.new.text } in
-    entry_here set l a f (field_supplied set l m slots c.read_integer.new.self c.read_integer.new.text c.requires.ready c.read_integer.ensures.terms c.read_integer.ensures.capacity.0
-    c.read_integer.ensures.capacity.1)
-    (serves_known set m slots f c.read_integer.ensures.terms served.1)
+    let slots = new.slots in
+    let a = record m { slots = slots; carry = new.self; text = new.text } in
+    entry_here set l a f (field_supplied set l m slots new.self new.text c.requires.ready kept.terms kept.capacity.0 kept.capacity.1)
+    (serves_known set m slots f kept.terms served.1)
 
 pub returns-in-Cut-clause-taken : goal.returns-in-Cut-clause-taken
 returns-in-Cut-clause-taken g c =
@@ -89,6 +88,8 @@ returns-in-Cut-clause-taken g c =
     let stops = g.S.Sink.stops in
     let set = set_of c.args.templates.now in
     let l = c.args.limits in
+    let new = c.read_integer.new in
+    let kept = c.read_integer.ensures in
     let m = c.args.self.now in
     let f = field_data c.in-Decimal.mantissa in
     let n = c.in-Some.number in
@@ -99,15 +100,14 @@ returns-in-Cut-clause-taken g c =
     let k : Found → Grammar Dictionary = λ r. handed_then n (behind set l m) (decimal_with x r.0) r.1 in
     let next = mantissa_next set l m n (field_data c.in-Decimal.exponent) f x at in
     let is = meaning_second set l m x c.requires.waits in
-    let a = record m { slots = c.read_integer.new.slots; carry = c.read_integer.new.self; text = c.read_integer.new.text } in
+    let a = record m { slots = new.slots; carry = new.self; text = new.text } in
     let (stays, same) = c.in-Cut.ensures.unit in
     let (held, more) = c.in-Cut.ensures.cut refl in
     cut_to takes stops set l (meaning set l m) c.args.rest.now c.args.sink.now a c.cut-in-Cut.ensures.bytes c.cut-in-Cut.ensures.turn
-    (second_ready set l m c.read_integer.new.slots c.read_integer.new.self c.read_integer.new.text c.requires.ready c.read_integer.ensures.terms c.read_integer.ensures.capacity.0
-    c.read_integer.ensures.capacity.1 x
-    c.requires.waits same (mantissa_on set l m n c.requires.ready (field_data c.in-Decimal.exponent) f c.read_integer.new.self at sent more))
-    (field_cut takes stops set l m f k (mantissa_from set l m x) (meaning set l m) m.carry.bytes.text c.args.rest.now sent next is a c.read_integer.new.self
-    (second_cut set l m c.read_integer.new.slots c.read_integer.new.self c.read_integer.new.text x c.requires.waits same) held c.requires.some stays c.args.sink.now)
+    (second_ready set l m new.slots new.self new.text c.requires.ready kept.terms kept.capacity.0 kept.capacity.1 x
+    c.requires.waits same (mantissa_on set l m n c.requires.ready (field_data c.in-Decimal.exponent) f new.self at sent more))
+    (field_cut takes stops set l m f k (mantissa_from set l m x) (meaning set l m) m.carry.bytes.text c.args.rest.now sent next is a new.self
+    (second_cut set l m new.slots new.self new.text x c.requires.waits same) held c.requires.some stays c.args.sink.now)
 
 pub returns-in-Wrong-clause-taken : goal.returns-in-Wrong-clause-taken
 returns-in-Wrong-clause-taken g c =
@@ -115,6 +115,8 @@ returns-in-Wrong-clause-taken g c =
     let stops = g.S.Sink.stops in
     let set = set_of c.args.templates.now in
     let l = c.args.limits in
+    let new = c.read_integer.new in
+    let kept = c.read_integer.ensures in
     let m = c.args.self.now in
     let f = field_data c.in-Decimal.mantissa in
     let n = c.in-Some.number in
@@ -125,12 +127,11 @@ returns-in-Wrong-clause-taken g c =
     let k : Found → Grammar Dictionary = λ r. handed_then n (behind set l m) (decimal_with x r.0) r.1 in
     let next = mantissa_next set l m n (field_data c.in-Decimal.exponent) f x at in
     let is = meaning_second set l m x c.requires.waits in
-    let a = record m { slots = c.read_integer.new.slots; carry = c.read_integer.new.self; text = c.read_integer.new.text } in
+    let a = record m { slots = new.slots; carry = new.self; text = new.text } in
     wrong_to takes stops set l (meaning set l m) c.args.rest.now c.args.sink.now a (Why.Stream c.in-Wrong.code) c.wrong.ensures.bytes c.wrong.ensures.turn
-    (field_supplied set l m c.read_integer.new.slots c.read_integer.new.self c.read_integer.new.text c.requires.ready c.read_integer.ensures.terms c.read_integer.ensures.capacity.0
-    c.read_integer.ensures.capacity.1)
+    (field_supplied set l m new.slots new.self new.text c.requires.ready kept.terms kept.capacity.0 kept.capacity.1)
     (field_wrong takes stops set l m f k (mantissa_from set l m x) (meaning set l m) m.carry.bytes.text c.args.rest.now sent next is
-    (slots_dictionary c.read_integer.new.slots) c.read_integer.new.text.text c.in-Wrong.code c.in-Wrong.bytes c.in-Wrong.ensures.unit c.args.sink.now)
+    (slots_dictionary new.slots) new.text.text c.in-Wrong.code c.in-Wrong.bytes c.in-Wrong.ensures.unit c.args.sink.now)
 
 pub returns-in-Whole-clause-taken : goal.returns-in-Whole-clause-taken
 returns-in-Whole-clause-taken g c =
@@ -138,6 +139,8 @@ returns-in-Whole-clause-taken g c =
     let stops = g.S.Sink.stops in
     let set = set_of c.args.templates.now in
     let l = c.args.limits in
+    let new = c.read_integer.new in
+    let kept = c.read_integer.ensures in
     let m = c.args.self.now in
     let f = field_data c.in-Decimal.mantissa in
     let n = c.in-Some.number in
@@ -148,11 +151,10 @@ returns-in-Whole-clause-taken g c =
     let k : Found → Grammar Dictionary = λ r. handed_then n (behind set l m) (decimal_with x r.0) r.1 in
     let next = mantissa_next set l m n (field_data c.in-Decimal.exponent) f x at in
     let is = meaning_second set l m x c.requires.waits in
-    let slots = c.read_integer.new.slots in
-    let a = record m { slots = slots; carry = c.read_integer.new.self; text = c.read_integer.new.text } in
-    let text = c.read_integer.new.text.text in
-    let can = second_turn set l m slots c.read_integer.new.self c.read_integer.new.text c.requires.ready c.read_integer.ensures.terms c.read_integer.ensures.capacity.0
-    c.read_integer.ensures.capacity.1 x c.requires.waits in
+    let slots = new.slots in
+    let a = record m { slots = slots; carry = new.self; text = new.text } in
+    let text = new.text.text in
+    let can = second_turn set l m slots new.self new.text c.requires.ready kept.terms kept.capacity.0 kept.capacity.1 x c.requires.waits in
     let b = c.finish_decimal-turn.new.self in
     let turn = c.finish_decimal-turn.result in
     let ends = c.finish_decimal-turn.ensures in
