@@ -4,7 +4,8 @@ ghost use Rattle.std.specs.Prelude.{None, ◌<◌, true, false, Some};
 ghost use Rattle.fast_value.specs.declared.settings.Limits.{Limits};
 ghost use Rattle.fast_machine.specs.declared.machine.Machine.{Machine};
 ghost use Rattle.fast_loop.specs.declared.spot.Spot.{Spot};
-ghost use Rattle.fast_loop.specs.device.Arms.{IsAtSpot, IsAtOp, IsFieldOp, HasWent};
+ghost use Rattle.fast_program.specs.device.Codes.{field_of};
+ghost use Rattle.fast_loop.specs.device.Arms.{IsAtSpot, IsArmOp, HasWent};
 ghost use Rattle.fast_machine.specs.device.Positions.{set_of};
 
 use crate::integer_arms::scalar_of;
@@ -29,8 +30,7 @@ pub fn plain_decimal_arm<'t, S: Sink>(
     sink: &mut S,
 ) -> Went
     requires spot { IsAtSpot (set_of templates.now) limits machine.old spot.old.place }
-    requires at { IsAtOp (set_of templates.now) spot.old.place op.now }
-    requires field { IsFieldOp (set_of templates.now) op.now Kind.Decimal Operator.None optional }
+    requires op { IsArmOp (set_of templates.now) spot.old.place op.now (field_of Kind.Decimal Operator.None optional) }
     ensures went { HasWent S.takes S.stops (set_of templates.now) limits machine.old spot.old sink.old result sink.new
         machine.new spot.new }
 {
@@ -61,8 +61,7 @@ pub fn copied_decimal_arm<'t, S: Sink>(
     sink: &mut S,
 ) -> Went
     requires spot { IsAtSpot (set_of templates.now) limits machine.old spot.old.place }
-    requires at { IsAtOp (set_of templates.now) spot.old.place op.now }
-    requires field { IsFieldOp (set_of templates.now) op.now Kind.Decimal Operator.Copy optional }
+    requires op { IsArmOp (set_of templates.now) spot.old.place op.now (field_of Kind.Decimal Operator.Copy optional) }
     ensures went { HasWent S.takes S.stops (set_of templates.now) limits machine.old spot.old sink.old result sink.new
         machine.new spot.new }
 {
@@ -108,8 +107,7 @@ pub fn changed_decimal_arm<'t, S: Sink>(
     sink: &mut S,
 ) -> Went
     requires spot { IsAtSpot (set_of templates.now) limits machine.old spot.old.place }
-    requires at { IsAtOp (set_of templates.now) spot.old.place op.now }
-    requires field { IsFieldOp (set_of templates.now) op.now Kind.Decimal Operator.Delta optional }
+    requires op { IsArmOp (set_of templates.now) spot.old.place op.now (field_of Kind.Decimal Operator.Delta optional) }
     ensures went { HasWent S.takes S.stops (set_of templates.now) limits machine.old spot.old sink.old result sink.new
         machine.new spot.new }
 {

@@ -10,7 +10,8 @@ ghost use Rattle.fast_cursor.specs.device.Cursors.{bits_left};
 ghost use Rattle.fast_cursor.specs.device.Places.{at_place, HasBits};
 ghost use Rattle.fast_dict.specs.meaning.Operators.{range_of};
 ghost use Rattle.fast_units.specs.device.Deciding.{number_data};
-ghost use Rattle.fast_loop.specs.device.Arms.{IsAtSpot, IsAtOp, IsFieldOp, IsFieldUnsent, HasWent};
+ghost use Rattle.fast_program.specs.device.Codes.{field_of};
+ghost use Rattle.fast_loop.specs.device.Arms.{IsAtSpot, IsArmOp, IsFieldUnsent, HasWent};
 ghost use Rattle.fast_machine.specs.device.Positions.{set_of};
 
 use crate::spot::{Spot, Standing, Went, hand_taken, hand_unsent, stands};
@@ -56,8 +57,7 @@ pub fn unsigned_arm<'t, S: Sink>(
     requires no_delta { operator ≢ Operator.Delta }
     requires no_constant { operator ≢ Operator.Constant }
     requires spot { IsAtSpot (set_of templates.now) limits machine.old spot.old.place }
-    requires at { IsAtOp (set_of templates.now) spot.old.place op.now }
-    requires field { IsFieldOp (set_of templates.now) op.now kind operator optional }
+    requires op { IsArmOp (set_of templates.now) spot.old.place op.now (field_of kind operator optional) }
     ensures went { HasWent S.takes S.stops (set_of templates.now) limits machine.old spot.old sink.old result sink.new
         machine.new spot.new }
 {
@@ -118,8 +118,7 @@ pub fn signed_arm<'t, S: Sink>(
     requires no_delta { operator ≢ Operator.Delta }
     requires no_constant { operator ≢ Operator.Constant }
     requires spot { IsAtSpot (set_of templates.now) limits machine.old spot.old.place }
-    requires at { IsAtOp (set_of templates.now) spot.old.place op.now }
-    requires field { IsFieldOp (set_of templates.now) op.now kind operator optional }
+    requires op { IsArmOp (set_of templates.now) spot.old.place op.now (field_of kind operator optional) }
     ensures went { HasWent S.takes S.stops (set_of templates.now) limits machine.old spot.old sink.old result sink.new
         machine.new spot.new }
 {
@@ -172,8 +171,7 @@ pub fn delta_arm<'t, S: Sink>(
 ) -> Went
     requires integers { family kind ≡ integers (range_of kind) }
     requires spot { IsAtSpot (set_of templates.now) limits machine.old spot.old.place }
-    requires at { IsAtOp (set_of templates.now) spot.old.place op.now }
-    requires field { IsFieldOp (set_of templates.now) op.now kind Operator.Delta optional }
+    requires op { IsArmOp (set_of templates.now) spot.old.place op.now (field_of kind Operator.Delta optional) }
     ensures went { HasWent S.takes S.stops (set_of templates.now) limits machine.old spot.old sink.old result sink.new
         machine.new spot.new }
 {
@@ -221,8 +219,7 @@ pub fn unsent_integer_arm<'t, S: Sink>(
     requires clear { first_bit (bits_left (at_place machine.old.cursor spot.old.place)) ≡ false }
     requires no_constant { operator ≢ Operator.Constant }
     requires spot { IsAtSpot (set_of templates.now) limits machine.old spot.old.place }
-    requires at { IsAtOp (set_of templates.now) spot.old.place op.now }
-    requires field { IsFieldOp (set_of templates.now) op.now kind operator optional }
+    requires op { IsArmOp (set_of templates.now) spot.old.place op.now (field_of kind operator optional) }
     ensures went { HasWent S.takes S.stops (set_of templates.now) limits machine.old spot.old sink.old result sink.new
         machine.new spot.new }
 {
@@ -261,8 +258,7 @@ fn unsent_item<'t>(
     requires clear { first_bit (bits_left (at_place machine.old.cursor place.now)) ≡ false }
     requires no_constant { operator ≢ Operator.Constant }
     requires spot { IsAtSpot (set_of templates.now) limits machine.old place.now }
-    requires at { IsAtOp (set_of templates.now) place.now op.now }
-    requires field { IsFieldOp (set_of templates.now) op.now kind operator optional }
+    requires op { IsArmOp (set_of templates.now) place.now op.now (field_of kind operator optional) }
     ensures unsent { IfSome result (λ item. (f : FieldData) × (true ≡ uses_bit f)
         × IsFieldUnsent (set_of templates.now) limits machine.old machine.new place.now op.now.node f false
         (option_map number_data item)) }

@@ -1,7 +1,8 @@
 //! The arms of integer fields under operators other than delta, by their types: the range of each.
 
 ghost use Rattle.std.specs.Prelude.{◌≢◌};
-ghost use Rattle.fast_loop.specs.device.Arms.{IsAtSpot, IsAtOp, IsFieldOp, HasWent};
+ghost use Rattle.fast_program.specs.device.Codes.{field_of};
+ghost use Rattle.fast_loop.specs.device.Arms.{IsAtSpot, IsArmOp, HasWent};
 ghost use Rattle.fast_machine.specs.device.Positions.{set_of};
 
 use crate::integer_arms::{signed_arm, unsigned_arm};
@@ -27,8 +28,7 @@ pub fn uint32_arm<'t, S: Sink>(
     requires no_delta { operator ≢ Operator.Delta }
     requires no_constant { operator ≢ Operator.Constant }
     requires spot { IsAtSpot (set_of templates.now) limits machine.old spot.old.place }
-    requires at { IsAtOp (set_of templates.now) spot.old.place op.now }
-    requires field { IsFieldOp (set_of templates.now) op.now Kind.UInt32 operator optional }
+    requires op { IsArmOp (set_of templates.now) spot.old.place op.now (field_of Kind.UInt32 operator optional) }
     ensures went { HasWent S.takes S.stops (set_of templates.now) limits machine.old spot.old sink.old result sink.new
         machine.new spot.new }
 {
@@ -61,8 +61,7 @@ pub fn uint64_arm<'t, S: Sink>(
     requires no_delta { operator ≢ Operator.Delta }
     requires no_constant { operator ≢ Operator.Constant }
     requires spot { IsAtSpot (set_of templates.now) limits machine.old spot.old.place }
-    requires at { IsAtOp (set_of templates.now) spot.old.place op.now }
-    requires field { IsFieldOp (set_of templates.now) op.now Kind.UInt64 operator optional }
+    requires op { IsArmOp (set_of templates.now) spot.old.place op.now (field_of Kind.UInt64 operator optional) }
     ensures went { HasWent S.takes S.stops (set_of templates.now) limits machine.old spot.old sink.old result sink.new
         machine.new spot.new }
 {
@@ -95,8 +94,7 @@ pub fn int32_arm<'t, S: Sink>(
     requires no_delta { operator ≢ Operator.Delta }
     requires no_constant { operator ≢ Operator.Constant }
     requires spot { IsAtSpot (set_of templates.now) limits machine.old spot.old.place }
-    requires at { IsAtOp (set_of templates.now) spot.old.place op.now }
-    requires field { IsFieldOp (set_of templates.now) op.now Kind.Int32 operator optional }
+    requires op { IsArmOp (set_of templates.now) spot.old.place op.now (field_of Kind.Int32 operator optional) }
     ensures went { HasWent S.takes S.stops (set_of templates.now) limits machine.old spot.old sink.old result sink.new
         machine.new spot.new }
 {
@@ -130,8 +128,7 @@ pub fn int64_arm<'t, S: Sink>(
     requires no_delta { operator ≢ Operator.Delta }
     requires no_constant { operator ≢ Operator.Constant }
     requires spot { IsAtSpot (set_of templates.now) limits machine.old spot.old.place }
-    requires at { IsAtOp (set_of templates.now) spot.old.place op.now }
-    requires field { IsFieldOp (set_of templates.now) op.now Kind.Int64 operator optional }
+    requires op { IsArmOp (set_of templates.now) spot.old.place op.now (field_of Kind.Int64 operator optional) }
     ensures went { HasWent S.takes S.stops (set_of templates.now) limits machine.old spot.old sink.old result sink.new
         machine.new spot.new }
 {

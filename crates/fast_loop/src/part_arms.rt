@@ -10,8 +10,9 @@ ghost use Rattle.fast_cursor.specs.device.Places.{place_left, HasBits};
 ghost use Rattle.fast_items.specs.device.DecimalParts.{IsPart, IsUsualExponent};
 ghost use Rattle.fast_machine.specs.declared.machine.Machine.{Machine};
 ghost use Rattle.fast_loop.specs.declared.spot.Spot.{Spot};
-ghost use Rattle.fast_loop.specs.device.Arms.{IsAtSpot, IsAtOp, HasWent};
-ghost use Rattle.fast_loop.specs.device.Parts.{IsPartsOp, IsChangedPartsOp, IsAtDecimal, IsLedTo, bit_at_place};
+ghost use Rattle.fast_program.specs.device.Codes.{decimal_parts, changed_parts};
+ghost use Rattle.fast_loop.specs.device.Arms.{IsAtSpot, IsArmOp, HasWent};
+ghost use Rattle.fast_loop.specs.device.Parts.{IsAtDecimal, IsLedTo, bit_at_place};
 ghost use Rattle.fast_machine.specs.device.Positions.{Set, set_of};
 
 use crate::bits::{behind_bit, bit_at};
@@ -139,8 +140,7 @@ pub fn parts_arm<'t, S: Sink>(
     sink: &mut S,
 ) -> Went
     requires spot { IsAtSpot (set_of templates.now) limits machine.old spot.old.place }
-    requires at { IsAtOp (set_of templates.now) spot.old.place op.now }
-    requires parts { IsPartsOp (set_of templates.now) op.now }
+    requires op { IsArmOp (set_of templates.now) spot.old.place op.now decimal_parts }
     ensures went { HasWent S.takes S.stops (set_of templates.now) limits machine.old spot.old sink.old result sink.new
         machine.new spot.new }
 {
@@ -166,8 +166,7 @@ pub fn changed_parts_arm<'t, S: Sink>(
 ) -> Went
     requires usual { (operator ≡ Operator.Default) ⊎ (operator ≡ Operator.Copy) }
     requires spot { IsAtSpot (set_of templates.now) limits machine.old spot.old.place }
-    requires at { IsAtOp (set_of templates.now) spot.old.place op.now }
-    requires parts { IsChangedPartsOp (set_of templates.now) op.now operator optional }
+    requires op { IsArmOp (set_of templates.now) spot.old.place op.now (changed_parts operator optional) }
     ensures went { HasWent S.takes S.stops (set_of templates.now) limits machine.old spot.old sink.old result sink.new
         machine.new spot.new }
 {

@@ -1,12 +1,11 @@
 //! The arms of the machine's loop for segments and messages.
 
-ghost use Rattle.std.specs.Prelude.{◌≡◌, ◌+◌, ◌<◌, ◌≤◌, ℕ, Bool, [], drop, length, slice_get, IfErr, Some, Ok};
+ghost use Rattle.std.specs.Prelude.{◌≡◌, ◌+◌, ◌<◌, ◌≤◌, ℕ, Bool, [], drop, length, IfErr, Some, Ok};
 ghost use Rattle.fast_value.specs.meaning.Kinds.{U};
 ghost use Rattle.fast_value.specs.meaning.Limits.{bounds};
-ghost use Rattle.fast_tree.specs.declared.instructions.Node.{Node};
 ghost use Rattle.fast_tree.specs.meaning.Numbers.{AreBelow};
 ghost use Rattle.fast_tree.specs.meaning.Tree.{FieldData};
-ghost use Rattle.fast_program.specs.device.Codes.{IsGroupCoded, IsSequenceCoded};
+ghost use Rattle.fast_program.specs.device.Codes.{group_of, sequence_of};
 ghost use Rattle.fast_stream.specs.meaning.Messages.{within_limits};
 ghost use Rattle.fast_cursor.specs.device.Places.{place_left, at_place};
 ghost use Rattle.fast_cursor.specs.device.Runs.{IsRun};
@@ -15,7 +14,7 @@ ghost use Rattle.fast_cursor.specs.declared.pending.MapFront.{MapFront};
 ghost use Rattle.fast_machine.specs.device.FitMaps.{IsFitMap};
 ghost use Rattle.fast_stream.specs.declared.faults.FaultCode.{FaultCode};
 ghost use Rattle.fast_machine.specs.device.Positions.{placed, set_of, run_in, IsBodyOf, IsAtGroup};
-ghost use Rattle.fast_loop.specs.device.Arms.{IsAnswer, IsAtOp, IsAtSpot, IsGroupHere, IsLengthTaken, HasWent};
+ghost use Rattle.fast_loop.specs.device.Arms.{IsAnswer, IsArmOp, IsAtSpot, IsGroupHere, IsLengthTaken, HasWent};
 ghost use Rattle.fast_machine.specs.device.Opening.{opened_result, opened_by};
 ghost use Rattle.fast_machine.specs.device.Steps.{IsStep};
 ghost use Rattle.fast_machine.specs.declared.machine.Machine.{Machine};
@@ -148,9 +147,7 @@ pub fn sequence_arm<'t, S: Sink>(
     sink: &mut S,
 ) -> Went
     requires spot { IsAtSpot (set_of templates.now) limits machine.old spot.old.place }
-    requires at { IsAtOp (set_of templates.now) spot.old.place op.now }
-    requires sequence { (x : Node) → slice_get (set_of templates.now).nodes op.now.node ≡ Some x
-        → IsSequenceCoded optional x.shape }
+    requires op { IsArmOp (set_of templates.now) spot.old.place op.now (sequence_of optional) }
     ensures went { HasWent S.takes S.stops (set_of templates.now) limits machine.old spot.old sink.old result sink.new
         machine.new spot.new }
 {
@@ -230,9 +227,7 @@ pub fn group_arm<'t, S: Sink>(
     sink: &mut S,
 ) -> Went
     requires spot { IsAtSpot (set_of templates.now) limits machine.old spot.old.place }
-    requires at { IsAtOp (set_of templates.now) spot.old.place op.now }
-    requires group { (x : Node) → slice_get (set_of templates.now).nodes op.now.node ≡ Some x
-        → IsGroupCoded optional x.shape }
+    requires op { IsArmOp (set_of templates.now) spot.old.place op.now (group_of optional) }
     ensures went { HasWent S.takes S.stops (set_of templates.now) limits machine.old spot.old sink.old result sink.new
         machine.new spot.new }
 {

@@ -9,10 +9,10 @@ ghost use Rattle.fast_dict.specs.meaning.Slots.{slots_dictionary, slots_terms, H
 ghost use Rattle.fast_items.specs.device.FieldsAs.{IsEntryFor};
 ghost use Rattle.fast_items.specs.device.TextItems.{text_taken, IsTextSource, IsAsciiAt};
 ghost use Rattle.fast_units.specs.device.Words.{HasRoomFor};
-ghost use Rattle.fast_program.specs.device.Codes.{IsConstantCoded};
+ghost use Rattle.fast_program.specs.device.Codes.{field_of, constant_field};
 ghost use Rattle.fast_cursor.specs.device.Cursors.{bits_left};
 ghost use Rattle.fast_cursor.specs.device.Places.{at_place, HasBits};
-ghost use Rattle.fast_loop.specs.device.Arms.{IsAtSpot, IsAtOp, IsFieldOp, IsOpText, HasWent};
+ghost use Rattle.fast_loop.specs.device.Arms.{IsAtSpot, IsArmOp, IsOpText, HasWent};
 ghost use Rattle.fast_machine.specs.device.Positions.{set_of};
 
 use crate::spot::{Spot, Standing, Went, hand_taken, hand_unsent, stands};
@@ -168,9 +168,7 @@ pub fn constant_arm<'t, S: Sink>(
     sink: &mut S,
 ) -> Went
     requires spot { IsAtSpot (set_of templates.now) limits machine.old spot.old.place }
-    requires at { IsAtOp (set_of templates.now) spot.old.place op.now }
-    requires constant { (x : Node) → slice_get (set_of templates.now).nodes op.now.node ≡ Some x
-        → IsConstantCoded x.shape }
+    requires op { IsArmOp (set_of templates.now) spot.old.place op.now constant_field }
     ensures went { HasWent S.takes S.stops (set_of templates.now) limits machine.old spot.old sink.old result sink.new
         machine.new spot.new }
 {
@@ -196,8 +194,7 @@ pub fn ascii_arm<'t, S: Sink>(
     requires no_constant { operator ≢ Operator.Constant }
     requires no_delta { operator ≢ Operator.Delta }
     requires spot { IsAtSpot (set_of templates.now) limits machine.old spot.old.place }
-    requires at { IsAtOp (set_of templates.now) spot.old.place op.now }
-    requires field { IsFieldOp (set_of templates.now) op.now Kind.Ascii operator optional }
+    requires op { IsArmOp (set_of templates.now) spot.old.place op.now (field_of Kind.Ascii operator optional) }
     ensures went { HasWent S.takes S.stops (set_of templates.now) limits machine.old spot.old sink.old result sink.new
         machine.new spot.new }
 {
@@ -255,8 +252,7 @@ fn unsent_ascii_arm<'t, S: Sink>(
     requires more { HasBits spot.old.place }
     requires clear { first_bit (bits_left (at_place machine.old.cursor spot.old.place)) ≡ false }
     requires spot { IsAtSpot (set_of templates.now) limits machine.old spot.old.place }
-    requires at { IsAtOp (set_of templates.now) spot.old.place op.now }
-    requires field { IsFieldOp (set_of templates.now) op.now Kind.Ascii operator optional }
+    requires op { IsArmOp (set_of templates.now) spot.old.place op.now (field_of Kind.Ascii operator optional) }
     ensures went { HasWent S.takes S.stops (set_of templates.now) limits machine.old spot.old sink.old result sink.new
         machine.new spot.new }
 {
@@ -302,8 +298,7 @@ pub fn initial_arm<'t, S: Sink>(
     requires more { HasBits spot.old.place }
     requires clear { first_bit (bits_left (at_place machine.old.cursor spot.old.place)) ≡ false }
     requires spot { IsAtSpot (set_of templates.now) limits machine.old spot.old.place }
-    requires at { IsAtOp (set_of templates.now) spot.old.place op.now }
-    requires field { IsFieldOp (set_of templates.now) op.now kind Operator.Default optional }
+    requires op { IsArmOp (set_of templates.now) spot.old.place op.now (field_of kind Operator.Default optional) }
     ensures went { HasWent S.takes S.stops (set_of templates.now) limits machine.old spot.old sink.old result sink.new
         machine.new spot.new }
 {

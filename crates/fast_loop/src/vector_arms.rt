@@ -6,7 +6,8 @@ ghost use Rattle.fast_wire.specs.meaning.Maps.{first_bit};
 ghost use Rattle.fast_value.specs.meaning.Kinds.{family, texts};
 ghost use Rattle.fast_cursor.specs.device.Cursors.{bits_left};
 ghost use Rattle.fast_cursor.specs.device.Places.{at_place, HasBits};
-ghost use Rattle.fast_loop.specs.device.Arms.{IsAtSpot, IsAtOp, IsFieldOp, HasWent};
+ghost use Rattle.fast_program.specs.device.Codes.{field_of};
+ghost use Rattle.fast_loop.specs.device.Arms.{IsAtSpot, IsArmOp, HasWent};
 ghost use Rattle.fast_machine.specs.device.Positions.{set_of};
 
 use crate::spot::{Spot, Standing, Went, hand_taken, hand_unsent, stands};
@@ -34,8 +35,7 @@ pub fn vector_arm<'t, S: Sink>(
     requires text { family kind ≡ texts }
     requires vector { kind ≢ Kind.Ascii }
     requires spot { IsAtSpot (set_of templates.now) limits machine.old spot.old.place }
-    requires at { IsAtOp (set_of templates.now) spot.old.place op.now }
-    requires field { IsFieldOp (set_of templates.now) op.now kind Operator.None optional }
+    requires op { IsArmOp (set_of templates.now) spot.old.place op.now (field_of kind Operator.None optional) }
     ensures went { HasWent S.takes S.stops (set_of templates.now) limits machine.old spot.old sink.old result sink.new
         machine.new spot.new }
 {
@@ -71,8 +71,7 @@ pub fn part_arm<'t, S: Sink>(
 ) -> Went
     requires text { family kind ≡ texts }
     requires spot { IsAtSpot (set_of templates.now) limits machine.old spot.old.place }
-    requires at { IsAtOp (set_of templates.now) spot.old.place op.now }
-    requires field { IsFieldOp (set_of templates.now) op.now kind Operator.Delta optional }
+    requires op { IsArmOp (set_of templates.now) spot.old.place op.now (field_of kind Operator.Delta optional) }
     ensures went { HasWent S.takes S.stops (set_of templates.now) limits machine.old spot.old sink.old result sink.new
         machine.new spot.new }
 {
@@ -117,8 +116,7 @@ pub fn tail_arm<'t, S: Sink>(
     requires text { family kind ≡ texts }
     requires vector { kind ≢ Kind.Ascii }
     requires spot { IsAtSpot (set_of templates.now) limits machine.old spot.old.place }
-    requires at { IsAtOp (set_of templates.now) spot.old.place op.now }
-    requires field { IsFieldOp (set_of templates.now) op.now kind Operator.Tail optional }
+    requires op { IsArmOp (set_of templates.now) spot.old.place op.now (field_of kind Operator.Tail optional) }
     ensures went { HasWent S.takes S.stops (set_of templates.now) limits machine.old spot.old sink.old result sink.new
         machine.new spot.new }
 {
@@ -170,8 +168,7 @@ fn unsent_tail_arm<'t, S: Sink>(
     requires more { HasBits spot.old.place }
     requires clear { first_bit (bits_left (at_place machine.old.cursor spot.old.place)) ≡ false }
     requires spot { IsAtSpot (set_of templates.now) limits machine.old spot.old.place }
-    requires at { IsAtOp (set_of templates.now) spot.old.place op.now }
-    requires field { IsFieldOp (set_of templates.now) op.now kind Operator.Tail optional }
+    requires op { IsArmOp (set_of templates.now) spot.old.place op.now (field_of kind Operator.Tail optional) }
     ensures went { HasWent S.takes S.stops (set_of templates.now) limits machine.old spot.old sink.old result sink.new
         machine.new spot.new }
 {

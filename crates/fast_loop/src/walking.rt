@@ -1,10 +1,10 @@
 //! The machine's loop: from op to op, with an arm for each code. The position in the innermost segment, and the rest of the piece, stay in
 //! registers, since all arms are inlined.
 
-ghost use Rattle.std.specs.Prelude.{◌≡◌, ◌≢◌, [], slice_get, Ok, Some};
-ghost use Rattle.fast_tree.specs.declared.instructions.Node.{Node};
+ghost use Rattle.std.specs.Prelude.{◌≡◌, ◌≢◌, false, [], slice_get, Ok, Some};
 ghost use Rattle.fast_program.specs.declared.codes.Code.{Code};
-ghost use Rattle.fast_program.specs.device.Ops.{IsOpOf};
+ghost use Rattle.fast_program.specs.device.Codes.{says};
+ghost use Rattle.fast_program.specs.device.Runs.{is_end};
 ghost use Rattle.fast_cursor.specs.device.Places.{place_left, IsPlaceOf};
 ghost use Rattle.fast_machine.specs.declared.machine.Machine.{Machine};
 ghost use Rattle.fast_machine.specs.declared.machine.Turn.{Turn};
@@ -12,7 +12,7 @@ ghost use Rattle.fast_machine.specs.declared.machine.Waiting.{Waiting};
 ghost use Rattle.fast_loop.specs.declared.spot.Spot.{Spot};
 ghost use Rattle.fast_loop.specs.declared.spot.Went.{Went};
 ghost use Rattle.fast_machine.specs.device.Positions.{set_of, CanTurn};
-ghost use Rattle.fast_loop.specs.device.Arms.{IsAtSpot, IsAtOp, HasWent, HasGone, ended};
+ghost use Rattle.fast_loop.specs.device.Arms.{IsAtSpot, IsArmOp, HasWent, HasGone, ended};
 ghost use Rattle.fast_machine.specs.device.Steps.{IsStep};
 
 use crate::decimal_arms::{changed_decimal_arm, copied_decimal_arm, plain_decimal_arm};
@@ -43,10 +43,8 @@ fn op_at<'t>(
     requires spot { IsAtSpot (set_of templates.now) limits machine.now place.now }
     ensures here { slice_get place.now.ahead.now 0 ≡ Some result.now }
     ensures end { result.now.code ≡ Code.End → place_left place.now ≡ [] }
-    ensures at { result.now.code ≢ Code.End → IsAtOp (set_of templates.now) place.now result.now }
-    ensures is { result.now.code ≢ Code.End → (x : Node)
-        → slice_get (set_of templates.now).nodes result.now.node ≡ Some x
-        → IsOpOf result.now result.now.node x.shape }
+    ensures op { is_end result.now.code ≡ false
+        → IsArmOp (set_of templates.now) place.now result.now (says result.now.code) }
 {
     let _ = limits;
     let _ = templates.program();

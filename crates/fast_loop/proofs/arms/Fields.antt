@@ -14,6 +14,7 @@ use Rattle.fast_tree.specs.meaning.Nodes.{field_data}
 use Rattle.fast_tree.specs.meaning.Tree.{FieldData, operator_uses_bit, uses_bit}
 use Rattle.fast_template.specs.declared.sets.Templates.{Templates}
 use Rattle.fast_program.specs.declared.ops.Op.{Op}
+use Rattle.fast_program.specs.device.Codes.{Claim, field_of as a_field}
 use Rattle.fast_dict.specs.declared.slots.Slots.{Slots}
 use Rattle.fast_dict.specs.meaning.Dictionary.{previous_at}
 use Rattle.fast_dict.specs.meaning.Operators.{decide, nothing}
@@ -31,7 +32,7 @@ use Rattle.fast_cursor.specs.device.Places.{at_place}
 use Rattle.fast_machine.specs.declared.machine.Machine.{Machine}
 use Rattle.fast_loop.specs.declared.spot.Spot.{Spot}
 use Rattle.fast_machine.specs.device.Positions.{placed, set_of, bit_of, IsAtField}
-use Rattle.fast_loop.specs.device.Arms.{IsAtSpot, IsAtOp, IsFieldOp, IsFieldTaken, IsFieldUnsent}
+use Rattle.fast_loop.specs.device.Arms.{IsAtSpot, IsArmOp, IsFieldTaken, IsFieldUnsent}
 use Rattle.fast_machine.proofs.fields.Heads.{field_head}
 use Rattle.fast_machine.proofs.fields.QuickFields.{sent_by_bit, node_here}
 use Rattle.fast_machine.proofs.fields.FieldNodes.{served_node}
@@ -52,27 +53,28 @@ unneeded Delta optional varies uses = absurd (cc uses)
 unneeded Tail optional varies uses = refl
 
 -- the node of an op
-pub op_node : (t : Templates) (m : Machine) (p : Place) (op : Op) → IsAtOp (set_of t) p op → (x : Node) × (slice_get t.nodes.items op.node ≡ Some x)
-op_node t m p op at = node_here t (at_place m.cursor p) op.node at.1 at.0
+pub op_node : (t : Templates) (m : Machine) (p : Place) (op : Op) {claim : Claim} → IsArmOp (set_of t) p op claim
+    → (x : Node) × (slice_get t.nodes.items op.node ≡ Some x)
+op_node t m p op at = node_here t (at_place m.cursor p) op.node at.first at.below
 
 module _ (t : Templates) (l : Limits) (m : Machine) (p : Place) (op : Op) (kind : Kind) (operator : Operator) (optional : Bool)
-    (spot : IsAtSpot (set_of t) l m p) (at : IsAtOp (set_of t) p op) (coded : IsFieldOp (set_of t) op kind operator optional) (x : Node)
+    (spot : IsAtSpot (set_of t) l m p) (at : IsArmOp (set_of t) p op (a_field kind operator optional)) (x : Node)
     (found : slice_get t.nodes.items op.node ≡ Some x) where
   -- the field
   abbrev pub instruction : FieldInstruction
-  instruction = (coded x found).0
+  instruction = (at.is x found).0
 
   abbrev pub field_of : FieldData
   field_of = field_data instruction
 
   pub shape_is : x.shape ≡ Shape.Field instruction
-  shape_is = (coded x found).1
+  shape_is = (at.is x found).1
 
   pub as_coded : IsFieldAs field_of kind optional operator op.entry
-  as_coded = record { kind = (coded x found).2; optional = (coded x found).4; operator = (coded x found).3; entry = (coded x found).5 }
+  as_coded = record { kind = (at.is x found).2; optional = (at.is x found).4; operator = (at.is x found).3; entry = (at.is x found).5 }
 
   pub at_field : IsAtField (set_of t) (at_place m.cursor p) op.node field_of
-  at_field = field_head t (at_place m.cursor p) op.node x at.1 found instruction shape_is
+  at_field = field_head t (at_place m.cursor p) op.node x at.first found instruction shape_is
 
   pub served : Serves (length (slots_dictionary m.slots)) (slots_terms m.slots) field_of
   served = serves_here (set_of t) l (placed m p) field_of spot.can.supplied
@@ -97,24 +99,23 @@ module _ (t : Templates) (l : Limits) (m : Machine) (p : Place) (op : Op) (kind 
 
 -- A number that stands whole in the piece.
 pub item_taken : (t : Templates) (l : Limits) (m : Machine) (from : Spot) (op : Op) (kind : Kind) (operator : Operator) (optional : Bool)
-    (spot : IsAtSpot (set_of t) l m from.place) (at : IsAtOp (set_of t) from.place op)
-    (coded : IsFieldOp (set_of t) op kind operator optional) (x : Node) (found : slice_get t.nodes.items op.node ≡ Some x)
-    (slots : Slots) (r : TakenItem) → operator ≢ Constant → (operator_uses_bit operator optional ≡ false)
+    (spot : IsAtSpot (set_of t) l m from.place) (at : IsArmOp (set_of t) from.place op (a_field kind operator optional)) (x : Node)
+    (found : slice_get t.nodes.items op.node ≡ Some x) (slots : Slots) (r : TakenItem) → operator ≢ Constant → (operator_uses_bit operator optional ≡ false)
     ⊎ (first_bit (bits_left (at_place m.cursor from.place)) ≡ true) → slots_terms slots ≡ slots_terms m.slots
     → IsSentItem kind optional operator op.entry l.strict from.rest.bytes.now m.slots slots r
     → IsFieldTaken (set_of t) l m (record m { slots = slots }) from op.node
-    (field_of t l m from.place op kind operator optional spot at coded x found) (option_map number_data r.item) r.bytes
-item_taken t l m from op kind operator optional spot at coded x found slots r varies stands terms h =
-    let f = field_of t l m from.place op kind operator optional spot at coded x found in
-    let (some, within, gives) = h f (bounds l) [] (as_coded t l m from.place op kind operator optional spot at coded x found)
-    (served t l m from.place op kind operator optional spot at coded x found) in
+    (field_of t l m from.place op kind operator optional spot at x found) (option_map number_data r.item) r.bytes
+item_taken t l m from op kind operator optional spot at x found slots r varies stands terms h =
+    let f = field_of t l m from.place op kind operator optional spot at x found in
+    let (some, within, gives) = h f (bounds l) [] (as_coded t l m from.place op kind operator optional spot at x found)
+    (served t l m from.place op kind operator optional spot at x found) in
     record {
       spot = spot;
       kept = refl;
       terms = terms;
       room = refl;
-      at = at_field t l m from.place op kind operator optional spot at coded x found;
-      sent = is_sent t l m from.place op kind operator optional spot at coded x found varies stands;
+      at = at_field t l m from.place op kind operator optional spot at x found;
+      sent = is_sent t l m from.place op kind operator optional spot at x found varies stands;
       some = some;
       within = within;
       outcome = gives.outcome;
@@ -125,25 +126,25 @@ item_taken t l m from op kind operator optional spot at coded x found slots r va
 
 -- A number of which nothing is sent, or none, by what is decided for this field.
 pub decided_unsent : (t : Templates) (l : Limits) (m : Machine) (p : Place) (op : Op) (kind : Kind) (operator : Operator) (optional : Bool)
-    (spot : IsAtSpot (set_of t) l m p) (at : IsAtOp (set_of t) p op) (coded : IsFieldOp (set_of t) op kind operator optional) (x : Node)
+    (spot : IsAtSpot (set_of t) l m p) (at : IsArmOp (set_of t) p op (a_field kind operator optional)) (x : Node)
     (found : slice_get t.nodes.items op.node ≡ Some x)
     (slots : Slots) (item : Option Number) → operator_uses_bit operator optional ≡ true → needs_bytes operator false ≡ false
     → first_bit (bits_left (at_place m.cursor p)) ≡ false → slots_terms slots ≡ slots_terms m.slots
-    → IsDecided (decide (field_of t l m p op kind operator optional spot at coded x found)
-    (previous_at (field_of t l m p op kind operator optional spot at coded x found).entry (slots_dictionary m.slots)) false nothing)
-    (field_of t l m p op kind operator optional spot at coded x found) (slots_dictionary m.slots) (slots_dictionary slots)
+    → IsDecided (decide (field_of t l m p op kind operator optional spot at x found)
+    (previous_at (field_of t l m p op kind operator optional spot at x found).entry (slots_dictionary m.slots)) false nothing)
+    (field_of t l m p op kind operator optional spot at x found) (slots_dictionary m.slots) (slots_dictionary slots)
     (Ok (source_of item))
     → IsFieldUnsent (set_of t) l m (record m { slots = slots }) p op.node
-    (field_of t l m p op kind operator optional spot at coded x found) false (option_map number_data item)
-decided_unsent t l m p op kind operator optional spot at coded x found slots item uses unneeded clear terms (outcome, decided, settled) =
-    let f = field_of t l m p op kind operator optional spot at coded x found in
-    let same = as_coded t l m p op kind operator optional spot at coded x found in
+    (field_of t l m p op kind operator optional spot at x found) false (option_map number_data item)
+decided_unsent t l m p op kind operator optional spot at x found slots item uses unneeded clear terms (outcome, decided, settled) =
+    let f = field_of t l m p op kind operator optional spot at x found in
+    let same = as_coded t l m p op kind operator optional spot at x found in
     record {
       spot = spot;
       kept = refl;
       terms = terms;
-      at = at_field t l m p op kind operator optional spot at coded x found;
-      is_bit = bit_clear t l m p op kind operator optional spot at coded x found uses clear;
+      at = at_field t l m p op kind operator optional spot at x found;
+      is_bit = bit_clear t l m p op kind operator optional spot at x found uses clear;
       unsent = stands_unsent f false (bounds l) _ (ap (λ o. needs_bytes o false) same.operator ∙ unneeded);
       outcome = outcome;
       decided = decided;
@@ -153,14 +154,14 @@ decided_unsent t l m p op kind operator optional spot at coded x found slots ite
 
 -- The same by what is decided for each field that is so.
 pub item_unsent : (t : Templates) (l : Limits) (m : Machine) (p : Place) (op : Op) (kind : Kind) (operator : Operator) (optional : Bool)
-    (spot : IsAtSpot (set_of t) l m p) (at : IsAtOp (set_of t) p op) (coded : IsFieldOp (set_of t) op kind operator optional) (x : Node)
+    (spot : IsAtSpot (set_of t) l m p) (at : IsArmOp (set_of t) p op (a_field kind operator optional)) (x : Node)
     (found : slice_get t.nodes.items op.node ≡ Some x)
     (slots : Slots) (item : Option Number) → operator_uses_bit operator optional ≡ true → needs_bytes operator false ≡ false
     → first_bit (bits_left (at_place m.cursor p)) ≡ false → slots_terms slots ≡ slots_terms m.slots
     → IsUnsentItem kind optional operator op.entry m.slots slots item
     → IsFieldUnsent (set_of t) l m (record m { slots = slots }) p op.node
-    (field_of t l m p op kind operator optional spot at coded x found) false (option_map number_data item)
-item_unsent t l m p op kind operator optional spot at coded x found slots item uses unneeded clear terms h =
-    decided_unsent t l m p op kind operator optional spot at coded x found slots item uses unneeded clear terms
-    (h (field_of t l m p op kind operator optional spot at coded x found)
-    (as_coded t l m p op kind operator optional spot at coded x found) (served t l m p op kind operator optional spot at coded x found))
+    (field_of t l m p op kind operator optional spot at x found) false (option_map number_data item)
+item_unsent t l m p op kind operator optional spot at x found slots item uses unneeded clear terms h =
+    decided_unsent t l m p op kind operator optional spot at x found slots item uses unneeded clear terms
+    (h (field_of t l m p op kind operator optional spot at x found)
+    (as_coded t l m p op kind operator optional spot at x found) (served t l m p op kind operator optional spot at x found))

@@ -8,7 +8,7 @@ use Rattle.fast_tree.specs.declared.instructions.Node.{Node}
 use Rattle.fast_tree.specs.declared.instructions.Shape.TheVariants.{Group}
 use Rattle.fast_tree.specs.meaning.Tree.{group}
 use Rattle.fast_program.specs.declared.ops.Op.{Op}
-use Rattle.fast_program.specs.device.Codes.{IsGroupCoded}
+use Rattle.fast_program.specs.device.Codes.{group_of}
 use Rattle.fast_template.specs.declared.sets.Templates.{Templates}
 use Rattle.fast_value.specs.meaning.Limits.{bounds}
 use Rattle.fast_dict.specs.meaning.Slots.{slots_dictionary}
@@ -25,7 +25,7 @@ use Rattle.fast_machine.specs.declared.machine.Turn.TheVariants.{Silent}
 use Rattle.fast_loop.specs.declared.spot.Spot.{Spot}
 use Rattle.fast_machine.specs.declared.turns.Turns.{Turns}
 use Rattle.fast_machine.specs.device.Positions.{placed, Set, set_of, body_in, IsAtGroup, CanTurn, IsTurn, turning}
-use Rattle.fast_loop.specs.device.Arms.{IsAtOp, IsGroupHere}
+use Rattle.fast_loop.specs.device.Arms.{IsArmOp, IsGroupHere}
 use Rattle.fast_machine.specs.device.Steps.{IsStep}
 use Rattle.fast_machine.specs.device.TurnsLeft.{Way, IsWithinTurns, HasTurnsBehind}
 use Rattle.fast_machine.proofs.fields.Heads.{group_head}
@@ -36,14 +36,14 @@ use Rattle.fast_machine.proofs.streams.Running.{turn_step}
 
 -- The next instruction is a group, by its op.
 pub group_here : (t : Templates) (c : CursorData) (p : Place) (op : Op) (node : ℕ) (v : Node) (may : Bool) (body : Vec ℕ Global) (ns : List ℕ) (optional : Bool)
-    → IsAtOp (set_of t) p op → ((x : Node) → slice_get t.nodes.items op.node ≡ Some x → IsGroupCoded optional x.shape)
+    → IsArmOp (set_of t) p op (group_of optional)
     → node ≡ op.node → slice_get t.nodes.items node ≡ Some v → v.shape ≡ Group may body → ns ≡ body.items → IsAtGroup (set_of t) (at_place c p) node optional ns
-group_here t c p op node v may body ns optional at coded same there shape items =
-    let (inside, is) = coded v (subst (λ i. slice_get t.nodes.items i ≡ Some v) same there) in
+group_here t c p op node v may body ns optional at same there shape items =
+    let (inside, is) = at.is v (subst (λ i. slice_get t.nodes.items i ≡ Some v) same there) in
     let both : Group optional inside ≡ Group may body = sym is ∙ shape in
     let here : may ≡ optional = sym (cc both) in
     subst (λ b. IsAtGroup (set_of t) (at_place c p) node b ns) here
-    (group_head t (at_place c p) node v (at.1 ∙ ap Some (sym same)) there may body ns shape items)
+    (group_head t (at_place c p) node v (at.first ∙ ap Some (sym same)) there may body ns shape items)
 
 -- A group that has no bit is there.
 pub group_always : (set : Set) (l : Limits) (m : Machine) (from : Spot) (node : ℕ) (body : List ℕ)

@@ -19,7 +19,7 @@ use Rattle.fast_tree.specs.meaning.Nodes.{field_data}
 use Rattle.fast_tree.specs.meaning.Entries.{keeps_value}
 use Rattle.fast_tree.specs.meaning.Tree.{FieldData, sequence, uses_bit, operator_uses_bit}
 use Rattle.fast_program.specs.declared.ops.Op.{Op}
-use Rattle.fast_program.specs.device.Codes.{IsSequenceCoded}
+use Rattle.fast_program.specs.device.Codes.{sequence_of}
 use Rattle.fast_template.specs.declared.sets.Templates.{Templates}
 use Rattle.fast_dict.specs.meaning.Dictionary.{Dictionary, previous_at, write_at}
 use Rattle.fast_dict.specs.meaning.Slots.{slots_dictionary, slots_terms}
@@ -51,7 +51,7 @@ use Rattle.fast_machine.specs.declared.machine.Turn.TheVariants.{Silent}
 use Rattle.fast_loop.specs.declared.spot.Spot.{Spot}
 use Rattle.fast_machine.specs.declared.turns.Turns.{Turns}
 use Rattle.fast_machine.specs.device.Positions.{placed, Set, set_of, body_in, bit_of, IsAtSequence, CanTurn, IsTurn, turning}
-use Rattle.fast_loop.specs.device.Arms.{IsAtOp, IsAtSpot, IsLengthTaken}
+use Rattle.fast_loop.specs.device.Arms.{IsArmOp, IsAtSpot, IsLengthTaken}
 use Rattle.fast_machine.specs.device.Opening.{opened_result, opened_by}
 use Rattle.fast_machine.specs.device.Passing.{state_past}
 use Rattle.fast_machine.specs.device.Steps.{IsStep}
@@ -135,19 +135,18 @@ length_taken set l m from node f body optional x n spot next so serves first =
 -- The same of the next instruction's node.
 pub sequence_taken : (t : Templates) (l : Limits) (m : Machine) (from : Spot) (op : Op) (node : ℕ) (v : Node) (length : FieldInstruction)
     (body : Vec ℕ Global) (ns : List ℕ) (optional : Bool) (x : Option ℕ) (n : ℕ)
-    → IsAtSpot (set_of t) l m from.place → IsAtOp (set_of t) from.place op
-    → ((y : Node) → slice_get t.nodes.items op.node ≡ Some y → IsSequenceCoded optional y.shape)
+    → IsAtSpot (set_of t) l m from.place → IsArmOp (set_of t) from.place op (sequence_of optional)
     → node ≡ op.node → slice_get t.nodes.items node ≡ Some v → v.shape ≡ Sequence length body → ns ≡ body.items
     → IsFirstInt (λ y. option_map pos y) l.strict (unsigned_up_to 4294967295) optional (First.Whole x n) from.rest.bytes.now
     → IsLengthTaken (set_of t) l m from node (field_data length) ns (option_map U x) n
-sequence_taken t l m from op node v x body ns optional y n spot at coded same there shape items first =
+sequence_taken t l m from op node v x body ns optional y n spot at same there shape items first =
     let set = set_of t in
-    let (own, inside, is, operator, absent) = coded v (subst (λ i. slice_get t.nodes.items i ≡ Some v) same there) in
+    let (own, inside, is, operator, absent) = at.is v (subst (λ i. slice_get t.nodes.items i ≡ Some v) same there) in
     let both : Sequence own inside ≡ Sequence x body = sym is ∙ shape in
     let here : own ≡ x = cc both in
     let served = served_node set l (placed m from.place) node v (Sequence x body) spot.can.supplied there shape in
     length_taken set l m from node (field_data x) ns optional y n spot
-    (sequence_head t (at_place m.cursor from.place) node v (at.1 ∙ ap Some (sym same)) there x body ns shape items)
+    (sequence_head t (at_place m.cursor from.place) node v (at.first ∙ ap Some (sym same)) there x body ns shape items)
     (record {
       kind = served.1;
       optional = ap (λ (f : FieldInstruction). f.optional) (sym here) ∙ absent;

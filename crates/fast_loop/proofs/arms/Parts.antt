@@ -16,6 +16,7 @@ use Rattle.fast_tree.specs.declared.instructions.Shape.TheVariants.{Decimal}
 use Rattle.fast_tree.specs.meaning.Nodes.{field_data}
 use Rattle.fast_template.specs.declared.sets.Templates.{Templates}
 use Rattle.fast_program.specs.declared.ops.Op.{Op}
+use Rattle.fast_program.specs.device.Codes.{Claim}
 use Rattle.fast_tree.specs.declared.instructions.Shape.{Shape}
 use Rattle.fast_tree.specs.declared.operators.Operator.{Operator}
 use Rattle.fast_tree.specs.declared.operators.Operator.TheVariants.{Default, Copy, Delta}
@@ -46,7 +47,7 @@ use Rattle.fast_cursor.specs.device.Places.{place_left, at_place, IsPlaceOf}
 use Rattle.fast_machine.specs.declared.machine.Machine.{Machine}
 use Rattle.fast_loop.specs.declared.spot.Spot.{Spot}
 use Rattle.fast_machine.specs.device.Positions.{placed, Set, body_in, frames_in, bit_of, set_of, turning}
-use Rattle.fast_loop.specs.device.Arms.{IsAtSpot, IsAtOp}
+use Rattle.fast_loop.specs.device.Arms.{IsAtSpot, IsArmOp}
 use Rattle.fast_loop.specs.device.Parts.{bit_at_place, IsAtDecimal, IsLedTo}
 use Rattle.fast_machine.specs.device.Passing.{value_then}
 use Rattle.fast_machine.proofs.fields.Heads.{parts_head}
@@ -55,14 +56,14 @@ use Rattle.fast_machine.proofs.fields.SentFields.{field_sent, field_unsent}
 use Rattle.fast_machine.proofs.steps.FieldTurns.{serves_here, serves_known, can_turn_slots, behind, parts_next}
 
 -- The op's node is a decimal by these parts.
-pub at_decimal : (t : Templates) (l : Limits) (m : Machine) (p : Place) (op : Op) → IsAtSpot (set_of t) l m p → IsAtOp (set_of t) p op
+pub at_decimal : (t : Templates) (l : Limits) (m : Machine) (p : Place) (op : Op) {claim : Claim} → IsAtSpot (set_of t) l m p → IsArmOp (set_of t) p op claim
     → (x : Node) → slice_get t.nodes.items op.node ≡ Some x → (e f : FieldInstruction) → x.shape ≡ Decimal e f
     → IsAtDecimal (set_of t) l m p op.node e f
 at_decimal t l m p op spot at x found e f is =
     let served = served_node (set_of t) l (placed m p) op.node x (Decimal e f) spot.can.supplied found is in
     record {
       spot = spot;
-      next = parts_head t (at_place m.cursor p) op.node x at.1 found e f is;
+      next = parts_head t (at_place m.cursor p) op.node x at.first found e f is;
       exponent = served.0;
       mantissa = served.1;
       exponent_kind = served.2;

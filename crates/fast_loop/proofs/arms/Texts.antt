@@ -16,6 +16,7 @@ use Rattle.fast_tree.specs.meaning.Entries.{keeps_value}
 use Rattle.fast_tree.specs.meaning.Tree.{FieldData, operator_uses_bit, uses_bit}
 use Rattle.fast_template.specs.declared.sets.Templates.{Templates}
 use Rattle.fast_program.specs.declared.ops.Op.{Op}
+use Rattle.fast_program.specs.device.Codes.{constant_field, field_of as a_field}
 use Rattle.fast_dict.specs.declared.slots.Slots.{Slots}
 use Rattle.fast_dict.specs.meaning.Dictionary.{previous_at}
 use Rattle.fast_dict.specs.meaning.Operators.{decide, nothing}
@@ -34,7 +35,7 @@ use Rattle.fast_cursor.specs.device.Places.{at_place}
 use Rattle.fast_machine.specs.declared.machine.Machine.{Machine}
 use Rattle.fast_loop.specs.declared.spot.Spot.{Spot}
 use Rattle.fast_machine.specs.device.Positions.{placed, Set, set_of, state_in, bit_of, IsAtField}
-use Rattle.fast_loop.specs.device.Arms.{IsAtSpot, IsAtOp, IsFieldOp, IsFieldTaken, IsFieldUnsent}
+use Rattle.fast_loop.specs.device.Arms.{IsAtSpot, IsArmOp, IsFieldTaken, IsFieldUnsent}
 use Rattle.fast_loop.proofs.arms.Fields.{field_of, as_coded, at_field, is_sent, bit_clear, served}
 use Rattle.fast_machine.proofs.fields.Heads.{field_head}
 use Rattle.fast_machine.proofs.fields.FieldNodes.{served_node}
@@ -68,29 +69,29 @@ value_unsent set l m p node f bit slots source scratch piece value spot at is_bi
 
 -- A text that stands whole in the piece.
 pub text_taken : (t : Templates) (l : Limits) (m : Machine) (from : Spot) (op : Op) (kind : Kind) (operator : Operator) (optional : Bool)
-    (spot : IsAtSpot (set_of t) l m from.place) (at : IsAtOp (set_of t) from.place op)
-    (coded : IsFieldOp (set_of t) op kind operator optional) (x : Node) (found : slice_get t.nodes.items op.node ≡ Some x)
-    (slots : Slots) (text : Scratch) (source : ValueSource) (first n : ℕ) (scratch : List ℕ) (value : Option ScalarData)
+    (spot : IsAtSpot (set_of t) l m from.place) (at : IsArmOp (set_of t) from.place op (a_field kind operator optional)) (x : Node)
+    (found : slice_get t.nodes.items op.node ≡ Some x) (slots : Slots) (text : Scratch) (source : ValueSource) (first n : ℕ)
+    (scratch : List ℕ) (value : Option ScalarData)
     → operator ≢ Constant → (operator_uses_bit operator optional ≡ false)
     ⊎ (first_bit (bits_left (at_place m.cursor from.place)) ≡ true)
     → slots_terms slots ≡ slots_terms m.slots → text.capacity ≡ m.text.capacity
-    → GivesWhole (reader_in m.slots l.strict (bounds l) (field_of t l m from.place op kind operator optional spot at coded x found))
-    (field_of t l m from.place op kind operator optional spot at coded x found) from.rest.bytes.now (slots_dictionary m.slots)
+    → GivesWhole (reader_in m.slots l.strict (bounds l) (field_of t l m from.place op kind operator optional spot at x found))
+    (field_of t l m from.place op kind operator optional spot at x found) from.rest.bytes.now (slots_dictionary m.slots)
     (slots_dictionary slots) scratch source first n
-    → value ≡ value_at source (field_of t l m from.place op kind operator optional spot at coded x found) (slots_dictionary slots) scratch
+    → value ≡ value_at source (field_of t l m from.place op kind operator optional spot at x found) (slots_dictionary slots) scratch
     (drop first (take n from.rest.bytes.now))
     → IsFieldTaken (set_of t) l m (record m {
       slots = slots;
       text = text;
-    }) from op.node (field_of t l m from.place op kind operator optional spot at coded x found) value n
-text_taken t l m from op kind operator optional spot at coded x found slots text source first n scratch value varies stands terms
+    }) from op.node (field_of t l m from.place op kind operator optional spot at x found) value n
+text_taken t l m from op kind operator optional spot at x found slots text source first n scratch value varies stands terms
     room (some, within, gives) is_value = record {
       spot = spot;
       kept = refl;
       terms = terms;
       room = room;
-      at = at_field t l m from.place op kind operator optional spot at coded x found;
-      sent = is_sent t l m from.place op kind operator optional spot at coded x found varies stands;
+      at = at_field t l m from.place op kind operator optional spot at x found;
+      sent = is_sent t l m from.place op kind operator optional spot at x found varies stands;
       some = some;
       within = within;
       outcome = gives.outcome;
@@ -105,14 +106,14 @@ constant_bit i operator optional = ap (λ o. operator_uses_bit o i.optional) ope
 
 -- A constant that is there.
 pub constant_unsent : (t : Templates) (l : Limits) (m : Machine) (p : Place) (op : Op) (i : FieldInstruction) (x : Node)
-    (value : Option ScalarData) → IsAtSpot (set_of t) l m p → IsAtOp (set_of t) p op → slice_get t.nodes.items op.node ≡ Some x
+    (value : Option ScalarData) → IsAtSpot (set_of t) l m p → IsArmOp (set_of t) p op constant_field → slice_get t.nodes.items op.node ≡ Some x
     → x.shape ≡ Shape.Field i
     → i.operator ≡ Constant → i.optional ≡ false → value ≡ (field_data i).initial → IsFieldUnsent (set_of t) l m m p op.node (field_data i) true value
 constant_unsent t l m p op i x value spot at found shape operator optional is_value =
     let f = field_data i in
     let serves = serves_here (set_of t) l (placed m p) f spot.can.supplied
     (served_node (set_of t) l (placed m p) op.node x (Shape.Field i) spot.can.supplied found shape) in
-    value_unsent (set_of t) l m p op.node f true m.slots From.Initial [] [] value spot (field_head t (at_place m.cursor p) op.node x at.1 found i shape)
+    value_unsent (set_of t) l m p op.node f true m.slots From.Initial [] [] value spot (field_head t (at_place m.cursor p) op.node x at.first found i shape)
     (sym (ap (λ b. if b then first_bit (bits_left (at_place m.cursor p)) else true) (constant_bit i operator optional)))
     (ap (λ o. needs_bytes o true) operator) refl
     (constant_decided f (slots_dictionary m.slots) true (no_entry f serves (ap keeps_value operator)) operator refl) is_value
@@ -123,13 +124,13 @@ keeps_text operator (inl e) = (ap keeps_value e, ap (λ o. needs_bytes o false) 
 keeps_text operator (inr e) = (ap keeps_value e, ap (λ o. needs_bytes o false) e)
 
 module _ (t : Templates) (l : Limits) (m : Machine) (p : Place) (op : Op) (kind : Kind) (operator : Operator) (optional : Bool)
-    (spot : IsAtSpot (set_of t) l m p) (at : IsAtOp (set_of t) p op) (coded : IsFieldOp (set_of t) op kind operator optional) (x : Node)
+    (spot : IsAtSpot (set_of t) l m p) (at : IsArmOp (set_of t) p op (a_field kind operator optional)) (x : Node)
     (found : slice_get t.nodes.items op.node ≡ Some x) where
   abbrev its_field : FieldData
-  its_field = field_of t l m p op kind operator optional spot at coded x found
+  its_field = field_of t l m p op kind operator optional spot at x found
 
   its_own : IsFieldAs its_field kind optional operator op.entry
-  its_own = as_coded t l m p op kind operator optional spot at coded x found
+  its_own = as_coded t l m p op kind operator optional spot at x found
 
   -- A field that uses a bit, which is clear.
   bit_unsent : (source : ValueSource) (scratch piece : List ℕ) (value : Option ScalarData) → operator_uses_bit operator optional ≡ true
@@ -139,8 +140,8 @@ module _ (t : Templates) (l : Limits) (m : Machine) (p : Place) (op : Op) (kind 
       → value ≡ value_at source its_field (slots_dictionary m.slots) scratch piece → IsFieldUnsent (set_of t) l m m p op.node its_field false value
   bit_unsent source scratch piece value uses unneeded clear decided is_value =
       value_unsent (set_of t) l m p op.node its_field false m.slots source scratch piece value spot
-      (at_field t l m p op kind operator optional spot at coded x found)
-      (bit_clear t l m p op kind operator optional spot at coded x found uses clear)
+      (at_field t l m p op kind operator optional spot at x found)
+      (bit_clear t l m p op kind operator optional spot at x found uses clear)
       (ap (λ o. needs_bytes o false) its_own.operator ∙ unneeded) refl decided is_value
 
   -- The initial value, under default.
@@ -150,7 +151,7 @@ module _ (t : Templates) (l : Limits) (m : Machine) (p : Place) (op : Op) (kind 
       let own : its_field.operator ≡ Default = its_own.operator ∙ default in
       bit_unsent From.Initial [] [] value (ap (λ o. operator_uses_bit o optional) default) (ap (λ o. needs_bytes o false) default) clear
       (default_decided its_field (slots_dictionary m.slots) false
-      (no_entry its_field (served t l m p op kind operator optional spot at coded x found) (ap keeps_value own)) own refl) is_value
+      (no_entry its_field (served t l m p op kind operator optional spot at x found) (ap keeps_value own)) own refl) is_value
 
   -- A text that the entry holds, or none, under copy and tail.
   pub text_unsent : (source : ValueSource) (scratch piece : List ℕ) (value : Option ScalarData) → (operator ≡ Copy) ⊎ (operator ≡ Tail)

@@ -1,5 +1,5 @@
 -- Steps of the machine's loop, one after the other.
-use Rattle.std.proofs.Common.{refl, sym, ap, ◌∙◌, subst}
+use Rattle.std.proofs.Common.{refl, sym, ap, ◌∙◌, subst, arith}
 use Rattle.std.specs.Prelude.{◌≡◌, ◌≢◌, ℕ, ◌-◌, ◌≤◌, List, length, drop, Result, Ok, Err}
 use Rattle.std.proofs.lemmas.List.{take_rest, length-drop}
 use Rattle.fast_value.specs.declared.settings.Limits.{Limits}
@@ -21,10 +21,9 @@ use Rattle.fast_machine.proofs.streams.Running.{IsSoFar, so_far_step, so_far_end
 
 module _ {S : Type 0} (takes stops : S → EventData → S → Type 0) (set : Set) (l : Limits) (m : Machine) (from : Spot) (s : S) where
   -- The same under other names.
-  pub went_as : {went : Went} {s' : S} {m' : Machine} {to : Spot} (went' : Went) (s'' : S) (m'' : Machine) (to' : Spot) → m'' ≡ m'
-      → s'' ≡ s' → to' ≡ to → went' ≡ went
+  pub went_as : {went went' : Went} {s' s'' : S} {m' m'' : Machine} {to to' : Spot} → m'' ≡ m' → s'' ≡ s' → to' ≡ to → went' ≡ went
       → HasWent takes stops set l m from s went s' m' to → HasWent takes stops set l m from s went' s'' m'' to'
-  went_as {went} {s'} {m'} {to} went' s'' m'' to' e f g i h =
+  went_as {went} {went'} {s'} {s''} {m'} {m''} {to} {to'} e f g i h =
       subst (λ (x : Machine). HasWent takes stops set l m from s went' s'' x to') (sym e)
       (subst (λ (x : S). HasWent takes stops set l m from s went' x m' to') (sym f)
       (subst (λ (x : Spot). HasWent takes stops set l m from s went' s' m' x) (sym g)
@@ -49,25 +48,6 @@ module _ {S : Type 0} (takes stops : S → EventData → S → Type 0) (set : Se
       by : HasWent takes stops set l m from s Went.Declined s' m' to → IsAtSpot set l m' to.place
       by (e, f, g) = subst (λ (x : Machine). IsAtSpot set l x to.place) (sym e) (subst (λ (x : Spot). IsAtSpot set l m x.place) (sym f) spot)
 
-  module _ (n : ℕ) (turn : Turn) (s' : S) (m' : Machine) (to : Spot) (w : WentBy takes stops set l m from s n turn s' m' to) where
-    -- So many bytes less are left.
-    pub went_left : length to.rest.bytes.now ≡ length from.rest.bytes.now - n
-    went_left = ap length w.rest ∙ length-drop n from.rest.bytes.now
-
-    pub went_within : n ≤ length from.rest.bytes.now
-    went_within = w.step.within
-
-    -- A step more.
-    pub went_far : (m0 : Machine) (piece : List ℕ) (s0 : S) → turn ≢ Waits
-        → IsSoFar takes stops set l m0 piece s0 from.rest.bytes.now s (placed m from.place)
-        → IsSoFar takes stops set l m0 piece s0 to.rest.bytes.now s' (placed m' to.place)
-    went_far m0 piece s0 on far =
-        subst (λ (x : List ℕ). IsSoFar takes stops set l m0 piece s0 x s' (placed m' to.place)) (take_rest from.rest.bytes.now n ∙ sym w.rest)
-        (so_far_step takes stops set l m0 piece s0 from.rest.bytes.now s (placed m from.place) (record {
-          bytes = n;
-          turn = Ok turn;
-        }) turn s' (placed m' to.place) refl on far w.step)
-
   -- A step in the general way, whose machine stands at its own place.
   pub step_at : (cur : CursorData) (n : ℕ) (turn : Result Turn FaultCode) (q : UnitTaken) (s' : S) (b : Machine) (p : Place)
       → cur ≡ at_place m.cursor from.place → q.bytes ≡ n → q.turn ≡ turn → at_place b.cursor p ≡ b.cursor
@@ -82,24 +62,41 @@ module _ {S : Type 0} (takes stops : S → EventData → S → Type 0) (set : Se
       (subst (λ (x : Result Turn FaultCode). IsStep takes stops set l (record m { cursor = cur }) from.rest.bytes.now s (record { bytes = n; turn = x }) s' b) g
       (subst (λ (k : ℕ). IsStep takes stops set l (record m { cursor = cur }) from.rest.bytes.now s (record { bytes = k; turn = q.turn }) s' b) f step)))
 
-  -- The last one.
-  pub gone_end : (n : ℕ) (outcome : Result Unit FaultCode) (s' : S) (m' : Machine) (w : List ℕ) (m0 : Machine) (piece : List ℕ) (s0 : S)
-      → w ≡ drop n from.rest.bytes.now
-      → IsStep takes stops set l (placed m from.place) from.rest.bytes.now s (record {
+module _ {S : Type 0} {takes stops : S → EventData → S → Type 0} {set : Set} {l : Limits} {m : Machine} {from : Spot} {s : S}
+    {n : ℕ} {turn : Turn} {s' : S} {m' : Machine} {to : Spot} (w : WentBy takes stops set l m from s n turn s' m' to) where
+  -- So many bytes less are left.
+  pub went_left : length to.rest.bytes.now ≡ length from.rest.bytes.now - n
+  went_left = ap length w.rest ∙ length-drop n from.rest.bytes.now
+
+  pub went_within : {j k : ℕ} → length from.rest.bytes.now ≤ j → j ≤ k → length to.rest.bytes.now ≤ k
+  went_within before more = let left = went_left in omega (arith, left, before, more)
+
+  -- A step more.
+  pub went_far : {m0 : Machine} {piece : List ℕ} {s0 : S} → turn ≢ Waits
+      → IsSoFar takes stops set l m0 piece s0 from.rest.bytes.now s (placed m from.place)
+      → IsSoFar takes stops set l m0 piece s0 to.rest.bytes.now s' (placed m' to.place)
+  went_far {m0} {piece} {s0} on far =
+      subst (λ (x : List ℕ). IsSoFar takes stops set l m0 piece s0 x s' (placed m' to.place)) (take_rest from.rest.bytes.now n ∙ sym w.rest)
+      (so_far_step takes stops set l m0 piece s0 from.rest.bytes.now s (placed m from.place) (record {
         bytes = n;
-        turn = ended outcome;
-      }) s' m' → IsSoFar takes stops set l m0 piece s0 from.rest.bytes.now s (placed m from.place)
-      → IsStep takes stops set l m0 piece s0 (record { bytes = length piece - length w; turn = ended outcome }) s' m'
-  gone_end n outcome s' m' w m0 piece s0 rest step far =
-      subst (λ (x : List ℕ). IsStep takes stops set l m0 piece s0 (record {
-        bytes = length piece - length x;
-        turn = ended outcome;
-      }) s' m') (take_rest from.rest.bytes.now n ∙ sym rest)
-      (so_far_end takes stops set l m0 piece s0 from.rest.bytes.now s (placed m from.place) (record {
-        bytes = n;
-        turn = ended outcome;
-      }) (ended outcome) s' m' refl (by outcome) far step)
-    where
-      by : (o : Result Unit FaultCode) (t : Turn) → ended o ≡ Ok t → t ≡ Waits
-      by (Ok u) t e = sym (cc e)
-      by (Err c) t e = absurd (cc e)
+        turn = Ok turn;
+      }) turn s' (placed m' to.place) refl on far w.step)
+
+-- The last step.
+pub gone_end : {S : Type 0} {takes stops : S → EventData → S → Type 0} {set : Set} {l : Limits} {m0 m m' : Machine} {s0 s s' : S}
+    {piece from : List ℕ} (n : ℕ) (outcome : Result Unit FaultCode) (w : List ℕ) → w ≡ drop n from
+    → IsStep takes stops set l m from s (record { bytes = n; turn = ended outcome }) s' m' → IsSoFar takes stops set l m0 piece s0 from s m
+    → IsStep takes stops set l m0 piece s0 (record { bytes = length piece - length w; turn = ended outcome }) s' m'
+gone_end {S} {takes} {stops} {set} {l} {m0} {m} {m'} {s0} {s} {s'} {piece} {from} n outcome w rest step far =
+    subst (λ (x : List ℕ). IsStep takes stops set l m0 piece s0 (record {
+      bytes = length piece - length x;
+      turn = ended outcome;
+    }) s' m') (take_rest from n ∙ sym rest)
+    (so_far_end takes stops set l m0 piece s0 from s m (record {
+      bytes = n;
+      turn = ended outcome;
+    }) (ended outcome) s' m' refl (by outcome) far step)
+  where
+    by : (o : Result Unit FaultCode) (t : Turn) → ended o ≡ Ok t → t ≡ Waits
+    by (Ok u) t e = sym (cc e)
+    by (Err c) t e = absurd (cc e)

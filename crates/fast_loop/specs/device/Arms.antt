@@ -20,7 +20,6 @@ use Rattle.fast_units.specs.device.Settling.{Serves}
 use Rattle.fast_units.specs.device.Taking.{Turns}
 use Rattle.fast_units.specs.device.UnitFronts.{IsSent}
 use Rattle.fast_items.specs.declared.taken.TakenText.{TakenText}
-use Rattle.fast_value.specs.declared.kinds.Kind.{Kind}
 use Rattle.fast_value.specs.declared.kinds.Kind.TheVariants.{Ascii}
 use Rattle.fast_tree.specs.declared.operators.Operator.{Operator}
 use Rattle.fast_tree.specs.declared.instructions.FieldInstruction.{FieldInstruction}
@@ -28,7 +27,7 @@ use Rattle.fast_tree.specs.declared.instructions.Node.{Node}
 use Rattle.fast_tree.specs.declared.instructions.Shape.TheVariants as Shape
 use Rattle.fast_tree.specs.meaning.Nodes.{field_data}
 use Rattle.fast_program.specs.declared.ops.Op.{Op}
-use Rattle.fast_program.specs.device.Codes.{IsFieldCoded}
+use Rattle.fast_program.specs.device.Codes.{Claim, IsClaimed}
 use Rattle.fast_cursor.specs.device.Segments.{first_node}
 use Rattle.fast_cursor.specs.device.Places.{place_left, at_place, IsPlaceOf}
 use Rattle.fast_cursor.specs.declared.place.Place.{Place}
@@ -43,13 +42,11 @@ use Rattle.fast_machine.specs.device.Passing.{group_from, length_then}
 use Rattle.fast_machine.specs.device.Positions.{Set, placed, state_in, bit_of, IsAtField, IsAtSequence, CanTurn, turning}
 use Rattle.fast_machine.specs.device.Steps.{IsStep}
 
--- The next instruction is the op's node.
-abbrev pub IsAtOp : Set → Place → Op → Type 0
-IsAtOp set p op = (op.node < length set.nodes) × (first_node (place_left p) ≡ Some op.node)
-
--- The op's node is a field of the type, under the operator, optional or mandatory, with the op's entry.
-abbrev pub IsFieldOp : Set → Op → Kind → Operator → Bool → Type 0
-IsFieldOp set op kind operator optional = (x : Node) → slice_get set.nodes op.node ≡ Some x → IsFieldCoded kind operator optional op.entry x.shape
+-- The op that an arm is for: the next instruction is its node, for whose shape this claim holds.
+pub record IsArmOp (set : Set) (p : Place) (op : Op) (claim : Claim) : Type 0 where
+  pub below : op.node < length set.nodes
+  pub first : first_node (place_left p) ≡ Some op.node
+  pub is : (x : Node) → slice_get set.nodes op.node ≡ Some x → IsClaimed claim op.entry x.shape
 
 -- The op's node, if it is a field of ASCII strings under the operator, optional or mandatory, is this string, or absent, complete in these
 -- bytes.

@@ -1,17 +1,13 @@
 -- The arm of decimals by parts, and the steps past an instruction of a number of bytes, if any.
-use Rattle.std.specs.Prelude.{◌≡◌, ℕ, ◌<◌, ◌≤◌, Bool, true, if◌then◌else◌, length, take, drop, slice_get, Option, Some}
+use Rattle.std.specs.Prelude.{◌≡◌, ℕ, ◌<◌, ◌≤◌, Bool, true, if◌then◌else◌, length, take, drop, Option}
 use Rattle.fast_wire.specs.meaning.Maps.{first_bit}
 use Rattle.fast_value.specs.declared.settings.Limits.{Limits}
 use Rattle.fast_value.specs.declared.kinds.Kind.TheVariants.{Int32, Int64}
 use Rattle.fast_value.specs.meaning.Kinds.{ScalarData}
 use Rattle.fast_value.specs.meaning.Limits.{bounds}
 use Rattle.fast_tree.specs.declared.instructions.FieldInstruction.{FieldInstruction}
-use Rattle.fast_tree.specs.declared.instructions.Node.{Node}
 use Rattle.fast_tree.specs.meaning.Nodes.{field_data}
 use Rattle.fast_tree.specs.meaning.Tree.{FieldData, uses_bit, Instruction, step}
-use Rattle.fast_program.specs.declared.ops.Op.{Op}
-use Rattle.fast_tree.specs.declared.operators.Operator.{Operator}
-use Rattle.fast_program.specs.device.Codes.{IsPartsCoded, IsChangedPartsCoded}
 use Rattle.fast_dict.specs.meaning.Slots.{slots_dictionary, slots_terms}
 use Rattle.fast_stream.specs.device.GrammarReaders.{reader_of}
 use Rattle.fast_units.specs.device.Settling.{Serves}
@@ -24,14 +20,6 @@ use Rattle.fast_loop.specs.declared.spot.Spot.{Spot}
 use Rattle.fast_machine.specs.device.Positions.{placed, Set, body_in, turning, IsAtParts}
 use Rattle.fast_loop.specs.device.Arms.{IsAtSpot}
 use Rattle.fast_machine.specs.device.Passing.{value_then}
-
--- The op's node is a decimal by parts.
-abbrev pub IsPartsOp : Set → Op → Type 0
-IsPartsOp set op = (x : Node) → slice_get set.nodes op.node ≡ Some x → IsPartsCoded x.shape
-
--- The op's node is a decimal by parts: an exponent under the operator, and a mandatory mantissa under delta.
-abbrev pub IsChangedPartsOp : Set → Op → Operator → Bool → Type 0
-IsChangedPartsOp set op operator optional = (x : Node) → slice_get set.nodes op.node ≡ Some x → IsChangedPartsCoded operator optional op.entry x.shape
 
 -- the presence bit of a field, which is next at the position: set, if it has none
 abbrev pub bit_at_place : CursorData → Place → FieldData → Bool

@@ -12,18 +12,18 @@ use Rattle.fast_loop.proofs.decimal_arms.changed_decimal_arm.Goals as goal
 pub changed_decimal-requires : goal.changed_decimal-requires
 changed_decimal-requires g c =
     let m = c.args.machine.now in
-    let (x, found) = op_node c.args.templates.now m c.args.spot.now.place c.args.op.now c.requires.at in
+    let (x, found) = op_node c.args.templates.now m c.args.spot.now.place c.args.op.now c.requires.op in
     record {
       within = entry_there c.args.templates.now c.args.limits m c.args.spot.now.place c.args.op.now Decimal Delta c.args.optional
-          c.requires.spot c.requires.at c.requires.field x found refl;
+          c.requires.spot c.requires.op x found refl;
     }
 
 pub hand_taken-requires-clause-within : goal.hand_taken-requires-clause-within
 hand_taken-requires-clause-within g c =
     let m = c.args.machine.now in
-    let (x, found) = op_node c.args.templates.now m c.args.spot.now.place c.args.op.now c.requires.at in
+    let (x, found) = op_node c.args.templates.now m c.args.spot.now.place c.args.op.now c.requires.op in
     (item_taken c.args.templates.now c.args.limits m c.args.spot.now c.args.op.now Decimal Delta c.args.optional c.requires.spot
-    c.requires.at c.requires.field x found c.changed_decimal.new.slots c.in-Some.taken (λ e. cc e)
+    c.requires.op x found c.changed_decimal.new.slots c.in-Some.taken (λ e. cc e)
     (inl refl) c.in-Some.ensures.terms c.in-Some.ensures.unit).within
 
 pub returns-in-Some : goal.returns-in-Some
@@ -34,14 +34,14 @@ returns-in-Some g c =
     let p = c.args.spot.now.place in
     let op = c.args.op.now in
     let slots = c.changed_decimal.new.slots in
-    let (x, found) = op_node t m p op c.requires.at in
-    let f = field_of t l m p op Decimal Delta c.args.optional c.requires.spot c.requires.at c.requires.field x found in
+    let (x, found) = op_node t m p op c.requires.op in
+    let f = field_of t l m p op Decimal Delta c.args.optional c.requires.spot c.requires.op x found in
     record {
       went = c.hand_taken.ensures.went (set_of t) l m (record m { slots = slots }) f
-          (sym (uses_as t l m p op Decimal Delta c.args.optional c.requires.spot c.requires.at c.requires.field x found)) refl
+          (sym (uses_as t l m p op Decimal Delta c.args.optional c.requires.spot c.requires.op x found)) refl
           (subst (λ (v : Option ScalarData). IsFieldTaken (set_of t) l m
           (record m { slots = slots }) c.args.spot.now op.node f v c.in-Some.taken.bytes) (sym c.scalar_of.ensures)
-          (item_taken t l m c.args.spot.now op Decimal Delta c.args.optional c.requires.spot c.requires.at c.requires.field x found slots
+          (item_taken t l m c.args.spot.now op Decimal Delta c.args.optional c.requires.spot c.requires.op x found slots
           c.in-Some.taken (λ e. cc e)
           (inl refl) c.in-Some.ensures.terms c.in-Some.ensures.unit));
     }

@@ -13,16 +13,16 @@ use Rattle.fast_loop.proofs.integer_arms.signed_arm.Goals as goal
 pub sent_signed-requires-clause-within : goal.sent_signed-requires-clause-within
 sent_signed-requires-clause-within g c =
     let m = c.args.machine.now in
-    let (x, found) = op_node c.args.templates.now m c.args.spot.now.place c.args.op.now c.requires.at in
+    let (x, found) = op_node c.args.templates.now m c.args.spot.now.place c.args.op.now c.requires.op in
     entry_there c.args.templates.now c.args.limits m c.args.spot.now.place c.args.op.now c.args.kind c.args.operator c.args.optional
-    c.requires.spot c.requires.at c.requires.field x found
+    c.requires.spot c.requires.op x found
 
 pub hand_taken-requires-clause-within : goal.hand_taken-requires-clause-within
 hand_taken-requires-clause-within g c =
     let m = c.args.machine.now in
-    let (x, found) = op_node c.args.templates.now m c.args.spot.now.place c.args.op.now c.requires.at in
+    let (x, found) = op_node c.args.templates.now m c.args.spot.now.place c.args.op.now c.requires.op in
     (item_taken c.args.templates.now c.args.limits m c.args.spot.now c.args.op.now c.args.kind c.args.operator c.args.optional
-    c.requires.spot c.requires.at c.requires.field x found c.sent_signed.new.slots c.in-Some.taken c.requires.no_constant
+    c.requires.spot c.requires.op x found c.sent_signed.new.slots c.in-Some.taken c.requires.no_constant
     (subst (λ (b : Bool). (b ≡ false) ⊎ (first_bit (bits_left (at_place m.cursor c.args.spot.now.place)) ≡ true))
     c.uses_bit-has_bit.ensures (c.in-Sent.ensures.sent refl m.cursor c.requires.spot.place))
     c.in-Some.ensures.terms c.in-Some.ensures.unit).within
@@ -35,15 +35,15 @@ returns-in-Some g c =
     let p = c.args.spot.now.place in
     let op = c.args.op.now in
     let slots = c.sent_signed.new.slots in
-    let (x, found) = op_node t m p op c.requires.at in
-    let f = field_of t l m p op c.args.kind c.args.operator c.args.optional c.requires.spot c.requires.at c.requires.field x found in
+    let (x, found) = op_node t m p op c.requires.op in
+    let f = field_of t l m p op c.args.kind c.args.operator c.args.optional c.requires.spot c.requires.op x found in
     record {
       went = c.hand_taken.ensures.went (set_of t) l m (record m { slots = slots }) f
-          (c.uses_bit-has_bit.ensures ∙ sym (uses_as t l m p op c.args.kind c.args.operator c.args.optional c.requires.spot c.requires.at
-          c.requires.field x found)) refl
+          (c.uses_bit-has_bit.ensures ∙ sym (uses_as t l m p op c.args.kind c.args.operator c.args.optional c.requires.spot c.requires.op
+          x found)) refl
           (subst (λ (v : Option ScalarData). IsFieldTaken (set_of t) l m
           (record m { slots = slots }) c.args.spot.now op.node f v c.in-Some.taken.bytes) (sym c.scalar_of.ensures)
-          (item_taken t l m c.args.spot.now op c.args.kind c.args.operator c.args.optional c.requires.spot c.requires.at c.requires.field x
+          (item_taken t l m c.args.spot.now op c.args.kind c.args.operator c.args.optional c.requires.spot c.requires.op x
           found slots c.in-Some.taken c.requires.no_constant
           (subst (λ (b : Bool). (b ≡ false) ⊎ (first_bit (bits_left (at_place m.cursor p)) ≡ true)) c.uses_bit-has_bit.ensures
           (c.in-Sent.ensures.sent refl m.cursor c.requires.spot.place))

@@ -8,10 +8,10 @@ pub usual_parts_arm-requires : goal.usual_parts_arm-requires
 usual_parts_arm-requires g c =
     let found = subst (λ (k : ℕ). slice_get c.args.templates.now.nodes.items k ≡ Some c.node.result.now) c.from.ensures c.node.ensures.found in
     let (under, may, by_delta, there, kept) = told_parts c.args.operator c.args.optional c.args.op.now.entry c.in-Decimal.exponent
-    c.in-Decimal.mantissa c.node.result.now.shape c.in-Decimal.is (c.requires.parts c.node.result.now found) in
+    c.in-Decimal.mantissa c.node.result.now.shape c.in-Decimal.is (c.requires.op.is c.node.result.now found) in
     record {
       decimal = at_decimal c.args.templates.now c.args.limits c.args.machine.now c.args.spot.now.place c.args.op.now c.requires.spot
-          c.requires.at c.node.result.now found c.in-Decimal.exponent c.in-Decimal.mantissa c.in-Decimal.is;
+          c.requires.op c.node.result.now found c.in-Decimal.exponent c.in-Decimal.mantissa c.in-Decimal.is;
       usual = usual_by c.in-Decimal.exponent c.args.operator under c.requires.usual;
       operator = under;
       optional = may;

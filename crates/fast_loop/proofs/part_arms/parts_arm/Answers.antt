@@ -9,5 +9,5 @@ other_parts_arm-requires g c =
     let found = subst (λ (k : ℕ). slice_get c.args.templates.now.nodes.items k ≡ Some c.node.result.now) c.from.ensures c.node.ensures.found in
     record {
       decimal = at_decimal c.args.templates.now c.args.limits c.args.machine.now c.args.spot.now.place c.args.op.now c.requires.spot
-          c.requires.at c.node.result.now found c.in-Decimal.exponent c.in-Decimal.mantissa c.in-Decimal.is;
+          c.requires.op c.node.result.now found c.in-Decimal.exponent c.in-Decimal.mantissa c.in-Decimal.is;
     }

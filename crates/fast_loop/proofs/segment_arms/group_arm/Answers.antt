@@ -12,7 +12,7 @@ enter_arm-requires-clause-next g c =
     let set = set_of c.args.templates.now in
     let next = group_here c.args.templates.now c.args.machine.now.cursor c.args.spot.now.place c.args.op.now c.from-node.result
     c.node.result.now c.in-Group.optional c.in-Group.body (run_in set c.body_start-start.result) c.args.optional
-    c.requires.at c.requires.group c.from-node.ensures c.node.ensures.found c.in-Group.is
+    c.requires.op c.from-node.ensures c.node.ensures.found c.in-Group.is
     ((c.body_start-start.ensures c.node.result.now c.node.ensures.found).nodes ∙ ap numbers_of c.in-Group.is) in
     (c.args.optional, next)
 
@@ -22,7 +22,7 @@ returns-then-not-optional g c =
     let m = c.args.machine.now in
     let next = group_here c.args.templates.now m.cursor c.args.spot.now.place c.args.op.now c.from-node.result c.node.result.now
     c.in-Group.optional c.in-Group.body (run_in set c.body_start-start.result) c.args.optional
-    c.requires.at c.requires.group c.from-node.ensures c.node.ensures.found c.in-Group.is
+    c.requires.op c.from-node.ensures c.node.ensures.found c.in-Group.is
     ((c.body_start-start.ensures c.node.result.now c.node.ensures.found).nodes ∙ ap numbers_of c.in-Group.is) in
     record {
       went = c.enter_arm.ensures.went c.args.spot.now
@@ -37,7 +37,7 @@ returns-then-not-bit g c =
     let m = c.args.machine.now in
     let next = group_here c.args.templates.now m.cursor c.args.spot.now.place c.args.op.now c.from-node.result c.node.result.now
     c.in-Group.optional c.in-Group.body (run_in set c.body_start-start.result) c.args.optional
-    c.requires.at c.requires.group c.from-node.ensures c.node.ensures.found c.in-Group.is
+    c.requires.op c.from-node.ensures c.node.ensures.found c.in-Group.is
     ((c.body_start-start.ensures c.node.result.now c.node.ensures.found).nodes ∙ ap numbers_of c.in-Group.is) in
     record {
       went = record {
@@ -59,7 +59,7 @@ enter_arm-requires-2-clause-next g c =
     let m = c.args.machine.now in
     let next = group_here c.args.templates.now m.cursor c.args.spot.now.place c.args.op.now c.from-node.result c.node.result.now
     c.in-Group.optional c.in-Group.body (run_in set c.body_start-start.result) c.args.optional
-    c.requires.at c.requires.group c.from-node.ensures c.node.ensures.found c.in-Group.is
+    c.requires.op c.from-node.ensures c.node.ensures.found c.in-Group.is
     ((c.body_start-start.ensures c.node.result.now c.node.ensures.found).nodes ∙ ap numbers_of c.in-Group.is) in (
       c.args.optional,
       subst (λ ns. IsAtGroup set (record m.cursor { left = ns }) c.from-node.result c.args.optional
@@ -72,7 +72,7 @@ returns g c =
     let m = c.args.machine.now in
     let next = group_here c.args.templates.now m.cursor c.args.spot.now.place c.args.op.now c.from-node.result c.node.result.now
     c.in-Group.optional c.in-Group.body (run_in set c.body_start-start.result) c.args.optional
-    c.requires.at c.requires.group c.from-node.ensures c.node.ensures.found c.in-Group.is
+    c.requires.op c.from-node.ensures c.node.ensures.found c.in-Group.is
     ((c.body_start-start.ensures c.node.result.now c.node.ensures.found).nodes ∙ ap numbers_of c.in-Group.is) in
     record {
       went = c.enter_arm-2.ensures.went c.args.spot.now

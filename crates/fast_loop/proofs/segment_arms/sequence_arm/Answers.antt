@@ -1,6 +1,6 @@
 -- The length, or none.
-use Rattle.std.proofs.Common.{sym, ap, ◌∙◌, subst, refl}
-use Rattle.std.specs.Prelude.{◌≡◌, ℕ, Option, None, option_map, ◌<◌, List, length, slice_get, Some}
+use Rattle.std.proofs.Common.{sym, ap, ◌∙◌, subst}
+use Rattle.std.specs.Prelude.{◌≡◌, ℕ, Option, None, option_map, List, length, slice_get, Some}
 use Rattle.fast_value.specs.meaning.Kinds.{U}
 use Rattle.fast_value.specs.meaning.Limits.{bounds}
 use Rattle.fast_stream.specs.meaning.Messages.{within_limits}
@@ -26,7 +26,7 @@ returns-in_default-claimed g c = record {
       let from = c.args.spot.now in
       let h = sequence_taken c.args.templates.now l m from c.args.op.now c.from-node.result c.node.result.now c.in-Sequence.length
       c.in-Sequence.body (run_in set c.body_start-start.result) c.args.optional c.in-Some.claimed c.in-Some.bytes
-      c.requires.spot c.requires.at c.requires.sequence c.from-node.ensures c.node.ensures.found c.in-Sequence.is
+      c.requires.spot c.requires.op c.from-node.ensures c.node.ensures.found c.in-Sequence.is
       ((c.body_start-start.ensures c.node.result.now c.node.ensures.found).nodes ∙ ap numbers_of c.in-Sequence.is) c.in-Some.ensures in
       let none : option_map U c.in-Some.claimed ≡ None = ap (option_map U) c.in_default-claimed.is in (
         c.in-Some.bytes,
@@ -54,7 +54,7 @@ elements_arm-requires-clause-length g c =
     let claimed = c.in-Some-claimed.claimed in
     let h = sequence_taken c.args.templates.now l m from c.args.op.now c.from-node.result c.node.result.now c.in-Sequence.length
     c.in-Sequence.body (run_in set c.body_start-start.result) c.args.optional c.in-Some.claimed c.in-Some.bytes
-    c.requires.spot c.requires.at c.requires.sequence c.from-node.ensures c.node.ensures.found c.in-Sequence.is
+    c.requires.spot c.requires.op c.from-node.ensures c.node.ensures.found c.in-Sequence.is
     ((c.body_start-start.ensures c.node.result.now c.node.ensures.found).nodes ∙ ap numbers_of c.in-Sequence.is) c.in-Some.ensures in (
       field_data c.in-Sequence.length,
       claimed,
@@ -63,15 +63,6 @@ elements_arm-requires-clause-length g c =
       sym (c.in-Ok.ensures.count ∙ ap (within_limits (bounds l) m.counted) c.from.ensures),
     )
 
-pub node-requires : goal.node-requires
-node-requires g c = subst (λ (k : ℕ). k < length (set_of c.args.templates.now).nodes) (sym c.from-node.ensures) c.requires.at.0
-
-pub body_start-start-requires : goal.body_start-start-requires
-body_start-start-requires g c = subst (λ (k : ℕ). k < length (set_of c.args.templates.now).nodes) (sym c.from-node.ensures) c.requires.at.0
-
-pub elements_arm-requires-clause-node : goal.elements_arm-requires-clause-node
-elements_arm-requires-clause-node g c = subst (λ (k : ℕ). k < length (set_of c.args.templates.now).nodes) (sym c.from-node.ensures) c.requires.at.0
-
 pub elements_arm-requires-clause-run : goal.elements_arm-requires-clause-run
 elements_arm-requires-clause-run g c = (c.body_start-start.ensures c.node.result.now c.node.ensures.found).run
 
@@ -79,33 +70,12 @@ pub elements_arm-requires-clause-below : goal.elements_arm-requires-clause-below
 elements_arm-requires-clause-below g c = subst (λ (ns : List ℕ). AreBelow (length (set_of c.args.templates.now).nodes) ns)
     (sym (c.body_start-start.ensures c.node.result.now c.node.ensures.found).nodes) (λ i inside. (c.node.ensures.body i inside).1)
 
-pub elements_arm-requires-clause-body : goal.elements_arm-requires-clause-body
-elements_arm-requires-clause-body g c x found = (c.body_start-start.ensures x found).nodes
-
-pub elements_arm-requires-clause-total : goal.elements_arm-requires-clause-total
-elements_arm-requires-clause-total g c = c.in-Ok.ensures.total
-
-pub count_within-requires : goal.count_within-requires
-count_within-requires g c = c.requires.spot.can.supplied.counted
-
-pub returns-in_default-read : goal.returns-in_default-read
-returns-in_default-read g c = record { went = (refl, refl, refl) }
-
-pub returns-in-Err : goal.returns-in-Err
-returns-in-Err g c = record { went = (refl, refl, refl) }
-
-pub returns-in-Ok : goal.returns-in-Ok
-returns-in-Ok g c = record { went = c.elements_arm.ensures.went }
-
 pub unreachable-requires : goal.unreachable-requires
 unreachable-requires g c =
-    let (own, inside, is, operator, absent) = c.requires.sequence c.node.result.now
+    let (own, inside, is, operator, absent) = c.requires.op.is c.node.result.now
     (subst (λ (i : ℕ). slice_get (set_of c.args.templates.now).nodes i ≡ Some c.node.result.now) c.from-node.ensures
     c.node.ensures.found) in
     c.in_default.not-Sequence own inside is
 
-pub skip-spot-requires : goal.skip-spot-requires
-skip-spot-requires g c = c.in-Some.ensures.0
-
 pub advance-requires : goal.advance-requires
-advance-requires g c = first_some (place_left c.args.spot.now.place) c.args.op.now.node c.requires.at.1
+advance-requires g c = first_some (place_left c.args.spot.now.place) c.args.op.now.node c.requires.op.first

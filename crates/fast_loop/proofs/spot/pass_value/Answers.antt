@@ -21,9 +21,6 @@ returns-in_ok-hand-in-Some-clause-moves g c set l strict waits d counted at f h 
     (c.pass.ensures.bits at h) bit)))
     c.in_ok-hand-in-Some.ensures
 
-pub returns-in_ok-hand-in-Some-clause-past : goal.returns-in_ok-hand-in-Some-clause-past
-returns-in_ok-hand-in-Some-clause-past g c at = record { same = c.pass.ensures.past at }
-
 pub returns-in-None-clause-moves : goal.returns-in-None-clause-moves
 returns-in-None-clause-moves g c set l strict waits d counted at f h bit =
     let old = at_place at c.args.place.now in (
@@ -32,6 +29,3 @@ returns-in-None-clause-moves g c set l strict waits d counted at f h bit =
           (c.pass-in-None.ensures.past at) (c.pass-in-None.ensures.bits at h) bit)),
       refl,
     )
-
-pub returns-in-None-clause-past : goal.returns-in-None-clause-past
-returns-in-None-clause-past g c at = record { same = c.pass-in-None.ensures.past at }

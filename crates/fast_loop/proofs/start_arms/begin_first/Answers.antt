@@ -19,9 +19,6 @@ use Rattle.fast_loop.proofs.arms.First.{idle_at, idle_reader, idle_takes, idle_t
 use Rattle.fast_loop.proofs.arms.Starts.{begun_on}
 use Rattle.fast_loop.proofs.start_arms.begin_first.Goals as goal
 
-pub first_message-requires : goal.first_message-requires
-first_message-requires g c = record { supplied = c.requires.ready.supplied }
-
 pub message_begins-went-requires : goal.message_begins-went-requires
 message_begins-went-requires g c =
     let set = set_of c.args.templates.now in

@@ -1,5 +1,5 @@
 -- The first event of a message, behind its map and its identifier.
-use Rattle.std.proofs.Common.{refl, ◌+◌, ap, sym, subst, inl}
+use Rattle.std.proofs.Common.{refl, ◌+◌, ap, sym, subst}
 use Rattle.std.specs.Prelude.{take}
 use Rattle.fast_tree.specs.meaning.Nodes.{template_data, instructions_from}
 use Rattle.fast_tree.specs.meaning.Tree.{identifier}
@@ -41,9 +41,6 @@ returns-in-Err-clause-turn g c t found =
       rests = refl;
       latest = refl;
     }) c.requires.behind.supplied.counted)
-
-pub returns-clause-answer : goal.returns-clause-answer
-returns-clause-answer g c = inl c.message_opens.ensures.answer
 
 pub returns-clause-turn : goal.returns-clause-turn
 returns-clause-turn g c t found =

@@ -20,9 +20,9 @@ pub ascii_taken-requires-clause-within : goal.ascii_taken-requires-clause-within
 ascii_taken-requires-clause-within g c =
     let m = c.args.machine.now in
     let p = c.args.spot.now.place in
-    let (x, found) = op_node c.args.templates.now m p c.args.op.now c.requires.at in
-    entry_there c.args.templates.now c.args.limits m p c.args.op.now Ascii c.args.operator c.args.optional c.requires.spot c.requires.at
-    c.requires.field x found
+    let (x, found) = op_node c.args.templates.now m p c.args.op.now c.requires.op in
+    entry_there c.args.templates.now c.args.limits m p c.args.op.now Ascii c.args.operator c.args.optional c.requires.spot c.requires.op
+    x found
 
 pub hand_taken-requires-clause-within : goal.hand_taken-requires-clause-within
 hand_taken-requires-clause-within g c =
@@ -30,12 +30,12 @@ hand_taken-requires-clause-within g c =
     let l = c.args.limits in
     let m = c.args.machine.now in
     let p = c.args.spot.now.place in
-    let (x, found) = op_node t m p c.args.op.now c.requires.at in
-    (c.in-Some.ensures.unit x (instruction t l m p c.args.op.now Ascii c.args.operator c.args.optional c.requires.spot c.requires.at
-    c.requires.field x found) l.strict (bounds l) found
-    (shape_is t l m p c.args.op.now Ascii c.args.operator c.args.optional c.requires.spot c.requires.at c.requires.field x found) refl
-    (as_coded t l m p c.args.op.now Ascii c.args.operator c.args.optional c.requires.spot c.requires.at c.requires.field x found)
-    (served t l m p c.args.op.now Ascii c.args.operator c.args.optional c.requires.spot c.requires.at c.requires.field x found)).1
+    let (x, found) = op_node t m p c.args.op.now c.requires.op in
+    (c.in-Some.ensures.unit x (instruction t l m p c.args.op.now Ascii c.args.operator c.args.optional c.requires.spot c.requires.op
+    x found) l.strict (bounds l) found
+    (shape_is t l m p c.args.op.now Ascii c.args.operator c.args.optional c.requires.spot c.requires.op x found) refl
+    (as_coded t l m p c.args.op.now Ascii c.args.operator c.args.optional c.requires.spot c.requires.op x found)
+    (served t l m p c.args.op.now Ascii c.args.operator c.args.optional c.requires.spot c.requires.op x found)).1
 
 pub returns-in-Some : goal.returns-in-Some
 returns-in-Some g c =
@@ -49,21 +49,21 @@ returns-in-Some g c =
     let slots = c.ascii_taken.new.slots in
     let text = c.ascii_taken.new.scratch in
     let taken = c.in-Some.taken in
-    let (x, found) = op_node t m from.place op c.requires.at in
-    let f = field_of t l m from.place op Ascii operator optional c.requires.spot c.requires.at c.requires.field x found in
-    let same = as_coded t l m from.place op Ascii operator optional c.requires.spot c.requires.at c.requires.field x found in
+    let (x, found) = op_node t m from.place op c.requires.op in
+    let f = field_of t l m from.place op Ascii operator optional c.requires.spot c.requires.op x found in
+    let same = as_coded t l m from.place op Ascii operator optional c.requires.spot c.requires.op x found in
     record {
       went = c.hand_taken.ensures.went (set_of t) l m (record m { slots = slots; text = text }) f
-          (c.uses_bit-has_bit.ensures ∙ sym (uses_as t l m from.place op Ascii operator optional c.requires.spot c.requires.at c.requires.field x found)) refl
-          (text_taken t l m from op Ascii operator optional c.requires.spot c.requires.at c.requires.field x found slots text
+          (c.uses_bit-has_bit.ensures ∙ sym (uses_as t l m from.place op Ascii operator optional c.requires.spot c.requires.op x found)) refl
+          (text_taken t l m from op Ascii operator optional c.requires.spot c.requires.op x found slots text
           taken.source taken.from taken.bytes text.text _ c.requires.no_constant
           (subst (λ (b : Bool). (b ≡ false) ⊎ (first_bit (bits_left (at_place m.cursor from.place)) ≡ true)) c.uses_bit-has_bit.ensures
           (c.in-Sent.ensures.sent refl m.cursor c.requires.spot.place))
           c.in-Some.ensures.terms c.in-Some.ensures.capacity
-          (c.in-Some.ensures.unit x (instruction t l m from.place op Ascii operator optional c.requires.spot c.requires.at c.requires.field
+          (c.in-Some.ensures.unit x (instruction t l m from.place op Ascii operator optional c.requires.spot c.requires.op
           x found) l.strict (bounds l) found
-          (shape_is t l m from.place op Ascii operator optional c.requires.spot c.requires.at c.requires.field x found) refl same
-          (served t l m from.place op Ascii operator optional c.requires.spot c.requires.at c.requires.field x found))
+          (shape_is t l m from.place op Ascii operator optional c.requires.spot c.requires.op x found) refl same
+          (served t l m from.place op Ascii operator optional c.requires.spot c.requires.op x found))
           (subst (λ (s : List ℕ). option_map scalar_data c.ascii_at-value.result ≡ value_at taken.source f (slots_dictionary slots) s
           (drop taken.from (take taken.bytes from.rest.bytes.now))) c.as_slice-text.ensures
           (c.ascii_at-value.ensures f optional operator (drop taken.from (take taken.bytes from.rest.bytes.now)) same c.in-Some.ensures.source)));

@@ -18,15 +18,15 @@ returns g c =
     let op = c.args.op.now in
     let kind = c.args.kind in
     let optional = c.args.optional in
-    let (x, found) = op_node t m p op c.requires.at in
-    let own = instruction t l m p op kind Default optional c.requires.spot c.requires.at c.requires.field x found in
+    let (x, found) = op_node t m p op c.requires.op in
+    let own = instruction t l m p op kind Default optional c.requires.spot c.requires.op x found in
     let same : c.in-Some.field.now ≡ own =
     same_field c.in-Some.field.now own (sym (c.in-Some.ensures x found)
-    ∙ shape_is t l m p op kind Default optional c.requires.spot c.requires.at c.requires.field x found) in
+    ∙ shape_is t l m p op kind Default optional c.requires.spot c.requires.op x found) in
     record {
-      went = c.hand_unsent.ensures.went (set_of t) l m m (field_of t l m p op kind Default optional c.requires.spot c.requires.at
-          c.requires.field x found) false
-          (sym (uses_as t l m p op kind Default optional c.requires.spot c.requires.at c.requires.field x found)) refl
-          (initial_unsent t l m p op kind Default optional c.requires.spot c.requires.at c.requires.field x found _ refl c.requires.clear
+      went = c.hand_unsent.ensures.went (set_of t) l m m (field_of t l m p op kind Default optional c.requires.spot c.requires.op
+          x found) false
+          (sym (uses_as t l m p op kind Default optional c.requires.spot c.requires.op x found)) refl
+          (initial_unsent t l m p op kind Default optional c.requires.spot c.requires.op x found _ refl c.requires.clear
           (c.initial_value-value.ensures ∙ ap (λ (i : FieldInstruction). (field_data i).initial) same));
     }

@@ -11,10 +11,10 @@ pub unsent_ascii-requires : goal.unsent_ascii-requires
 unsent_ascii-requires g c =
     let m = c.args.machine.now in
     let p = c.args.spot.now.place in
-    let (x, found) = op_node c.args.templates.now m p c.args.op.now c.requires.at in
+    let (x, found) = op_node c.args.templates.now m p c.args.op.now c.requires.op in
     record {
       within = entry_there c.args.templates.now c.args.limits m p c.args.op.now Ascii c.args.operator c.args.optional c.requires.spot
-          c.requires.at c.requires.field x found (keeps_text c.args.operator c.in-Copy.is).0;
+          c.requires.op x found (keeps_text c.args.operator c.in-Copy.is).0;
     }
 
 pub returns-in-Some : goal.returns-in-Some
@@ -26,13 +26,13 @@ returns-in-Some g c =
     let op = c.args.op.now in
     let operator = c.args.operator in
     let optional = c.args.optional in
-    let (x, found) = op_node t m p op c.requires.at in
-    let f = field_of t l m p op Ascii operator optional c.requires.spot c.requires.at c.requires.field x found in
+    let (x, found) = op_node t m p op c.requires.op in
+    let f = field_of t l m p op Ascii operator optional c.requires.spot c.requires.op x found in
     record {
       went = c.hand_unsent.ensures.went (set_of t) l m m f false
-          (sym (uses_as t l m p op Ascii operator optional c.requires.spot c.requires.at c.requires.field x found ∙ c.requires.uses)) refl
-          (text_unsent t l m p op Ascii operator optional c.requires.spot c.requires.at c.requires.field x found c.in-Some.source _
+          (sym (uses_as t l m p op Ascii operator optional c.requires.spot c.requires.op x found ∙ c.requires.uses)) refl
+          (text_unsent t l m p op Ascii operator optional c.requires.spot c.requires.op x found c.in-Some.source _
           [] _ c.in-Copy.is c.requires.uses c.requires.clear c.in-Some.ensures.decided
-          (c.ascii_at-value.ensures f optional operator [] (as_coded t l m p op Ascii operator optional c.requires.spot c.requires.at c.requires.field x found)
+          (c.ascii_at-value.ensures f optional operator [] (as_coded t l m p op Ascii operator optional c.requires.spot c.requires.op x found)
           (c.in-Some.ensures.source operator (keeps_text operator c.in-Copy.is).0)));
     }

@@ -14,18 +14,18 @@ pub sent_delta-requires-clause-there : goal.sent_delta-requires-clause-there
 sent_delta-requires-clause-there g c =
     let m = c.args.machine.now in
     let p = c.args.spot.now.place in
-    let (x, found) = op_node c.args.templates.now m p c.args.op.now c.requires.at in
-    entry_there c.args.templates.now c.args.limits m p c.args.op.now c.args.kind Delta c.args.optional c.requires.spot c.requires.at
-    c.requires.field x found refl
+    let (x, found) = op_node c.args.templates.now m p c.args.op.now c.requires.op in
+    entry_there c.args.templates.now c.args.limits m p c.args.op.now c.args.kind Delta c.args.optional c.requires.spot c.requires.op
+    x found refl
 
 pub kept_at-value-requires-clause-there : goal.kept_at-value-requires-clause-there
 kept_at-value-requires-clause-there g c =
     let m = c.args.machine.now in
     let p = c.args.spot.now.place in
-    let (x, found) = op_node c.args.templates.now m p c.args.op.now c.requires.at in
+    let (x, found) = op_node c.args.templates.now m p c.args.op.now c.requires.op in
     entry_kept c.args.op.now.entry m.slots c.sent_delta.new.slots c.in-Some.ensures.terms
-    (entry_there c.args.templates.now c.args.limits m p c.args.op.now c.args.kind Delta c.args.optional c.requires.spot c.requires.at
-    c.requires.field x found refl)
+    (entry_there c.args.templates.now c.args.limits m p c.args.op.now c.args.kind Delta c.args.optional c.requires.spot c.requires.op
+    x found refl)
 
 pub returns-in-Some : goal.returns-in-Some
 returns-in-Some g c =
@@ -39,16 +39,16 @@ returns-in-Some g c =
     let slots = c.sent_delta.new.slots in
     let text = c.sent_delta.new.joined in
     let taken = c.in-Some.taken in
-    let (x, found) = op_node t m from.place op c.requires.at in
-    let f = field_of t l m from.place op kind Delta optional c.requires.spot c.requires.at c.requires.field x found in
-    let same = as_coded t l m from.place op kind Delta optional c.requires.spot c.requires.at c.requires.field x found in
+    let (x, found) = op_node t m from.place op c.requires.op in
+    let f = field_of t l m from.place op kind Delta optional c.requires.spot c.requires.op x found in
+    let same = as_coded t l m from.place op kind Delta optional c.requires.spot c.requires.op x found in
     record {
       went = c.hand_taken.ensures.went (set_of t) l m (record m { slots = slots; text = text }) f
-          (sym (uses_as t l m from.place op kind Delta optional c.requires.spot c.requires.at c.requires.field x found)) refl
-          (text_taken t l m from op kind Delta optional c.requires.spot c.requires.at c.requires.field x found slots text
+          (sym (uses_as t l m from.place op kind Delta optional c.requires.spot c.requires.op x found)) refl
+          (text_taken t l m from op kind Delta optional c.requires.spot c.requires.op x found slots text
           taken.source taken.from taken.bytes [] (option_map scalar_data c.kept_at-value.result) (λ e. cc e)
           (inl refl) c.in-Some.ensures.terms c.in-Some.ensures.joined
-          (c.in-Some.ensures.unit f [] same (served t l m from.place op kind Delta optional c.requires.spot c.requires.at c.requires.field x found))
+          (c.in-Some.ensures.unit f [] same (served t l m from.place op kind Delta optional c.requires.spot c.requires.op x found))
           (c.kept_at-value.ensures f optional Delta [] (drop taken.from (take taken.bytes from.rest.bytes.now)) same refl));
     }
 

@@ -11,19 +11,19 @@ pub unsent_text-requires : goal.unsent_text-requires
 unsent_text-requires g c =
     let m = c.args.machine.now in
     let p = c.args.spot.now.place in
-    let (x, found) = op_node c.args.templates.now m p c.args.op.now c.requires.at in
+    let (x, found) = op_node c.args.templates.now m p c.args.op.now c.requires.op in
     record {
       there = entry_there c.args.templates.now c.args.limits m p c.args.op.now c.args.kind Tail c.args.optional c.requires.spot
-          c.requires.at c.requires.field x found refl;
+          c.requires.op x found refl;
     }
 
 pub kept_at-value-requires-clause-there : goal.kept_at-value-requires-clause-there
 kept_at-value-requires-clause-there g c =
     let m = c.args.machine.now in
     let p = c.args.spot.now.place in
-    let (x, found) = op_node c.args.templates.now m p c.args.op.now c.requires.at in
-    entry_there c.args.templates.now c.args.limits m p c.args.op.now c.args.kind Tail c.args.optional c.requires.spot c.requires.at
-    c.requires.field x found refl
+    let (x, found) = op_node c.args.templates.now m p c.args.op.now c.requires.op in
+    entry_there c.args.templates.now c.args.limits m p c.args.op.now c.args.kind Tail c.args.optional c.requires.spot c.requires.op
+    x found refl
 
 pub returns-in-Some : goal.returns-in-Some
 returns-in-Some g c =
@@ -34,12 +34,12 @@ returns-in-Some g c =
     let op = c.args.op.now in
     let kind = c.args.kind in
     let optional = c.args.optional in
-    let (x, found) = op_node t m p op c.requires.at in
-    let f = field_of t l m p op kind Tail optional c.requires.spot c.requires.at c.requires.field x found in
+    let (x, found) = op_node t m p op c.requires.op in
+    let f = field_of t l m p op kind Tail optional c.requires.spot c.requires.op x found in
     record {
       went = c.hand_unsent.ensures.went (set_of t) l m m f false
-          (sym (uses_as t l m p op kind Tail optional c.requires.spot c.requires.at c.requires.field x found)) refl
-          (text_unsent t l m p op kind Tail optional c.requires.spot c.requires.at c.requires.field x found c.in-Some.source [] [] _
+          (sym (uses_as t l m p op kind Tail optional c.requires.spot c.requires.op x found)) refl
+          (text_unsent t l m p op kind Tail optional c.requires.spot c.requires.op x found c.in-Some.source [] [] _
           (inr refl) refl c.requires.clear c.in-Some.ensures.decided
-          (c.kept_at-value.ensures f optional Tail [] [] (as_coded t l m p op kind Tail optional c.requires.spot c.requires.at c.requires.field x found) refl));
+          (c.kept_at-value.ensures f optional Tail [] [] (as_coded t l m p op kind Tail optional c.requires.spot c.requires.op x found) refl));
     }

@@ -21,17 +21,17 @@ returns-in-Some g c =
     let kind = c.args.kind in
     let optional = c.args.optional in
     let taken = c.in-Some.taken in
-    let (x, found) = op_node t m from.place op c.requires.at in
-    let f = field_of t l m from.place op kind None optional c.requires.spot c.requires.at c.requires.field x found in
-    let same = as_coded t l m from.place op kind None optional c.requires.spot c.requires.at c.requires.field x found in
+    let (x, found) = op_node t m from.place op c.requires.op in
+    let f = field_of t l m from.place op kind None optional c.requires.spot c.requires.op x found in
+    let same = as_coded t l m from.place op kind None optional c.requires.spot c.requires.op x found in
     record {
       went = c.hand_taken.ensures.went (set_of t) l m m f
-          (sym (uses_as t l m from.place op kind None optional c.requires.spot c.requires.at c.requires.field x found)) refl
-          (text_taken t l m from op kind None optional c.requires.spot c.requires.at c.requires.field x found m.slots m.text
+          (sym (uses_as t l m from.place op kind None optional c.requires.spot c.requires.op x found)) refl
+          (text_taken t l m from op kind None optional c.requires.spot c.requires.op x found m.slots m.text
           taken.source taken.from taken.bytes [] (option_map scalar_data c.lent_at-value.result) (λ e. cc e)
           (inl refl) refl refl
-          (c.in-Some.ensures.unit op.entry m.slots f [] same (served t l m from.place op kind None optional c.requires.spot c.requires.at
-          c.requires.field x found))
+          (c.in-Some.ensures.unit op.entry m.slots f [] same (served t l m from.place op kind None optional c.requires.spot c.requires.op
+          x found))
           (c.lent_at-value.ensures f (slots_dictionary m.slots) [] same.kind
           ∙ ap (value_at taken.source f (slots_dictionary m.slots) [])
           (bytes_between taken.from taken.bytes from.rest.bytes.now c.in-Some.ensures.within.0)));

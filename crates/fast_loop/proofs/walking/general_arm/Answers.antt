@@ -1,10 +1,10 @@
 -- The step, by how it ended.
-use Rattle.std.proofs.Common.{refl, ap, ◌∙◌, subst, arith, sym}
+use Rattle.std.proofs.Common.{refl, ap, ◌∙◌, subst, arith}
 use Rattle.std.specs.Prelude.{◌≡◌, drop, Ok, Err}
 use Rattle.fast_machine.specs.declared.machine.Turn.TheVariants.{Silent, Handed, Waits}
 use Rattle.fast_cursor.specs.device.Cursors.{CursorData}
 use Rattle.fast_machine.specs.declared.machine.Machine.{Machine}
-use Rattle.fast_machine.specs.device.Positions.{placed, set_of, CanTurn}
+use Rattle.fast_machine.specs.device.Positions.{placed, set_of}
 use Rattle.fast_machine.specs.device.Steps.{IsStep}
 use Rattle.fast_loop.proofs.arms.Taken.{took_handed}
 use Rattle.fast_loop.proofs.arms.Walks.{step_at}
@@ -123,16 +123,3 @@ returns-in-Waits g c = record {
         c.set_place.ensures refl (c.in-Ok.is ∙ ap Ok c.in-Waits.is) c.place-spot.ensures.same c.general_step-step.ensures.step),
   );
 }
-
-pub set_place-requires : goal.set_place-requires
-set_place-requires g c = c.requires.spot.place
-
-pub general_step-step-requires-clause-turn : goal.general_step-step-requires-clause-turn
-general_step-step-requires-clause-turn g c = subst (λ (x : CursorData). CanTurn (set_of c.args.templates.now) c.args.limits.now
-    (record c.args.machine.now { cursor = x })) (sym c.set_place.ensures) c.requires.spot.can
-
-pub general_step-step-requires-clause-waits : goal.general_step-step-requires-clause-waits
-general_step-step-requires-clause-waits g c = c.requires.spot.waits
-
-pub skip-spot-requires : goal.skip-spot-requires
-skip-spot-requires g c = c.general_step-step.ensures.step.within
