@@ -47,12 +47,15 @@ returns-in-Cut-clause-taken g c =
     let (stays, same) = c.in-Cut.ensures.unit in
     let (held, more) = c.in-Cut.ensures.cut refl in
     cut_to takes stops set l (meaning set l m) c.args.rest.now c.args.sink.now a c.cut.ensures.bytes c.cut.ensures.turn
-    (first_ready set l m c.read_integer.new.slots c.read_integer.new.self c.read_integer.new.text c.requires.ready c.read_integer.ensures.terms c.read_integer.ensures.capacity.0
+    (first_ready set l m c.read_integer.new.slots c.read_integer.new.self c.read_integer.new.text c.requires.ready c.read_integer.ensures.terms
+    c.read_integer.ensures.capacity.0
     c.read_integer.ensures.capacity.1
-    c.requires.waits same (length_on set l m n c.requires.ready f (run_in (set_of c.args.templates.now) c.args.start) c.read_integer.new.self c.requires.next sent
+    c.requires.waits same (length_on set l m n c.requires.ready f (run_in (set_of c.args.templates.now) c.args.start) c.read_integer.new.self
+    c.requires.next sent
     more))
     (field_cut takes stops set l m f k (turning set l m) (meaning set l m) m.carry.bytes.text c.args.rest.now sent next is a c.read_integer.new.self
-    (first_cut set l m c.read_integer.new.slots c.read_integer.new.self c.read_integer.new.text c.requires.waits same) held c.requires.some stays c.args.sink.now)
+    (first_cut set l m c.read_integer.new.slots c.read_integer.new.self c.read_integer.new.text c.requires.waits same) held c.requires.some stays
+    c.args.sink.now)
 
 pub returns-in-Wrong-clause-taken : goal.returns-in-Wrong-clause-taken
 returns-in-Wrong-clause-taken g c =
@@ -70,7 +73,8 @@ returns-in-Wrong-clause-taken g c =
     let is = meaning_first set l m c.requires.waits in
     let a = record m { slots = c.read_integer.new.slots; carry = c.read_integer.new.self; text = c.read_integer.new.text } in
     wrong_to takes stops set l (meaning set l m) c.args.rest.now c.args.sink.now a (Why.Stream c.in-Wrong.code) c.wrong.ensures.bytes c.wrong.ensures.turn
-    (field_supplied set l m c.read_integer.new.slots c.read_integer.new.self c.read_integer.new.text c.requires.ready c.read_integer.ensures.terms c.read_integer.ensures.capacity.0
+    (field_supplied set l m c.read_integer.new.slots c.read_integer.new.self c.read_integer.new.text c.requires.ready c.read_integer.ensures.terms
+    c.read_integer.ensures.capacity.0
     c.read_integer.ensures.capacity.1)
     (field_wrong takes stops set l m f k (turning set l m) (meaning set l m) m.carry.bytes.text c.args.rest.now sent next is
     (slots_dictionary c.read_integer.new.slots) c.read_integer.new.text.text c.in-Wrong.code c.in-Wrong.bytes c.in-Wrong.ensures.unit c.args.sink.now)
