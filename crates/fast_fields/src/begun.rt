@@ -40,13 +40,13 @@ fn begun_string(
     slots: &Slots,
     field: &FieldInstruction,
     rest: &[u8],
-    limits: Limits,
+    limits: &Limits,
 ) -> Option<BegunText>
     requires serves { ServesField slots.now field.now }
-    requires limit { HasTextLimit slots.now limits }
+    requires limit { HasTextLimit slots.now limits.now }
     requires varies { field.now.operator ≢ Operator.Constant }
     requires integer { ¬ (IsAsciiFirst (field_data field.now)) }
-    ensures begun { IfSome result (λ r. HasBegun limits.strict (bounds limits) (field_data field.now)
+    ensures begun { IfSome result (λ r. HasBegun limits.now.strict (bounds limits.now) (field_data field.now)
         (previous_of slots.now field.now) rest.now r.stage r.from) }
     ensures within { IfSome result (λ r. r.from ≤ length rest.now) }
     ensures few { IfSome result (λ r. r.from ≤ 20) }
@@ -78,14 +78,14 @@ pub(crate) fn string_missing(
     slots: &Slots,
     field: &FieldInstruction,
     rest: &[u8],
-    limits: Limits,
+    limits: &Limits,
 ) -> Option<Missing>
     requires serves { ServesField slots.now field.now }
-    requires limit { HasTextLimit slots.now limits }
+    requires limit { HasTextLimit slots.now limits.now }
     requires varies { field.now.operator ≢ Operator.Constant }
-    ensures undecided { IfSome result (IsUndecided (first_reader limits (field_data field.now)
+    ensures undecided { IfSome result (IsUndecided (first_reader limits.now (field_data field.now)
         (slots_dictionary slots.now)) rest.now) }
-    ensures bounded { IfSome result (λ m. length rest.now + m.bytes ≤ 22 + limits.max_text) }
+    ensures bounded { IfSome result (λ m. length rest.now + m.bytes ≤ 22 + limits.now.max_text) }
 {
     if field.kind == Kind::Ascii && field.operator != Operator::Delta {
         if !is_text_front(rest, limits.max_text) {

@@ -96,15 +96,15 @@ impl Carry {
         slots: &Slots,
         field: &FieldInstruction,
         rest: &[u8],
-        limits: Limits,
+        limits: &Limits,
     ) -> bool
         requires serves { ServesField slots.now field.now }
-        requires limit { HasTextLimit slots.now limits }
+        requires limit { HasTextLimit slots.now limits.now }
         requires varies { field.now.operator ≢ Operator.Constant }
-        requires capacity { self.old.bytes.capacity ≡ 22 + limits.max_text }
+        requires capacity { self.old.bytes.capacity ≡ 22 + limits.now.max_text }
         requires none { self.old.bytes.text ≡ [] }
         ensures bytes { result ≡ true → self.new.bytes.text ≡ rest.now }
-        ensures carried { result ≡ true → IsCarried limits (first_reader limits (field_data field.now)
+        ensures carried { result ≡ true → IsCarried limits.now (first_reader limits.now (field_data field.now)
             (slots_dictionary slots.now)) self.new }
         ensures capacity { self.new.bytes.capacity ≡ self.old.bytes.capacity }
         ensures same { result ≡ false → self.new ≡ self.old }
@@ -124,14 +124,14 @@ impl Carry {
         slots: &Slots,
         field: &FieldInstruction,
         rest: &[u8],
-        limits: Limits,
+        limits: &Limits,
     ) -> bool
         requires serves { ServesField slots.now field.now }
-        requires limit { HasTextLimit slots.now limits }
+        requires limit { HasTextLimit slots.now limits.now }
         requires varies { field.now.operator ≢ Operator.Constant }
-        requires capacity { self.old.bytes.capacity ≡ 22 + limits.max_text }
+        requires capacity { self.old.bytes.capacity ≡ 22 + limits.now.max_text }
         ensures bytes { result ≡ true → (self.old.bytes.text ≡ []) × (self.new.bytes.text ≡ rest.now) }
-        ensures carried { result ≡ true → IsCarried limits (first_reader limits (field_data field.now)
+        ensures carried { result ≡ true → IsCarried limits.now (first_reader limits.now (field_data field.now)
             (slots_dictionary slots.now)) self.new }
         ensures capacity { self.new.bytes.capacity ≡ self.old.bytes.capacity }
         ensures same { result ≡ false → self.new ≡ self.old }
@@ -189,22 +189,23 @@ impl Carry {
         text: &mut Scratch,
         field: &FieldInstruction,
         rest: &[u8],
-        limits: Limits,
+        limits: &Limits,
     ) -> Progress<WholeField>
         requires serves { ServesField slots.old field.now }
-        requires limit { HasTextLimit slots.old limits }
+        requires limit { HasTextLimit slots.old limits.now }
         requires room { HasRoomFor slots.old text.old }
         requires varies { field.now.operator ≢ Operator.Constant }
-        requires capacity { self.old.bytes.capacity ≡ 22 + limits.max_text }
-        requires carried { IsCarried limits (first_reader limits (field_data field.now) (slots_dictionary slots.old))
-            self.old }
-        ensures unit { IsCarriedUnit (first_reader limits (field_data field.now) (slots_dictionary slots.old))
+        requires capacity { self.old.bytes.capacity ≡ 22 + limits.now.max_text }
+        requires carried { IsCarried limits.now (first_reader limits.now (field_data field.now)
+            (slots_dictionary slots.old)) self.old }
+        ensures unit { IsCarriedUnit (first_reader limits.now (field_data field.now) (slots_dictionary slots.old))
             (field_data field.now) self.old.bytes.text rest.now (slots_dictionary slots.old)
             (slots_dictionary slots.new) text.new.text result }
         ensures held { (found : WholeField) (n : ℕ) → result ≡ Progress.Whole found n
             → take found.bytes (at_hand self.new.bytes.text rest.now) ≡ self.old.bytes.text ++ take n rest.now }
         ensures cut { result ≡ Progress.Cut → (self.new.bytes.text ≡ self.old.bytes.text ++ rest.now)
-            × IsCarried limits (first_reader limits (field_data field.now) (slots_dictionary slots.old)) self.new }
+            × IsCarried limits.now (first_reader limits.now (field_data field.now)
+            (slots_dictionary slots.old)) self.new }
         ensures terms { slots_terms slots.new ≡ slots_terms slots.old }
         ensures capacity { (self.new.bytes.capacity ≡ self.old.bytes.capacity)
             × (text.new.capacity ≡ text.old.capacity) }
@@ -232,20 +233,21 @@ impl Carry {
         text: &mut Scratch,
         field: &FieldInstruction,
         rest: &[u8],
-        limits: Limits,
+        limits: &Limits,
     ) -> Progress<WholeField>
         requires serves { ServesField slots.old field.now }
-        requires limit { HasTextLimit slots.old limits }
+        requires limit { HasTextLimit slots.old limits.now }
         requires room { HasRoomFor slots.old text.old }
         requires varies { field.now.operator ≢ Operator.Constant }
-        requires capacity { self.old.bytes.capacity ≡ 22 + limits.max_text }
-        requires carried { IsCarried limits (first_reader limits (field_data field.now) (slots_dictionary slots.old))
-            self.old }
-        ensures unit { IsCarriedUnit (first_reader limits (field_data field.now) (slots_dictionary slots.old))
+        requires capacity { self.old.bytes.capacity ≡ 22 + limits.now.max_text }
+        requires carried { IsCarried limits.now (first_reader limits.now (field_data field.now)
+            (slots_dictionary slots.old)) self.old }
+        ensures unit { IsCarriedUnit (first_reader limits.now (field_data field.now) (slots_dictionary slots.old))
             (field_data field.now) self.old.bytes.text rest.now (slots_dictionary slots.old)
             (slots_dictionary slots.new) text.new.text result }
         ensures cut { result ≡ Progress.Cut → (self.new.bytes.text ≡ self.old.bytes.text ++ rest.now)
-            × IsCarried limits (first_reader limits (field_data field.now) (slots_dictionary slots.old)) self.new }
+            × IsCarried limits.now (first_reader limits.now (field_data field.now)
+            (slots_dictionary slots.old)) self.new }
         ensures terms { slots_terms slots.new ≡ slots_terms slots.old }
         ensures capacity { (self.new.bytes.capacity ≡ self.old.bytes.capacity)
             × (text.new.capacity ≡ text.old.capacity) }

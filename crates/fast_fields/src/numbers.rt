@@ -130,12 +130,12 @@ fn whole_integer(
     slots: &mut Slots,
     field: &FieldInstruction,
     bytes: &[u8],
-    limits: Limits,
+    limits: &Limits,
 ) -> Option<WholeField>
     requires serves { ServesField slots.old field.now }
     requires integers { family field.now.kind ≡ integers (range_of field.now.kind) }
     requires varies { field.now.operator ≢ Operator.Constant }
-    ensures whole { IfSome result (λ found. (scratch : List ℕ) → IsFieldReading (first_reader limits
+    ensures whole { IfSome result (λ found. (scratch : List ℕ) → IsFieldReading (first_reader limits.now
         (field_data field.now) (slots_dictionary slots.old)) (field_data field.now) bytes.now
         (slots_dictionary slots.old) (slots_dictionary slots.new) scratch (Reading.Whole found)) }
     ensures none { IfNone result (slots.new ≡ slots.old) }
@@ -184,11 +184,11 @@ fn whole_decimal(
     slots: &mut Slots,
     field: &FieldInstruction,
     bytes: &[u8],
-    limits: Limits,
+    limits: &Limits,
 ) -> Option<WholeField>
     requires serves { ServesField slots.old field.now }
     requires kind { field.now.kind ≡ Kind.Decimal }
-    ensures whole { IfSome result (λ found. (scratch : List ℕ) → IsFieldReading (first_reader limits
+    ensures whole { IfSome result (λ found. (scratch : List ℕ) → IsFieldReading (first_reader limits.now
         (field_data field.now) (slots_dictionary slots.old)) (field_data field.now) bytes.now
         (slots_dictionary slots.old) (slots_dictionary slots.new) scratch (Reading.Whole found)) }
     ensures none { IfNone result (slots.new ≡ slots.old) }
@@ -204,11 +204,11 @@ pub(crate) fn whole_number(
     slots: &mut Slots,
     field: &FieldInstruction,
     bytes: &[u8],
-    limits: Limits,
+    limits: &Limits,
 ) -> Option<WholeField>
     requires serves { ServesField slots.old field.now }
     requires varies { field.now.operator ≢ Operator.Constant }
-    ensures whole { IfSome result (λ found. (scratch : List ℕ) → IsFieldReading (first_reader limits
+    ensures whole { IfSome result (λ found. (scratch : List ℕ) → IsFieldReading (first_reader limits.now
         (field_data field.now) (slots_dictionary slots.old)) (field_data field.now) bytes.now
         (slots_dictionary slots.old) (slots_dictionary slots.new) scratch (Reading.Whole found)) }
     ensures none { IfNone result (slots.new ≡ slots.old) }

@@ -144,15 +144,15 @@ pub(crate) fn run_missing(
     field: &FieldInstruction,
     stage: Stage,
     bytes: &[u8],
-    limits: Limits,
+    limits: &Limits,
 ) -> Missing
     requires serves { ServesField slots.now field.now }
-    requires stage { IsStageOf (bounds limits) (field_data field.now) (previous_of slots.now field.now) stage }
-    requires open { IsBytesStage (bounds limits) (field_data field.now) (previous_of slots.now field.now) stage
+    requires stage { IsStageOf (bounds limits.now) (field_data field.now) (previous_of slots.now field.now) stage }
+    requires open { IsBytesStage (bounds limits.now) (field_data field.now) (previous_of slots.now field.now) stage
         bytes.now }
-    ensures keeps { KeepsRun (bounds limits) (field_data field.now) (previous_of slots.now field.now) stage bytes.now
-        result }
-    ensures within { length bytes.now + result.bytes ≤ 2 + limits.max_text }
+    ensures keeps { KeepsRun (bounds limits.now) (field_data field.now) (previous_of slots.now field.now) stage
+        bytes.now result }
+    ensures within { length bytes.now + result.bytes ≤ 2 + limits.now.max_text }
 {
     match stage {
         Stage::Vector(size) | Stage::PartVector(_, size) => Missing {
@@ -180,21 +180,22 @@ fn read_run(
     field: &FieldInstruction,
     stage: Stage,
     bytes: &[u8],
-    limits: Limits,
+    limits: &Limits,
 ) -> Reading
     requires serves { ServesField slots.old field.now }
-    requires limit { HasTextLimit slots.old limits }
+    requires limit { HasTextLimit slots.old limits.now }
     requires room { HasRoomFor slots.old scratch.old }
-    requires stage { IsStageOf (bounds limits) (field_data field.now) (previous_of slots.old field.now) stage }
+    requires stage { IsStageOf (bounds limits.now) (field_data field.now) (previous_of slots.old field.now) stage }
     requires run { IsRunStage (field_data field.now) stage }
-    ensures reading { IsFieldReading (reader_behind limits (field_data field.now) (slots_dictionary slots.old) stage)
-        (field_data field.now) bytes.now (slots_dictionary slots.old) (slots_dictionary slots.new) scratch.new.text
+    ensures reading { IsFieldReading (reader_behind limits.now (field_data field.now) (slots_dictionary slots.old)
+        stage) (field_data field.now) bytes.now (slots_dictionary slots.old) (slots_dictionary slots.new)
+        scratch.new.text
         result }
-    ensures bounded { IsBounded (2 + limits.max_text) bytes.now result }
+    ensures bounded { IsBounded (2 + limits.now.max_text) bytes.now result }
     ensures terms { slots_terms slots.new ≡ slots_terms slots.old }
     ensures capacity { scratch.new.capacity ≡ scratch.old.capacity }
 {
-    match take_bytes(slots, scratch, field, stage, bytes, limits) {
+    match take_bytes(slots, scratch, field, stage, bytes, *limits) {
         Progress::Whole(source, count) => whole(source, count),
         Progress::Wrong(code, count) => Reading::Wrong(code, count),
         Progress::Cut => Reading::More(run_missing(slots, field, stage, bytes, limits)),
@@ -208,23 +209,24 @@ fn read_later(
     field: &FieldInstruction,
     stage: Stage,
     bytes: &[u8],
-    limits: Limits,
+    limits: &Limits,
 ) -> Reading
     requires serves { ServesField slots.old field.now }
-    requires limit { HasTextLimit slots.old limits }
+    requires limit { HasTextLimit slots.old limits.now }
     requires room { HasRoomFor slots.old scratch.old }
-    requires stage { IsStageOf (bounds limits) (field_data field.now) (previous_of slots.old field.now) stage }
-    ensures reading { IsFieldReading (reader_behind limits (field_data field.now) (slots_dictionary slots.old) stage)
-        (field_data field.now) bytes.now (slots_dictionary slots.old) (slots_dictionary slots.new) scratch.new.text
+    requires stage { IsStageOf (bounds limits.now) (field_data field.now) (previous_of slots.old field.now) stage }
+    ensures reading { IsFieldReading (reader_behind limits.now (field_data field.now) (slots_dictionary slots.old)
+        stage) (field_data field.now) bytes.now (slots_dictionary slots.old) (slots_dictionary slots.new)
+        scratch.new.text
         result }
-    ensures bounded { IsBounded (12 + limits.max_text) bytes.now result }
+    ensures bounded { IsBounded (12 + limits.now.max_text) bytes.now result }
     ensures terms { slots_terms slots.new ≡ slots_terms slots.old }
     ensures capacity { scratch.new.capacity ≡ scratch.old.capacity }
 {
     if !is_number(field, stage) {
         return read_run(slots, scratch, field, stage, bytes, limits);
     }
-    match take_number(slots, scratch, field, stage, bytes, limits) {
+    match take_number(slots, scratch, field, stage, bytes, *limits) {
         Progress::Whole(FieldStep::Settled(source), count) => whole(source, count),
         Progress::Whole(FieldStep::Next(next), count) => {
             let reading = read_run(slots, scratch, field, next, &bytes[count..], limits);
@@ -241,21 +243,21 @@ fn read_text(
     scratch: &mut Scratch,
     field: &FieldInstruction,
     bytes: &[u8],
-    limits: Limits,
+    limits: &Limits,
 ) -> Reading
     requires serves { ServesField slots.old field.now }
-    requires limit { HasTextLimit slots.old limits }
+    requires limit { HasTextLimit slots.old limits.now }
     requires room { HasRoomFor slots.old scratch.old }
     requires text { IsAsciiFirst (field_data field.now) }
     requires varies { field.now.operator ≢ Operator.Constant }
-    ensures reading { IsFieldReading (first_reader limits (field_data field.now) (slots_dictionary slots.old))
+    ensures reading { IsFieldReading (first_reader limits.now (field_data field.now) (slots_dictionary slots.old))
         (field_data field.now) bytes.now (slots_dictionary slots.old) (slots_dictionary slots.new) scratch.new.text
         result }
-    ensures bounded { IsBounded (2 + limits.max_text) bytes.now result }
+    ensures bounded { IsBounded (2 + limits.now.max_text) bytes.now result }
     ensures terms { slots_terms slots.new ≡ slots_terms slots.old }
     ensures capacity { scratch.new.capacity ≡ scratch.old.capacity }
 {
-    match take_text(slots, scratch, field, bytes, limits) {
+    match take_text(slots, scratch, field, bytes, *limits) {
         Progress::Whole(source, count) => whole(source, count),
         Progress::Wrong(code, count) => Reading::Wrong(code, count),
         Progress::Cut => Reading::More(Missing {
@@ -273,23 +275,23 @@ fn read_units(
     scratch: &mut Scratch,
     field: &FieldInstruction,
     bytes: &[u8],
-    limits: Limits,
+    limits: &Limits,
 ) -> Reading
     requires serves { ServesField slots.old field.now }
-    requires limit { HasTextLimit slots.old limits }
+    requires limit { HasTextLimit slots.old limits.now }
     requires room { HasRoomFor slots.old scratch.old }
     requires varies { field.now.operator ≢ Operator.Constant }
-    ensures reading { IsFieldReading (first_reader limits (field_data field.now) (slots_dictionary slots.old))
+    ensures reading { IsFieldReading (first_reader limits.now (field_data field.now) (slots_dictionary slots.old))
         (field_data field.now) bytes.now (slots_dictionary slots.old) (slots_dictionary slots.new) scratch.new.text
         result }
-    ensures bounded { IsBounded (22 + limits.max_text) bytes.now result }
+    ensures bounded { IsBounded (22 + limits.now.max_text) bytes.now result }
     ensures terms { slots_terms slots.new ≡ slots_terms slots.old }
     ensures capacity { scratch.new.capacity ≡ scratch.old.capacity }
 {
     if field.kind == Kind::Ascii && field.operator != Operator::Delta {
         return read_text(slots, scratch, field, bytes, limits);
     }
-    match take_first(slots, scratch, field, bytes, limits) {
+    match take_first(slots, scratch, field, bytes, *limits) {
         Progress::Whole(FieldStep::Settled(source), count) => whole(source, count),
         Progress::Whole(FieldStep::Next(stage), count) => {
             let rest = &bytes[count..];
@@ -308,13 +310,13 @@ fn whole_field(
     scratch: &mut Scratch,
     field: &FieldInstruction,
     bytes: &[u8],
-    limits: Limits,
+    limits: &Limits,
 ) -> Option<WholeField>
     requires serves { ServesField slots.old field.now }
-    requires limit { HasTextLimit slots.old limits }
+    requires limit { HasTextLimit slots.old limits.now }
     requires room { HasRoomFor slots.old scratch.old }
     requires varies { field.now.operator ≢ Operator.Constant }
-    ensures whole { IfSome result (λ found. IsFieldReading (first_reader limits (field_data field.now)
+    ensures whole { IfSome result (λ found. IsFieldReading (first_reader limits.now (field_data field.now)
         (slots_dictionary slots.old)) (field_data field.now) bytes.now (slots_dictionary slots.old)
         (slots_dictionary slots.new) scratch.new.text (Reading.Whole found)) }
     ensures none { IfNone result ((slots.new ≡ slots.old) × (scratch.new ≡ scratch.old)) }
@@ -338,16 +340,16 @@ pub fn read_field(
     scratch: &mut Scratch,
     field: &FieldInstruction,
     bytes: &[u8],
-    limits: Limits,
+    limits: &Limits,
 ) -> Reading
     requires serves { ServesField slots.old field.now }
-    requires limit { HasTextLimit slots.old limits }
+    requires limit { HasTextLimit slots.old limits.now }
     requires room { HasRoomFor slots.old scratch.old }
     requires varies { field.now.operator ≢ Operator.Constant }
-    ensures reading { IsFieldReading (first_reader limits (field_data field.now) (slots_dictionary slots.old))
+    ensures reading { IsFieldReading (first_reader limits.now (field_data field.now) (slots_dictionary slots.old))
         (field_data field.now) bytes.now (slots_dictionary slots.old) (slots_dictionary slots.new) scratch.new.text
         result }
-    ensures bounded { IsBounded (22 + limits.max_text) bytes.now result }
+    ensures bounded { IsBounded (22 + limits.now.max_text) bytes.now result }
     ensures terms { slots_terms slots.new ≡ slots_terms slots.old }
     ensures capacity { scratch.new.capacity ≡ scratch.old.capacity }
 {

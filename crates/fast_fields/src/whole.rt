@@ -42,14 +42,14 @@ fn whole_delta(
     scratch: &mut Scratch,
     field: &FieldInstruction,
     bytes: &[u8],
-    limits: Limits,
+    limits: &Limits,
 ) -> Option<WholeField>
     requires serves { ServesField slots.old field.now }
-    requires limit { HasTextLimit slots.old limits }
+    requires limit { HasTextLimit slots.old limits.now }
     requires room { HasRoomFor slots.old scratch.old }
     requires text { family field.now.kind ≡ texts }
     requires delta { field.now.operator ≡ Operator.Delta }
-    ensures whole { IfSome result (λ found. IsFieldReading (first_reader limits (field_data field.now)
+    ensures whole { IfSome result (λ found. IsFieldReading (first_reader limits.now (field_data field.now)
         (slots_dictionary slots.old)) (field_data field.now) bytes.now (slots_dictionary slots.old)
         (slots_dictionary slots.new) scratch.new.text (Reading.Whole found)) }
     ensures none { IfNone result ((slots.new ≡ slots.old) × (scratch.new ≡ scratch.old)) }
@@ -58,7 +58,7 @@ fn whole_delta(
 {
     let (kind, optional, strict) = (field.kind, field.optional, limits.strict);
     let (entry, rest) = (field.entry?, Rest::new(bytes));
-    let taken = sent_delta(slots, scratch, entry, kind, optional, rest, strict, limits)?;
+    let taken = sent_delta(slots, scratch, entry, kind, optional, rest, strict, *limits)?;
     Some(whole_field(taken))
 }
 
@@ -69,13 +69,13 @@ fn whole_ascii(
     scratch: &mut Scratch,
     field: &FieldInstruction,
     bytes: &[u8],
-    limits: Limits,
+    limits: &Limits,
 ) -> Option<WholeField>
     requires serves { ServesField slots.old field.now }
-    requires limit { HasTextLimit slots.old limits }
+    requires limit { HasTextLimit slots.old limits.now }
     requires room { HasRoomFor slots.old scratch.old }
     requires ascii { field.now.kind ≡ Kind.Ascii }
-    ensures whole { IfSome result (λ found. IsFieldReading (first_reader limits (field_data field.now)
+    ensures whole { IfSome result (λ found. IsFieldReading (first_reader limits.now (field_data field.now)
         (slots_dictionary slots.old)) (field_data field.now) bytes.now (slots_dictionary slots.old)
         (slots_dictionary slots.new) scratch.new.text (Reading.Whole found)) }
     ensures none { IfNone result ((slots.new ≡ slots.old) × (scratch.new ≡ scratch.old)) }
@@ -95,13 +95,13 @@ fn whole_vector(
     slots: &mut Slots,
     field: &FieldInstruction,
     bytes: &[u8],
-    limits: Limits,
+    limits: &Limits,
 ) -> Option<WholeField>
     requires serves { ServesField slots.old field.now }
-    requires limit { HasTextLimit slots.old limits }
+    requires limit { HasTextLimit slots.old limits.now }
     requires text { family field.now.kind ≡ texts }
     requires vector { field.now.kind ≢ Kind.Ascii }
-    ensures whole { IfSome result (λ found. (scratch : List ℕ) → IsFieldReading (first_reader limits
+    ensures whole { IfSome result (λ found. (scratch : List ℕ) → IsFieldReading (first_reader limits.now
         (field_data field.now) (slots_dictionary slots.old)) (field_data field.now) bytes.now
         (slots_dictionary slots.old) (slots_dictionary slots.new) scratch (Reading.Whole found)) }
     ensures none { IfNone result (slots.new ≡ slots.old) }
@@ -111,11 +111,11 @@ fn whole_vector(
     let rest = Rest::new(bytes);
     match field.operator {
         Operator::None | Operator::Default => {
-            let taken = sent_vector(kind, optional, field.operator, rest, strict, limits)?;
+            let taken = sent_vector(kind, optional, field.operator, rest, strict, *limits)?;
             Some(whole_field(taken))
         }
         Operator::Tail => {
-            let taken = sent_tail(slots, field.entry?, kind, optional, rest, strict, limits)?;
+            let taken = sent_tail(slots, field.entry?, kind, optional, rest, strict, *limits)?;
             Some(whole_field(taken))
         }
         _ => None,
@@ -129,12 +129,12 @@ pub(crate) fn whole_string(
     scratch: &mut Scratch,
     field: &FieldInstruction,
     bytes: &[u8],
-    limits: Limits,
+    limits: &Limits,
 ) -> Option<WholeField>
     requires serves { ServesField slots.old field.now }
-    requires limit { HasTextLimit slots.old limits }
+    requires limit { HasTextLimit slots.old limits.now }
     requires room { HasRoomFor slots.old scratch.old }
-    ensures whole { IfSome result (λ found. IsFieldReading (first_reader limits (field_data field.now)
+    ensures whole { IfSome result (λ found. IsFieldReading (first_reader limits.now (field_data field.now)
         (slots_dictionary slots.old)) (field_data field.now) bytes.now (slots_dictionary slots.old)
         (slots_dictionary slots.new) scratch.new.text (Reading.Whole found)) }
     ensures none { IfNone result ((slots.new ≡ slots.old) × (scratch.new ≡ scratch.old)) }

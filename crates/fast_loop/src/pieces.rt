@@ -125,7 +125,7 @@ fn take_first<'t, S: Sink>(
         return unit;
     }
     // made anew: a result that a call writes stays in memory, on the path above too
-    let unit = machine.take_unit(templates, limits, rest, sink);
+    let unit = machine.take_unit(templates, &limits, rest, sink);
     UnitTaken {
         bytes: unit.bytes,
         turn: unit.turn,

@@ -69,9 +69,9 @@ fn general_step<'t, S: Sink>(
     ensures waits { (t : Turn) → result.turn ≡ Ok t → t ≢ Turn.Waits → machine.new.waiting ≡ Waiting.Field }
 {
     if let Some((node, field)) = machine.sent_field(templates, *limits) {
-        return machine.step_by_field(templates, *limits, node, field, rest, sink);
+        return machine.step_by_field(templates, limits, node, field, rest, sink);
     }
-    machine.step_by_turn(templates, *limits, rest, sink)
+    machine.step_by_turn(templates, limits, rest, sink)
 }
 
 /// Makes a step on the general path from the spot on: of the next instruction, or the end of the innermost segment.

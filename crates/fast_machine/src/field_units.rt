@@ -19,16 +19,16 @@ impl<'t> Machine<'t> {
     pub fn take_instruction<S: Sink>(
         &mut self,
         templates: &'t Templates,
-        limits: Limits,
+        limits: &Limits,
         rest: &[u8],
         sink: &mut S,
     ) -> UnitTaken
         requires waits { self.old.waiting ≡ Waiting.Field }
-        requires ready { IsReady (set_of templates.now) limits self.old }
+        requires ready { IsReady (set_of templates.now) limits.now self.old }
         requires some { 0 < length rest.now }
-        ensures taken { TakesUnit S.takes S.stops (set_of templates.now) limits self.old rest.now sink.old result
+        ensures taken { TakesUnit S.takes S.stops (set_of templates.now) limits.now self.old rest.now sink.old result
             sink.new self.new }
-        ensures turns { PaysTurns (set_of templates.now) limits 1 self.old result.turn self.new }
+        ensures turns { PaysTurns (set_of templates.now) limits.now 1 self.old result.turn self.new }
     {
         let Some(number) = self.cursor.next() else {
             return UnitTaken::cut(rest);
@@ -51,20 +51,20 @@ impl<'t> Machine<'t> {
     pub(crate) fn take_field<S: Sink>(
         &mut self,
         templates: &'t Templates,
-        limits: Limits,
+        limits: &Limits,
         node: u32,
         field: &FieldInstruction,
         rest: &[u8],
         sink: &mut S,
     ) -> UnitTaken
         requires waits { self.old.waiting ≡ Waiting.Field }
-        requires ready { IsReady (set_of templates.now) limits self.old }
+        requires ready { IsReady (set_of templates.now) limits.now self.old }
         requires some { 0 < length rest.now }
         requires next { IsAtField (set_of templates.now) self.old.cursor node (field_data field.now) }
         requires serves { IsServedBy (set_of templates.now) self.old (field_data field.now) }
-        ensures taken { TakesUnit S.takes S.stops (set_of templates.now) limits self.old rest.now sink.old result
+        ensures taken { TakesUnit S.takes S.stops (set_of templates.now) limits.now self.old rest.now sink.old result
             sink.new self.new }
-        ensures turns { PaysTurns (set_of templates.now) limits 1 self.old result.turn self.new }
+        ensures turns { PaysTurns (set_of templates.now) limits.now 1 self.old result.turn self.new }
     {
         match self
             .carry
@@ -84,7 +84,7 @@ impl<'t> Machine<'t> {
     fn take_exponent<S: Sink>(
         &mut self,
         templates: &'t Templates,
-        limits: Limits,
+        limits: &Limits,
         node: u32,
         exponent: &FieldInstruction,
         mantissa: &FieldInstruction,
@@ -92,15 +92,15 @@ impl<'t> Machine<'t> {
         sink: &mut S,
     ) -> UnitTaken
         requires waits { self.old.waiting ≡ Waiting.Field }
-        requires ready { IsReady (set_of templates.now) limits self.old }
+        requires ready { IsReady (set_of templates.now) limits.now self.old }
         requires some { 0 < length rest.now }
         requires next { IsAtParts (set_of templates.now) self.old.cursor node (field_data exponent.now)
             (field_data mantissa.now) }
         requires exponent { IsServedBy (set_of templates.now) self.old (field_data exponent.now) }
         requires mantissa { IsServedBy (set_of templates.now) self.old (field_data mantissa.now) }
-        ensures taken { TakesUnit S.takes S.stops (set_of templates.now) limits self.old rest.now sink.old result
+        ensures taken { TakesUnit S.takes S.stops (set_of templates.now) limits.now self.old rest.now sink.old result
             sink.new self.new }
-        ensures turns { PaysTurns (set_of templates.now) limits 1 self.old result.turn self.new }
+        ensures turns { PaysTurns (set_of templates.now) limits.now 1 self.old result.turn self.new }
     {
         match self
             .carry
@@ -111,7 +111,7 @@ impl<'t> Machine<'t> {
             Progress::Whole(found, bytes) => {
                 let source = found.source;
                 let turn = self.exponent_known(
-                    templates, limits, node, exponent, mantissa, source, sink,
+                    templates, *limits, node, exponent, mantissa, source, sink,
                 );
                 UnitTaken { bytes, turn }
             }
@@ -122,7 +122,7 @@ impl<'t> Machine<'t> {
     fn take_length<S: Sink>(
         &mut self,
         templates: &'t Templates,
-        limits: Limits,
+        limits: &Limits,
         node: u32,
         length: &FieldInstruction,
         start: usize,
@@ -130,7 +130,7 @@ impl<'t> Machine<'t> {
         sink: &mut S,
     ) -> UnitTaken
         requires waits { self.old.waiting ≡ Waiting.Field }
-        requires ready { IsReady (set_of templates.now) limits self.old }
+        requires ready { IsReady (set_of templates.now) limits.now self.old }
         requires some { 0 < list_length rest.now }
         requires next { IsAtSequence (set_of templates.now) self.old.cursor node (field_data length.now)
             (run_in (set_of templates.now) start) }
@@ -139,9 +139,9 @@ impl<'t> Machine<'t> {
         requires below { AreBelow (list_length (set_of templates.now).nodes) (run_in (set_of templates.now) start) }
         requires body { IsBodyOf (set_of templates.now) node start }
         requires node { node < list_length (set_of templates.now).nodes }
-        ensures taken { TakesUnit S.takes S.stops (set_of templates.now) limits self.old rest.now sink.old result
+        ensures taken { TakesUnit S.takes S.stops (set_of templates.now) limits.now self.old rest.now sink.old result
             sink.new self.new }
-        ensures turns { PaysTurns (set_of templates.now) limits 1 self.old result.turn self.new }
+        ensures turns { PaysTurns (set_of templates.now) limits.now 1 self.old result.turn self.new }
     {
         match self
             .carry
@@ -151,7 +151,7 @@ impl<'t> Machine<'t> {
             Progress::Wrong(code, bytes) => UnitTaken::wrong(code, bytes),
             Progress::Whole(found, bytes) => {
                 let source = found.source;
-                let turn = self.length_known(templates, limits, node, length, start, source, sink);
+                let turn = self.length_known(templates, *limits, node, length, start, source, sink);
                 UnitTaken { bytes, turn }
             }
         }
@@ -161,17 +161,17 @@ impl<'t> Machine<'t> {
     pub fn take_mantissa<S: Sink>(
         &mut self,
         templates: &'t Templates,
-        limits: Limits,
+        limits: &Limits,
         exponent: i32,
         rest: &[u8],
         sink: &mut S,
     ) -> UnitTaken
         requires waits { self.old.waiting ≡ Waiting.Mantissa exponent }
-        requires ready { IsReady (set_of templates.now) limits self.old }
+        requires ready { IsReady (set_of templates.now) limits.now self.old }
         requires some { 0 < length rest.now }
-        ensures taken { TakesUnit S.takes S.stops (set_of templates.now) limits self.old rest.now sink.old result
+        ensures taken { TakesUnit S.takes S.stops (set_of templates.now) limits.now self.old rest.now sink.old result
             sink.new self.new }
-        ensures turns { PaysTurns (set_of templates.now) limits 1 self.old result.turn self.new }
+        ensures turns { PaysTurns (set_of templates.now) limits.now 1 self.old result.turn self.new }
     {
         let Some(number) = self.cursor.next() else {
             return UnitTaken::cut(rest);

@@ -252,16 +252,16 @@ impl<'t> Machine<'t> {
     pub fn take_identifier<S: Sink>(
         &mut self,
         templates: &'t Templates,
-        limits: Limits,
+        limits: &Limits,
         rest: &[u8],
         sink: &mut S,
     ) -> UnitTaken
         requires waits { self.old.waiting ≡ Waiting.Identifier }
-        requires ready { IsReady (set_of templates.now) limits self.old }
+        requires ready { IsReady (set_of templates.now) limits.now self.old }
         requires some { 0 < length rest.now }
-        ensures taken { TakesUnit S.takes S.stops (set_of templates.now) limits self.old rest.now sink.old result
+        ensures taken { TakesUnit S.takes S.stops (set_of templates.now) limits.now self.old rest.now sink.old result
             sink.new self.new }
-        ensures turns { PaysMessage (set_of templates.now) limits self.old result.turn self.new }
+        ensures turns { PaysMessage (set_of templates.now) limits.now self.old result.turn self.new }
     {
         match self.carry.read(
             &mut self.slots,
@@ -273,7 +273,7 @@ impl<'t> Machine<'t> {
             Progress::Cut => UnitTaken::cut(rest),
             Progress::Wrong(code, bytes) => UnitTaken::wrong(code, bytes),
             Progress::Whole(found, bytes) => {
-                let turn = self.identified(templates, limits, found.source, sink);
+                let turn = self.identified(templates, *limits, found.source, sink);
                 UnitTaken { bytes, turn }
             }
         }

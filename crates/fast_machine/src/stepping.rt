@@ -94,19 +94,19 @@ impl<'t> Machine<'t> {
     fn take_sent_field<S: Sink>(
         &mut self,
         templates: &'t Templates,
-        limits: Limits,
+        limits: &Limits,
         node: u32,
         field: &FieldInstruction,
         rest: &[u8],
         sink: &mut S,
     ) -> UnitTaken
-        requires turn { CanTurn (set_of templates.now) limits self.old }
+        requires turn { CanTurn (set_of templates.now) limits.now self.old }
         requires next { IsAtField (set_of templates.now) self.old.cursor node (field_data field.now) }
         requires sent { IsSent (field_data field.now) (bit_of (field_data field.now)
             (state_in (slots_dictionary self.old.slots) self.old.counted self.old.cursor)) }
         requires serves { IsServedBy (set_of templates.now) self.old (field_data field.now) }
-        ensures step { IsStep S.takes S.stops (set_of templates.now) limits self.old rest.now sink.old result sink.new
-            self.new }
+        ensures step { IsStep S.takes S.stops (set_of templates.now) limits.now self.old rest.now sink.old result
+            sink.new self.new }
     {
         self.wait_first(field);
         if rest.is_empty() {
@@ -115,7 +115,7 @@ impl<'t> Machine<'t> {
                 turn: Ok(Turn::Waits),
             };
         }
-        if self.gathers(templates, limits, rest) {
+        if self.gathers(templates, *limits, rest) {
             return UnitTaken::cut(rest);
         }
         self.turns = Turns::after(&self.turns);
@@ -127,19 +127,19 @@ impl<'t> Machine<'t> {
     pub fn step_by_field<S: Sink>(
         &mut self,
         templates: &'t Templates,
-        limits: Limits,
+        limits: &Limits,
         node: u32,
         field: &FieldInstruction,
         rest: &[u8],
         sink: &mut S,
     ) -> UnitTaken
-        requires turn { CanTurn (set_of templates.now) limits self.old }
+        requires turn { CanTurn (set_of templates.now) limits.now self.old }
         requires next { IsAtField (set_of templates.now) self.old.cursor node (field_data field.now) }
         requires sent { IsSent (field_data field.now) (bit_of (field_data field.now)
             (state_in (slots_dictionary self.old.slots) self.old.counted self.old.cursor)) }
         requires serves { IsServedBy (set_of templates.now) self.old (field_data field.now) }
-        ensures step { IsStep S.takes S.stops (set_of templates.now) limits self.old rest.now sink.old result sink.new
-            self.new }
+        ensures step { IsStep S.takes S.stops (set_of templates.now) limits.now self.old rest.now sink.old result
+            sink.new self.new }
         ensures waits { (t : Turn) → result.turn ≡ Ok t → t ≢ Turn.Waits → self.new.waiting ≡ Waiting.Field }
     {
         let unit = self.take_sent_field(templates, limits, node, field, rest, sink);
@@ -179,16 +179,16 @@ impl<'t> Machine<'t> {
     pub fn step_by_turn<S: Sink>(
         &mut self,
         templates: &'t Templates,
-        limits: Limits,
+        limits: &Limits,
         rest: &[u8],
         sink: &mut S,
     ) -> UnitTaken
-        requires turn { CanTurn (set_of templates.now) limits self.old }
-        ensures step { IsStep S.takes S.stops (set_of templates.now) limits self.old rest.now sink.old result sink.new
-            self.new }
+        requires turn { CanTurn (set_of templates.now) limits.now self.old }
+        ensures step { IsStep S.takes S.stops (set_of templates.now) limits.now self.old rest.now sink.old result
+            sink.new self.new }
         ensures waits { (t : Turn) → result.turn ≡ Ok t → t ≢ Turn.Waits → self.new.waiting ≡ Waiting.Field }
     {
-        let turn = self.turn(templates, limits, rest.len(), sink);
+        let turn = self.turn(templates, *limits, rest.len(), sink);
         match turn {
             Err(code) => UnitTaken {
                 bytes: 0,
@@ -212,17 +212,17 @@ impl<'t> Machine<'t> {
     pub fn take_behind<S: Sink>(
         &mut self,
         templates: &'t Templates,
-        limits: Limits,
+        limits: &Limits,
         rest: &[u8],
         sink: &mut S,
     ) -> UnitTaken
-        requires ready { IsReady (set_of templates.now) limits self.old }
+        requires ready { IsReady (set_of templates.now) limits.now self.old }
         ensures step { (m : Machine) (s : S)
-            → Hands S.takes S.stops (turning (set_of templates.now) limits m) s (Ok tt) sink.old
-            (meaning (set_of templates.now) limits self.old)
-            → ((way : Way) (n : ℕ) → HasTurns way (set_of templates.now) limits 0 n m
-            → HasTurnsWaiting way (set_of templates.now) limits n self.old)
-            → IsStep S.takes S.stops (set_of templates.now) limits m rest.now s result sink.new self.new }
+            → Hands S.takes S.stops (turning (set_of templates.now) limits.now m) s (Ok tt) sink.old
+            (meaning (set_of templates.now) limits.now self.old)
+            → ((way : Way) (n : ℕ) → HasTurns way (set_of templates.now) limits.now 0 n m
+            → HasTurnsWaiting way (set_of templates.now) limits.now n self.old)
+            → IsStep S.takes S.stops (set_of templates.now) limits.now m rest.now s result sink.new self.new }
         ensures waits { (t : Turn) → result.turn ≡ Ok t → t ≢ Turn.Waits → self.new.waiting ≡ Waiting.Field }
         ensures some { (t : Turn) → result.turn ≡ Ok t → t ≢ Turn.Waits → 0 < result.bytes }
     {
@@ -232,7 +232,7 @@ impl<'t> Machine<'t> {
                 turn: Ok(Turn::Waits),
             };
         }
-        if self.gathers(templates, limits, rest) {
+        if self.gathers(templates, *limits, rest) {
             return UnitTaken::cut(rest);
         }
         let unit = self.take_unit(templates, limits, rest, sink);

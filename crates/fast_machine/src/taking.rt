@@ -89,17 +89,18 @@ impl<'t> Machine<'t> {
     pub fn take_unit<S: Sink>(
         &mut self,
         templates: &'t Templates,
-        limits: Limits,
+        limits: &Limits,
         rest: &[u8],
         sink: &mut S,
     ) -> UnitTaken
-        requires ready { IsReady (set_of templates.now) limits self.old }
+        requires ready { IsReady (set_of templates.now) limits.now self.old }
         requires some { 0 < length rest.now }
-        ensures taken { TakesUnit S.takes S.stops (set_of templates.now) limits self.old rest.now sink.old result
+        ensures taken { TakesUnit S.takes S.stops (set_of templates.now) limits.now self.old rest.now sink.old result
             sink.new self.new }
-        ensures turns { (way : Way) (n : ℕ) → HasTurnsWaiting way (set_of templates.now) limits n self.old
-            → HasTurnsBehind result.turn way (set_of templates.now) limits
-            (1 + n + turns_begun_at self.old.waiting self.old.cursor.map way (tree_in (set_of templates.now)) limits)
+        ensures turns { (way : Way) (n : ℕ) → HasTurnsWaiting way (set_of templates.now) limits.now n self.old
+            → HasTurnsBehind result.turn way (set_of templates.now) limits.now
+            (1 + n + turns_begun_at self.old.waiting self.old.cursor.map way (tree_in (set_of templates.now))
+            limits.now)
             self.new }
     {
         self.turns = Turns::after(&self.turns);
@@ -111,25 +112,25 @@ impl<'t> Machine<'t> {
     fn take_awaited<S: Sink>(
         &mut self,
         templates: &'t Templates,
-        limits: Limits,
+        limits: &Limits,
         rest: &[u8],
         sink: &mut S,
     ) -> UnitTaken
-        requires ready { IsReady (set_of templates.now) limits self.old }
+        requires ready { IsReady (set_of templates.now) limits.now self.old }
         requires some { 0 < length rest.now }
-        ensures taken { TakesUnit S.takes S.stops (set_of templates.now) limits self.old rest.now sink.old result
+        ensures taken { TakesUnit S.takes S.stops (set_of templates.now) limits.now self.old rest.now sink.old result
             sink.new self.new }
-        ensures turns { (way : Way) (n : ℕ) → HasTurnsWaiting way (set_of templates.now) limits n self.old
-            → HasTurnsBehind result.turn way (set_of templates.now) limits
-            (n + turns_begun_at self.old.waiting self.old.cursor.map way (tree_in (set_of templates.now)) limits)
+        ensures turns { (way : Way) (n : ℕ) → HasTurnsWaiting way (set_of templates.now) limits.now n self.old
+            → HasTurnsBehind result.turn way (set_of templates.now) limits.now
+            (n + turns_begun_at self.old.waiting self.old.cursor.map way (tree_in (set_of templates.now)) limits.now)
             self.new }
     {
         match self.waiting {
             Waiting::Field => self.take_instruction(templates, limits, rest, sink),
-            Waiting::Map => self.take_map(templates, limits, rest, sink),
+            Waiting::Map => self.take_map(templates, *limits, rest, sink),
             Waiting::Identifier => self.take_identifier(templates, limits, rest, sink),
             Waiting::SegmentMap(width) => self.take_segment_map(
-                templates, limits, width, rest, sink,
+                templates, *limits, width, rest, sink,
             ),
             Waiting::Mantissa(exponent) => self.take_mantissa(
                 templates, limits, exponent, rest, sink,

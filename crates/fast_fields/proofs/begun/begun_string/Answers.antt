@@ -12,8 +12,8 @@ use Rattle.fast_fields.proofs.begun.begun_string.Goals as goal
 
 pub returns-clause-begun : goal.returns-clause-begun
 returns-clause-begun c =
-    let s = c.args.limits.strict in
-    let l = bounds c.args.limits in
+    let s = c.args.limits.now.strict in
+    let l = bounds c.args.limits.now in
     let f = field_data c.args.field.now in
     let p = previous_of c.args.slots.now c.args.field.now in
     elim c.if-eq.branch [

@@ -17,16 +17,16 @@ pub returns-then-ne-clause-undecided : goal.returns-then-ne-clause-undecided
 returns-then-ne-clause-undecided c =
     let p = previous_of c.args.slots.now c.args.field.now in (
       c.text_missing.ensures.keeps.0,
-      λ v none short. ascii_field_open c.args.limits.strict (bounds c.args.limits) (field_data c.args.field.now) p (c.args.rest.now ++ v)
+      λ v none short. ascii_field_open c.args.limits.now.strict (bounds c.args.limits.now) (field_data c.args.field.now) p (c.args.rest.now ++ v)
           (search rules) c.requires.varies (c.text_missing.ensures.keeps.1 v (none refl) short),
     )
 
 pub returns-clause-undecided : goal.returns-clause-undecided
 returns-clause-undecided c =
-    let l = bounds c.args.limits in
+    let l = bounds c.args.limits.now in
     let f = field_data c.args.field.now in
     let p = previous_of c.args.slots.now c.args.field.now in
     let w = c.args.rest.now in
     let begun = c.in_ok-begun.begun in
-    begun_undecided c.args.limits.strict l f p w begun.stage begun.from c.run_missing.result c.in_ok-begun.ensures.begun
+    begun_undecided c.args.limits.now.strict l f p w begun.stage begun.from c.run_missing.result c.in_ok-begun.ensures.begun
     (subst (λ (u : List ℕ). KeepsRun l f p begun.stage u c.run_missing.result) (take_rest w begun.from) c.run_missing.ensures.keeps)

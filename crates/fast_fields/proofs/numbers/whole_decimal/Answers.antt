@@ -14,7 +14,7 @@ use Rattle.fast_fields.proofs.numbers.whole_decimal.Goals as goal
 
 pub returns-clause-whole : goal.returns-clause-whole
 returns-clause-whole c scratch =
-    let l = c.args.limits in
+    let l = c.args.limits.now in
     let f = field_data c.args.field.now in
     let old = slots_dictionary c.args.slots.now in
     let new = slots_dictionary c.sent_decimal.new.slots in

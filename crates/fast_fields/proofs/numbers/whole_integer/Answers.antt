@@ -14,7 +14,7 @@ use Rattle.fast_fields.proofs.numbers.whole_integer.Goals as goal
 
 pub returns-then-eq-clause-whole : goal.returns-then-eq-clause-whole
 returns-then-eq-clause-whole c scratch =
-    let l = c.args.limits in
+    let l = c.args.limits.now in
     let f = field_data c.args.field.now in
     let old = slots_dictionary c.args.slots.now in
     let new = slots_dictionary c.changed_integer.new.slots in
@@ -26,7 +26,7 @@ returns-then-eq-clause-whole c scratch =
 
 pub returns-clause-whole : goal.returns-clause-whole
 returns-clause-whole c scratch =
-    let l = c.args.limits in
+    let l = c.args.limits.now in
     let f = field_data c.args.field.now in
     let old = slots_dictionary c.args.slots.now in
     let new = slots_dictionary c.sent_integer.new.slots in

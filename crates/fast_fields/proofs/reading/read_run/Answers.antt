@@ -11,7 +11,7 @@ use Rattle.fast_fields.proofs.reading.read_run.Goals as goal
 
 pub returns-in-Cut-clause-reading : goal.returns-in-Cut-clause-reading
 returns-in-Cut-clause-reading c =
-    let l = c.args.limits in
+    let l = c.args.limits.now in
     let f = field_data c.args.field.now in
     let old = slots_dictionary c.args.slots.now in
     let w = c.args.bytes.now in

@@ -10,7 +10,7 @@ use Rattle.fast_fields.proofs.reading.read_text.Goals as goal
 
 pub returns-in-Cut-clause-reading : goal.returns-in-Cut-clause-reading
 returns-in-Cut-clause-reading c =
-    let l = c.args.limits in
+    let l = c.args.limits.now in
     let f = field_data c.args.field.now in
     let p = previous_at f.entry (slots_dictionary c.args.slots.now) in (
       (

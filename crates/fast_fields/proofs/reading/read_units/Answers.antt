@@ -17,7 +17,7 @@ use Rattle.fast_fields.proofs.reading.read_units.Goals as goal
 
 pub returns-in-Whole-Next-default-clause-reading : goal.returns-in-Whole-Next-default-clause-reading
 returns-in-Whole-Next-default-clause-reading c =
-    let l = c.args.limits in
+    let l = c.args.limits.now in
     let f = field_data c.args.field.now in
     let old = slots_dictionary c.args.slots.now in
     let mid = slots_dictionary c.take_first.new.slots in
@@ -37,7 +37,7 @@ returns-in-Whole-Next-default-clause-reading c =
 
 pub returns-in-Cut-clause-reading : goal.returns-in-Cut-clause-reading
 returns-in-Cut-clause-reading c =
-    let l = c.args.limits in
+    let l = c.args.limits.now in
     let f = field_data c.args.field.now in
     let old = slots_dictionary c.args.slots.now in
     let other : ¬ (IsAsciiFirst f) = elim c.else-eq.branch [

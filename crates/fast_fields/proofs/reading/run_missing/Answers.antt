@@ -16,7 +16,7 @@ use Rattle.fast_fields.proofs.reading.run_missing.Goals as goal
 
 pub returns-in-Part-clause-keeps : goal.returns-in-Part-clause-keeps
 returns-in-Part-clause-keeps c =
-    let l = bounds c.args.limits in
+    let l = bounds c.args.limits.now in
     let f = field_data c.args.field.now in
     let p = previous_of c.args.slots.now c.args.field.now in
     let w = c.args.bytes.now in

@@ -18,7 +18,7 @@ as_field r = record { source = r.source; from = r.from; bytes = r.bytes }
 
 pub returns-clause-whole : goal.returns-clause-whole
 returns-clause-whole c =
-    let l = c.args.limits in
+    let l = c.args.limits.now in
     let i = c.args.field.now in
     let f = field_data i in
     let old = c.args.slots.now in

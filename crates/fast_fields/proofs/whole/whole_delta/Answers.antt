@@ -13,7 +13,7 @@ use Rattle.fast_fields.proofs.whole.whole_delta.Goals as goal
 
 pub returns-clause-whole : goal.returns-clause-whole
 returns-clause-whole c =
-    let l = c.args.limits in
+    let l = c.args.limits.now in
     let i = c.args.field.now in
     let f = field_data i in
     let old = c.args.slots.now in

@@ -14,7 +14,7 @@ use Rattle.fast_fields.proofs.whole.whole_vector.Goals as goal
 
 pub returns-in_ok-taken-in-None-clause-whole : goal.returns-in_ok-taken-in-None-clause-whole
 returns-in_ok-taken-in-None-clause-whole c text =
-    let l = c.args.limits in
+    let l = c.args.limits.now in
     let i = c.args.field.now in
     let f = field_data i in
     let slots = c.args.slots.now in
@@ -35,7 +35,7 @@ returns-in_ok-taken-in-None-clause-whole c text =
 
 pub returns-in_ok-taken-in-Tail-clause-whole : goal.returns-in_ok-taken-in-Tail-clause-whole
 returns-in_ok-taken-in-Tail-clause-whole c text =
-    let l = c.args.limits in
+    let l = c.args.limits.now in
     let i = c.args.field.now in
     let f = field_data i in
     let old = c.args.slots.now in

@@ -18,7 +18,7 @@ pub overflow_sub-result : goal.overflow_sub-result
 overflow_sub-result c =
     let f = field_data c.args.field.now in
     let old = slots_dictionary c.args.slots.now in
-    let r = first_reader c.args.limits f old in
+    let r = first_reader c.args.limits.now f old in
     let same = c.if-carries_string.ensures.same refl in
     let carry = c.carries_string.new.self in
     let waits = stays_now r carry.bytes.text carry.missing
@@ -33,7 +33,7 @@ pub overflow_sub-result-in-Wrong : goal.overflow_sub-result-in-Wrong
 overflow_sub-result-in-Wrong c =
     let f = field_data c.args.field.now in
     let old = slots_dictionary c.args.slots.now in
-    let r = first_reader c.args.limits f old in
+    let r = first_reader c.args.limits.now f old in
     let same = c.if-carries_string.ensures.same refl in
     let carry = c.carries_string.new.self in
     let waits = stays_now r carry.bytes.text carry.missing
@@ -48,7 +48,7 @@ pub returns-in-Whole-clause-unit : goal.returns-in-Whole-clause-unit
 returns-in-Whole-clause-unit c =
     let f = field_data c.args.field.now in
     let old = slots_dictionary c.args.slots.now in
-    let r = first_reader c.args.limits f old in
+    let r = first_reader c.args.limits.now f old in
     let same = c.if-carries_string.ensures.same refl in
     let carry = c.carries_string.new.self in
     let waits = stays_now r carry.bytes.text carry.missing
@@ -64,7 +64,7 @@ pub returns-in-Whole-clause-held : goal.returns-in-Whole-clause-held
 returns-in-Whole-clause-held c found n e =
     let f = field_data c.args.field.now in
     let old = slots_dictionary c.args.slots.now in
-    let r = first_reader c.args.limits f old in
+    let r = first_reader c.args.limits.now f old in
     let same = c.if-carries_string.ensures.same refl in
     let carry = c.carries_string.new.self in
     let waits = stays_now r carry.bytes.text carry.missing
@@ -84,7 +84,7 @@ pub returns-in-Wrong-clause-unit : goal.returns-in-Wrong-clause-unit
 returns-in-Wrong-clause-unit c =
     let f = field_data c.args.field.now in
     let old = slots_dictionary c.args.slots.now in
-    let r = first_reader c.args.limits f old in
+    let r = first_reader c.args.limits.now f old in
     let same = c.if-carries_string.ensures.same refl in
     let carry = c.carries_string.new.self in
     let waits = stays_now r carry.bytes.text carry.missing
@@ -100,7 +100,7 @@ pub returns-in-More-clause-unit : goal.returns-in-More-clause-unit
 returns-in-More-clause-unit c =
     let f = field_data c.args.field.now in
     let old = slots_dictionary c.args.slots.now in
-    let r = first_reader c.args.limits f old in
+    let r = first_reader c.args.limits.now f old in
     let same = c.if-carries_string.ensures.same refl in
     let carry = c.carries_string.new.self in
     let waits = stays_now r carry.bytes.text carry.missing
@@ -119,7 +119,7 @@ pub returns-in-More-clause-cut : goal.returns-in-More-clause-cut
 returns-in-More-clause-cut c _ =
     let f = field_data c.args.field.now in
     let old = slots_dictionary c.args.slots.now in
-    let r = first_reader c.args.limits f old in
+    let r = first_reader c.args.limits.now f old in
     let same = c.if-carries_string.ensures.same refl in
     let carry = c.carries_string.new.self in
     let waits = stays_now r carry.bytes.text carry.missing
@@ -134,8 +134,8 @@ returns-in-More-clause-cut c _ =
     ∙ ap (λ (x : Carry). x.bytes.text ++ c.args.rest.now) same in
     let bytes = c.go_on.ensures.bytes ∙ sym c.at_hand.ensures in (
       bytes ∙ whole,
-      subst (λ (m : Missing). IsUndecided r c.go_on.new.self.bytes.text m × (length c.go_on.new.self.bytes.text + m.bytes ≤ 22 + c.args.limits.max_text))
+      subst (λ (m : Missing). IsUndecided r c.go_on.new.self.bytes.text m × (length c.go_on.new.self.bytes.text + m.bytes ≤ 22 + c.args.limits.now.max_text))
           (sym c.go_on.ensures.missing)
-          (subst (λ (u : List ℕ). IsUndecided r u c.in-More.missing × (length u + c.in-More.missing.bytes ≤ 22 + c.args.limits.max_text)) (sym bytes)
+          (subst (λ (u : List ℕ). IsUndecided r u c.in-More.missing × (length u + c.in-More.missing.bytes ≤ 22 + c.args.limits.now.max_text)) (sym bytes)
           (undecided, c.in-More.ensures.bounded)),
     )

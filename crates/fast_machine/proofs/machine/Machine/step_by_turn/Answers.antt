@@ -16,7 +16,7 @@ returns-in-Waits-clause-step g c =
     let takes = g.S.Sink.takes in
     let stops = g.S.Sink.stops in
     let set = set_of c.args.templates.now in
-    let l = c.args.limits in
+    let l = c.args.limits.now in
     let m = c.args.self.now in
     let b = c.turn-turn.new.self in
     c.take_behind.ensures.step m c.args.sink.now
@@ -29,7 +29,7 @@ returns-in_default-clause-step g c =
     let takes = g.S.Sink.takes in
     let stops = g.S.Sink.stops in
     let set = set_of c.args.templates.now in
-    let l = c.args.limits in
+    let l = c.args.limits.now in
     let m = c.args.self.now in
     let turned = c.turn-turn in
     step_waits takes stops set l m c.args.rest.now c.args.sink.now 0
@@ -47,7 +47,7 @@ returns-in-Err-clause-step g c =
     let takes = g.S.Sink.takes in
     let stops = g.S.Sink.stops in
     let set = set_of c.args.templates.now in
-    let l = c.args.limits in
+    let l = c.args.limits.now in
     let m = c.args.self.now in
     let turned = c.turn-turn in
     subst (λ (t : Result Turn FaultCode). IsStep takes stops set l m c.args.rest.now c.args.sink.now (record {

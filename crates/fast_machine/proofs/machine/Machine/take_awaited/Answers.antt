@@ -21,7 +21,7 @@ returns-in-Field-clause-taken g c = c.take_instruction.ensures.taken
 
 pub returns-in-Field-clause-turns : goal.returns-in-Field-clause-turns
 returns-in-Field-clause-turns g c way n h = paid_awaited way
-    (set_of c.args.templates.now) c.args.limits n c.args.self.now c.take_instruction.new.self c.take_instruction.result.turn Field
+    (set_of c.args.templates.now) c.args.limits.now n c.args.self.now c.take_instruction.new.self c.take_instruction.result.turn Field
     c.in-Field.is refl (c.take_instruction.ensures.turns way n) h
 
 pub take_map-requires-clause-waits : goal.take_map-requires-clause-waits
@@ -62,7 +62,7 @@ returns-in-SegmentMap-clause-taken g c = c.take_segment_map.ensures.taken
 
 pub returns-in-SegmentMap-clause-turns : goal.returns-in-SegmentMap-clause-turns
 returns-in-SegmentMap-clause-turns g c way n h = paid_awaited way
-    (set_of c.args.templates.now) c.args.limits n c.args.self.now c.take_segment_map.new.self c.take_segment_map.result.turn
+    (set_of c.args.templates.now) c.args.limits.now n c.args.self.now c.take_segment_map.new.self c.take_segment_map.result.turn
     (SegmentMap c.in-SegmentMap.width) c.in-SegmentMap.is refl (c.take_segment_map.ensures.turns way n) h
 
 pub take_mantissa-requires-clause-waits : goal.take_mantissa-requires-clause-waits
@@ -79,5 +79,5 @@ returns-in-Mantissa-clause-taken g c = c.take_mantissa.ensures.taken
 
 pub returns-in-Mantissa-clause-turns : goal.returns-in-Mantissa-clause-turns
 returns-in-Mantissa-clause-turns g c way n h = paid_awaited way
-    (set_of c.args.templates.now) c.args.limits n c.args.self.now c.take_mantissa.new.self c.take_mantissa.result.turn
+    (set_of c.args.templates.now) c.args.limits.now n c.args.self.now c.take_mantissa.new.self c.take_mantissa.result.turn
     (Mantissa c.in-Mantissa.exponent) c.in-Mantissa.is refl (c.take_mantissa.ensures.turns way n) h

@@ -13,7 +13,7 @@ use Rattle.fast_machine.proofs.machine.Machine.take_behind.Goals as goal
 
 pub returns-then-is_empty-clause-step : goal.returns-then-is_empty-clause-step
 returns-then-is_empty-clause-step g c m s hands turns =
-    turn_step g.S.Sink.takes g.S.Sink.stops (set_of c.args.templates.now) c.args.limits m c.args.rest.now s (Ok Waits) c.args.sink.now c.args.self.now
+    turn_step g.S.Sink.takes g.S.Sink.stops (set_of c.args.templates.now) c.args.limits.now m c.args.rest.now s (Ok Waits) c.args.sink.now c.args.self.now
     (record { moves = hands; supplied = c.requires.ready.supplied; goes_on = c.requires.ready })
     (λ e. absurd (cc e)) turns
 
@@ -22,7 +22,7 @@ returns-then-gathers-clause-step g c m s hands turns =
     let takes = g.S.Sink.takes in
     let stops = g.S.Sink.stops in
     let set = set_of c.args.templates.now in
-    let l = c.args.limits in
+    let l = c.args.limits.now in
     let rest = c.args.rest.now in
     let b = c.args.self.now in
     let a = c.gathers.new.self in
@@ -40,7 +40,7 @@ returns-then-goes_on-clause-step g c m s hands turns =
     let takes = g.S.Sink.takes in
     let stops = g.S.Sink.stops in
     let set = set_of c.args.templates.now in
-    let l = c.args.limits in
+    let l = c.args.limits.now in
     let unit = c.take_unit-unit in
     let b = c.gathers.new.self in
     let sink = c.args.sink.now in
@@ -57,7 +57,7 @@ returns-else-goes_on-clause-step g c m s hands turns =
     let takes = g.S.Sink.takes in
     let stops = g.S.Sink.stops in
     let set = set_of c.args.templates.now in
-    let l = c.args.limits in
+    let l = c.args.limits.now in
     let unit = c.take_unit-unit in
     let b = c.gathers.new.self in
     let sink = c.args.sink.now in

@@ -32,13 +32,13 @@ hand_within front rest text bytes n is size within =
     omega (arith, both, len, least, size)
 
 pub read-requires-clause-serves : goal.read-requires-clause-serves
-read-requires-clause-serves g c = serves_here (set_of c.args.templates.now) c.args.limits c.args.self.now
+read-requires-clause-serves g c = serves_here (set_of c.args.templates.now) c.args.limits.now c.args.self.now
     (field_data c.args.field.now) c.requires.ready.supplied c.requires.serves
 
 pub finish_read-requires-clause-entry : goal.finish_read-requires-clause-entry
 finish_read-requires-clause-entry g c =
     let set = set_of c.args.templates.now in
-    let l = c.args.limits in
+    let l = c.args.limits.now in
     let m = c.args.self.now in
     let f = field_data c.args.field.now in
     let slots = c.read.new.slots in
@@ -57,7 +57,7 @@ returns-in-Cut-clause-taken g c =
     let takes = g.S.Sink.takes in
     let stops = g.S.Sink.stops in
     let set = set_of c.args.templates.now in
-    let l = c.args.limits in
+    let l = c.args.limits.now in
     let m = c.args.self.now in
     let f = field_data c.args.field.now in
     let n = c.args.node in
@@ -80,7 +80,7 @@ returns-in-Wrong-clause-taken g c =
     let takes = g.S.Sink.takes in
     let stops = g.S.Sink.stops in
     let set = set_of c.args.templates.now in
-    let l = c.args.limits in
+    let l = c.args.limits.now in
     let m = c.args.self.now in
     let f = field_data c.args.field.now in
     let n = c.args.node in
@@ -100,7 +100,7 @@ returns-in-Whole-clause-taken g c =
     let takes = g.S.Sink.takes in
     let stops = g.S.Sink.stops in
     let set = set_of c.args.templates.now in
-    let l = c.args.limits in
+    let l = c.args.limits.now in
     let m = c.args.self.now in
     let f = field_data c.args.field.now in
     let n = c.args.node in

@@ -37,13 +37,13 @@ identified_sees set l d c source scratch piece = by_source (λ v. identified_the
     (by_kind (λ v. identified_then set l (Some v) d c) (λ w. refl) (λ w. refl) (λ w. refl)) source identifier d scratch piece
 
 pub read-requires-clause-serves : goal.read-requires-clause-serves
-read-requires-clause-serves g c = identifier_served (set_of c.args.templates.now) c.args.limits c.args.self.now c.requires.ready.supplied
+read-requires-clause-serves g c = identifier_served (set_of c.args.templates.now) c.args.limits.now c.args.self.now c.requires.ready.supplied
 
 pub returns-in-Cut-clause-taken : goal.returns-in-Cut-clause-taken
 returns-in-Cut-clause-taken g c =
     let m : Machine = c.args.self.now in
     let set = set_of c.args.templates.now in
-    let l = c.args.limits in
+    let l = c.args.limits.now in
     let d : Dictionary = slots_dictionary m.slots in
     let rest : List ℕ = c.args.rest.now in
     let front : List ℕ = m.carry.bytes.text in
@@ -77,7 +77,7 @@ pub returns-in-Wrong-clause-taken : goal.returns-in-Wrong-clause-taken
 returns-in-Wrong-clause-taken g c =
     let m : Machine = c.args.self.now in
     let set = set_of c.args.templates.now in
-    let l = c.args.limits in
+    let l = c.args.limits.now in
     let d : Dictionary = slots_dictionary m.slots in
     let rest : List ℕ = c.args.rest.now in
     let n : ℕ = c.in-Wrong.bytes in
@@ -102,7 +102,7 @@ pub returns-in-Whole-clause-taken : goal.returns-in-Whole-clause-taken
 returns-in-Whole-clause-taken g c =
     let m : Machine = c.args.self.now in
     let set = set_of c.args.templates.now in
-    let l = c.args.limits in
+    let l = c.args.limits.now in
     let d : Dictionary = slots_dictionary m.slots in
     let new : Dictionary = slots_dictionary c.read.new.slots in
     let rest : List ℕ = c.args.rest.now in

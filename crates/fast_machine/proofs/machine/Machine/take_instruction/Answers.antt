@@ -24,21 +24,21 @@ none_begins l nodes (n ∷ ns) s carry e h = absurd (cc e)
 pub returns-in_default-clause-taken : goal.returns-in_default-clause-taken
 returns-in_default-clause-taken g c =
     let m = c.args.self.now in
-    let can = can_take_field (set_of c.args.templates.now) c.args.limits m c.requires.waits c.requires.ready in
-    absurd (none_begins c.args.limits (set_of c.args.templates.now).nodes m.cursor.left (state_in (slots_dictionary m.slots) m.counted m.cursor) m.carry
+    let can = can_take_field (set_of c.args.templates.now) c.args.limits.now m c.requires.waits c.requires.ready in
+    absurd (none_begins c.args.limits.now (set_of c.args.templates.now).nodes m.cursor.left (state_in (slots_dictionary m.slots) m.counted m.cursor) m.carry
     (sym c.next.ensures ∙ c.in_default.is) can.2)
 
 pub returns-in_default-clause-turns : goal.returns-in_default-clause-turns
 returns-in_default-clause-turns g c =
     let m = c.args.self.now in
-    let can = can_take_field (set_of c.args.templates.now) c.args.limits m c.requires.waits c.requires.ready in
-    absurd (none_begins c.args.limits (set_of c.args.templates.now).nodes m.cursor.left (state_in (slots_dictionary m.slots) m.counted m.cursor) m.carry
+    let can = can_take_field (set_of c.args.templates.now) c.args.limits.now m c.requires.waits c.requires.ready in
+    absurd (none_begins c.args.limits.now (set_of c.args.templates.now).nodes m.cursor.left (state_in (slots_dictionary m.slots) m.counted m.cursor) m.carry
     (sym c.next.ensures ∙ c.in_default.is) can.2)
 
 pub take_exponent-requires-clause-next : goal.take_exponent-requires-clause-next
 take_exponent-requires-clause-next g c =
     let set = set_of c.args.templates.now in
-    let l = c.args.limits in
+    let l = c.args.limits.now in
     let m = c.args.self.now in
     let n = c.in-Some.number in
     let v = c.node.result.now in
@@ -49,7 +49,7 @@ take_exponent-requires-clause-next g c =
 pub take_length-requires-clause-next : goal.take_length-requires-clause-next
 take_length-requires-clause-next g c =
     let set = set_of c.args.templates.now in
-    let l = c.args.limits in
+    let l = c.args.limits.now in
     let m = c.args.self.now in
     let n = c.in-Some.number in
     let v = c.node.result.now in
@@ -61,7 +61,7 @@ take_length-requires-clause-next g c =
 pub take_length-requires-clause-node : goal.take_length-requires-clause-node
 take_length-requires-clause-node g c =
     let set = set_of c.args.templates.now in
-    let l = c.args.limits in
+    let l = c.args.limits.now in
     let m = c.args.self.now in
     let n = c.in-Some.number in
     let v = c.node.result.now in
@@ -73,14 +73,14 @@ take_length-requires-clause-node g c =
 pub returns-in-Group-clause-taken : goal.returns-in-Group-clause-taken
 returns-in-Group-clause-taken g c =
     let set = set_of c.args.templates.now in
-    let l = c.args.limits in
+    let l = c.args.limits.now in
     let m = c.args.self.now in
     let n = c.in-Some.number in
     let v = c.node.result.now in
     let later = c.args.templates.now.nodes_name_later_nodes in
     let first = sym c.next.ensures ∙ c.in-Some.is in
     let can = subst (λ (w : Waiting). CanTake w set l m) c.requires.waits c.requires.ready.takes in
-    absurd (no_group set m.cursor n v later first c.node.ensures.found c.args.limits
+    absurd (no_group set m.cursor n v later first c.node.ensures.found c.args.limits.now
     (state_in (slots_dictionary m.slots) m.counted m.cursor) m.carry c.in-Group.optional c.in-Group.body c.in-Group.is can.2)
 
 pub returns-in-Decimal-clause-taken : goal.returns-in-Decimal-clause-taken
@@ -98,7 +98,7 @@ returns-in-Sequence-clause-turns g c = c.take_length.ensures.turns
 pub node-requires : goal.node-requires
 node-requires g c =
     let m = c.args.self.now in
-    let can = can_take_field (set_of c.args.templates.now) c.args.limits m c.requires.waits c.requires.ready in
+    let can = can_take_field (set_of c.args.templates.now) c.args.limits.now m c.requires.waits c.requires.ready in
     first_below _ m.cursor.left c.in-Some.number can.0.below (sym c.next.ensures ∙ c.in-Some.is)
 
 pub take_exponent-requires-clause-waits : goal.take_exponent-requires-clause-waits
@@ -112,18 +112,18 @@ take_exponent-requires-clause-some g c = c.requires.some
 
 pub take_exponent-requires-clause-exponent : goal.take_exponent-requires-clause-exponent
 take_exponent-requires-clause-exponent g c =
-    (served_node (set_of c.args.templates.now) c.args.limits c.args.self.now c.in-Some.number c.node.result.now
+    (served_node (set_of c.args.templates.now) c.args.limits.now c.args.self.now c.in-Some.number c.node.result.now
     (Decimal c.in-Decimal.exponent c.in-Decimal.mantissa) c.requires.ready.supplied c.node.ensures.found c.in-Decimal.is).0
 
 pub take_exponent-requires-clause-mantissa : goal.take_exponent-requires-clause-mantissa
 take_exponent-requires-clause-mantissa g c =
-    (served_node (set_of c.args.templates.now) c.args.limits c.args.self.now c.in-Some.number c.node.result.now
+    (served_node (set_of c.args.templates.now) c.args.limits.now c.args.self.now c.in-Some.number c.node.result.now
     (Decimal c.in-Decimal.exponent c.in-Decimal.mantissa) c.requires.ready.supplied c.node.ensures.found c.in-Decimal.is).1
 
 pub body_start-start-requires : goal.body_start-start-requires
 body_start-start-requires g c =
     let m = c.args.self.now in
-    let can = can_take_field (set_of c.args.templates.now) c.args.limits m c.requires.waits c.requires.ready in
+    let can = can_take_field (set_of c.args.templates.now) c.args.limits.now m c.requires.waits c.requires.ready in
     first_below _ m.cursor.left c.in-Some.number can.0.below (sym c.next.ensures ∙ c.in-Some.is)
 
 pub take_length-requires-clause-waits : goal.take_length-requires-clause-waits
@@ -140,7 +140,7 @@ take_length-requires-clause-run g c = (c.body_start-start.ensures c.node.result.
 
 pub take_length-requires-clause-serves : goal.take_length-requires-clause-serves
 take_length-requires-clause-serves g c =
-    (served_node (set_of c.args.templates.now) c.args.limits c.args.self.now c.in-Some.number c.node.result.now
+    (served_node (set_of c.args.templates.now) c.args.limits.now c.args.self.now c.in-Some.number c.node.result.now
     (Sequence c.in-Sequence.length c.in-Sequence.body) c.requires.ready.supplied c.node.ensures.found c.in-Sequence.is).0
 
 pub take_length-requires-clause-below : goal.take_length-requires-clause-below
@@ -156,8 +156,8 @@ returns-in-Group-clause-turns g c =
     let set = set_of c.args.templates.now in
     let m = c.args.self.now in
     let first = sym c.next.ensures ∙ c.in-Some.is in
-    let can = can_take_field set c.args.limits m c.requires.waits c.requires.ready in
-    absurd (no_group set m.cursor c.in-Some.number c.node.result.now c.args.templates.now.nodes_name_later_nodes first c.node.ensures.found c.args.limits
+    let can = can_take_field set c.args.limits.now m c.requires.waits c.requires.ready in
+    absurd (no_group set m.cursor c.in-Some.number c.node.result.now c.args.templates.now.nodes_name_later_nodes first c.node.ensures.found c.args.limits.now
     (state_in (slots_dictionary m.slots) m.counted m.cursor) m.carry c.in-Group.optional c.in-Group.body c.in-Group.is can.2)
 
 pub take_field-requires-clause-waits : goal.take_field-requires-clause-waits
@@ -176,7 +176,7 @@ take_field-requires-clause-next g c =
 
 pub take_field-requires-clause-serves : goal.take_field-requires-clause-serves
 take_field-requires-clause-serves g c =
-    served_node (set_of c.args.templates.now) c.args.limits c.args.self.now c.in-Some.number c.node.result.now (Field c.in-Field.field)
+    served_node (set_of c.args.templates.now) c.args.limits.now c.args.self.now c.in-Some.number c.node.result.now (Field c.in-Field.field)
     c.requires.ready.supplied c.node.ensures.found c.in-Field.is
 
 pub returns-in-Field-clause-taken : goal.returns-in-Field-clause-taken

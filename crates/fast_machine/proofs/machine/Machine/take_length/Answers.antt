@@ -16,17 +16,17 @@ use Rattle.fast_machine.proofs.steps.TurnCounts.{fault_turns}
 use Rattle.fast_machine.proofs.machine.Machine.take_length.Goals as goal
 
 pub read_integer-requires-clause-serves : goal.read_integer-requires-clause-serves
-read_integer-requires-clause-serves g c = serves_here (set_of c.args.templates.now) c.args.limits c.args.self.now
+read_integer-requires-clause-serves g c = serves_here (set_of c.args.templates.now) c.args.limits.now c.args.self.now
     (field_data c.args.length.now) c.requires.ready.supplied c.requires.serves
 
 pub read_integer-requires-clause-varies : goal.read_integer-requires-clause-varies
 read_integer-requires-clause-varies g c =
-    (length_begun (set_of c.args.templates.now) c.args.limits c.args.self.now c.args.node c.requires.ready (field_data c.args.length.now)
+    (length_begun (set_of c.args.templates.now) c.args.limits.now c.args.self.now c.args.node c.requires.ready (field_data c.args.length.now)
     (run_in (set_of c.args.templates.now) c.args.start) c.requires.waits c.requires.next).0.varies
 
 pub read_integer-requires-clause-carried : goal.read_integer-requires-clause-carried
 read_integer-requires-clause-carried g c =
-    (length_begun (set_of c.args.templates.now) c.args.limits c.args.self.now c.args.node c.requires.ready (field_data c.args.length.now)
+    (length_begun (set_of c.args.templates.now) c.args.limits.now c.args.self.now c.args.node c.requires.ready (field_data c.args.length.now)
     (run_in (set_of c.args.templates.now) c.args.start) c.requires.waits c.requires.next).1
 
 pub returns-in-Cut-clause-taken : goal.returns-in-Cut-clause-taken
@@ -34,7 +34,7 @@ returns-in-Cut-clause-taken g c =
     let takes = g.S.Sink.takes in
     let stops = g.S.Sink.stops in
     let set = set_of c.args.templates.now in
-    let l = c.args.limits in
+    let l = c.args.limits.now in
     let m = c.args.self.now in
     let f = field_data c.args.length.now in
     let n = c.args.node in
@@ -62,7 +62,7 @@ returns-in-Wrong-clause-taken g c =
     let takes = g.S.Sink.takes in
     let stops = g.S.Sink.stops in
     let set = set_of c.args.templates.now in
-    let l = c.args.limits in
+    let l = c.args.limits.now in
     let m = c.args.self.now in
     let f = field_data c.args.length.now in
     let n = c.args.node in
@@ -84,7 +84,7 @@ returns-in-Whole-clause-taken g c =
     let takes = g.S.Sink.takes in
     let stops = g.S.Sink.stops in
     let set = set_of c.args.templates.now in
-    let l = c.args.limits in
+    let l = c.args.limits.now in
     let m = c.args.self.now in
     let f = field_data c.args.length.now in
     let n = c.args.node in
@@ -102,12 +102,12 @@ pub returns-in-Cut-clause-turns : goal.returns-in-Cut-clause-turns
 returns-in-Cut-clause-turns g c way n h =
     let m = c.args.self.now in
     let a = record m { slots = c.read_integer.new.slots; carry = c.read_integer.new.self; text = c.read_integer.new.text } in
-    rw c.cut.ensures.turn (subst (λ (w : Waiting). HasTurnsAt w way (set_of c.args.templates.now) c.args.limits n a) (sym c.requires.waits) h)
+    rw c.cut.ensures.turn (subst (λ (w : Waiting). HasTurnsAt w way (set_of c.args.templates.now) c.args.limits.now n a) (sym c.requires.waits) h)
 
 pub returns-in-Wrong-clause-turns : goal.returns-in-Wrong-clause-turns
 returns-in-Wrong-clause-turns g c way n h =
     let m = c.args.self.now in
-    fault_turns way (set_of c.args.templates.now) c.args.limits n m (record m {
+    fault_turns way (set_of c.args.templates.now) c.args.limits.now n m (record m {
       slots = c.read_integer.new.slots;
       carry = c.read_integer.new.self;
       text = c.read_integer.new.text;

@@ -32,15 +32,15 @@ pub returns-in_default-shape : goal.returns-in_default-shape
 returns-in_default-shape g c =
     let set = set_of c.args.templates.now in
     let m = c.args.self.now in
-    let can = subst (λ (w : Waiting). CanTake w set c.args.limits m) c.requires.waits c.requires.ready.takes in
-    let is_decimal = mantissa_parts set c.args.limits m c.in-Some.number c.node.result.now c.args.templates.now.nodes_name_later_nodes
+    let can = subst (λ (w : Waiting). CanTake w set c.args.limits.now m) c.requires.waits c.requires.ready.takes in
+    let is_decimal = mantissa_parts set c.args.limits.now m c.in-Some.number c.node.result.now c.args.templates.now.nodes_name_later_nodes
     (sym c.next.ensures ∙ c.in-Some.is) c.node.ensures.found can.2 in
     absurd (not_decimal c.node.result.now.shape is_decimal c.in_default-shape.not-Decimal)
 
 pub read_integer-requires-clause-serves : goal.read_integer-requires-clause-serves
 read_integer-requires-clause-serves g c =
     let set = set_of c.args.templates.now in
-    let l = c.args.limits in
+    let l = c.args.limits.now in
     let m = c.args.self.now in
     let f = field_data c.in-Decimal.mantissa in
     let n = c.in-Some.number in
@@ -50,14 +50,14 @@ read_integer-requires-clause-serves g c =
 
 -- The mantissa stands in the stream, and these bytes of it are carried.
 sent : (g : Over) (c : goal.After-read_integer-arg-3-1 g) → let m = c.args.self.now in let f = field_data c.in-Decimal.mantissa in
-    IsSent f (bit_of f (state_of m)) × IsCarried c.args.limits (first_reader c.args.limits f (slots_dictionary m.slots)) m.carry
+    IsSent f (bit_of f (state_of m)) × IsCarried c.args.limits.now (first_reader c.args.limits.now f (slots_dictionary m.slots)) m.carry
 sent g c =
     let set = set_of c.args.templates.now in
     let m = c.args.self.now in
     let n = c.in-Some.number in
     let at = at_parts_node set m.cursor n c.node.result.now c.args.templates.now.nodes_name_later_nodes
     (sym c.next.ensures ∙ c.in-Some.is) c.node.ensures.found c.in-Decimal.exponent c.in-Decimal.mantissa c.in-Decimal.is in
-    mantissa_begun set c.args.limits m n c.requires.ready (field_data c.in-Decimal.exponent) (field_data c.in-Decimal.mantissa) c.args.exponent
+    mantissa_begun set c.args.limits.now m n c.requires.ready (field_data c.in-Decimal.exponent) (field_data c.in-Decimal.mantissa) c.args.exponent
     c.requires.waits at
 
 pub read_integer-requires-clause-varies : goal.read_integer-requires-clause-varies
@@ -69,7 +69,7 @@ read_integer-requires-clause-carried g c = (sent g c).1
 pub finish_decimal-turn-requires-clause-entry : goal.finish_decimal-turn-requires-clause-entry
 finish_decimal-turn-requires-clause-entry g c =
     let set = set_of c.args.templates.now in
-    let l = c.args.limits in
+    let l = c.args.limits.now in
     let new = c.read_integer.new in
     let kept = c.read_integer.ensures in
     let m = c.args.self.now in
@@ -87,7 +87,7 @@ returns-in-Cut-clause-taken g c =
     let takes = g.S.Sink.takes in
     let stops = g.S.Sink.stops in
     let set = set_of c.args.templates.now in
-    let l = c.args.limits in
+    let l = c.args.limits.now in
     let new = c.read_integer.new in
     let kept = c.read_integer.ensures in
     let m = c.args.self.now in
@@ -114,7 +114,7 @@ returns-in-Wrong-clause-taken g c =
     let takes = g.S.Sink.takes in
     let stops = g.S.Sink.stops in
     let set = set_of c.args.templates.now in
-    let l = c.args.limits in
+    let l = c.args.limits.now in
     let new = c.read_integer.new in
     let kept = c.read_integer.ensures in
     let m = c.args.self.now in
@@ -138,7 +138,7 @@ returns-in-Whole-clause-taken g c =
     let takes = g.S.Sink.takes in
     let stops = g.S.Sink.stops in
     let set = set_of c.args.templates.now in
-    let l = c.args.limits in
+    let l = c.args.limits.now in
     let new = c.read_integer.new in
     let kept = c.read_integer.ensures in
     let m = c.args.self.now in
@@ -173,5 +173,5 @@ returns-in-Whole-clause-taken g c =
 pub node-requires : goal.node-requires
 node-requires g c =
     let m = c.args.self.now in
-    let can = subst (λ (w : Waiting). CanTake w (set_of c.args.templates.now) c.args.limits m) c.requires.waits c.requires.ready.takes in
+    let can = subst (λ (w : Waiting). CanTake w (set_of c.args.templates.now) c.args.limits.now m) c.requires.waits c.requires.ready.takes in
     first_below _ m.cursor.left c.in-Some.number can.0.below (sym c.next.ensures ∙ c.in-Some.is)

@@ -25,9 +25,9 @@ gathers-requires g c = record {
   ready =
       let m = c.args.self.now in
       let f = field_data c.args.field.now in
-      (field_waits g.S.Sink.takes g.S.Sink.stops (set_of c.args.templates.now) c.args.limits c.args.sink.now m c.wait_first.new.self c.args.node f
+      (field_waits g.S.Sink.takes g.S.Sink.stops (set_of c.args.templates.now) c.args.limits.now c.args.sink.now m c.wait_first.new.self c.args.node f
       c.requires.turn c.requires.next c.requires.sent c.wait_first.ensures.same c.wait_first.ensures.capacity c.wait_first.ensures.none
-      (c.wait_first.ensures.carried c.args.limits (previous_at f.entry (slots_dictionary m.slots)))).goes_on;
+      (c.wait_first.ensures.carried c.args.limits.now (previous_at f.entry (slots_dictionary m.slots)))).goes_on;
 }
 
 pub returns-then-is_empty : goal.returns-then-is_empty
@@ -35,7 +35,7 @@ returns-then-is_empty g c =
     let takes = g.S.Sink.takes in
     let stops = g.S.Sink.stops in
     let set = set_of c.args.templates.now in
-    let l = c.args.limits in
+    let l = c.args.limits.now in
     let m = c.args.self.now in
     let b = c.wait_first.new.self in
     let f = field_data c.args.field.now in
@@ -53,7 +53,7 @@ returns-then-gathers g c =
     let takes = g.S.Sink.takes in
     let stops = g.S.Sink.stops in
     let set = set_of c.args.templates.now in
-    let l = c.args.limits in
+    let l = c.args.limits.now in
     let m = c.args.self.now in
     let rest = c.args.rest.now in
     let b = c.wait_first.new.self in
@@ -88,7 +88,7 @@ take_field-requires-clause-serves g c =
 pub take_field-requires-clause-ready : goal.take_field-requires-clause-ready
 take_field-requires-clause-ready g c =
     let set = set_of c.args.templates.now in
-    let l = c.args.limits in
+    let l = c.args.limits.now in
     let m = c.args.self.now in
     let b = c.gathers.new.self in
     let f = field_data c.args.field.now in
@@ -104,7 +104,7 @@ returns g c =
     let takes = g.S.Sink.takes in
     let stops = g.S.Sink.stops in
     let set = set_of c.args.templates.now in
-    let l = c.args.limits in
+    let l = c.args.limits.now in
     let m = c.args.self.now in
     let b = c.gathers.new.self in
     let f = field_data c.args.field.now in
