@@ -51,8 +51,8 @@ fn op_at<'t>(
     place.op()
 }
 
-/// Makes a step on the general path. A field that is in the stream is by far the most common case, and is tested first. It is marked as
-/// cold so that the loop's registers are allocated for the arms.
+/// Makes a step on the general path. A field is by far the most common case, and is tested first. It is marked as cold so that the loop's
+/// registers are allocated for the arms.
 #[cold]
 #[inline(never)]
 fn general_step<'t, S: Sink>(
@@ -68,7 +68,7 @@ fn general_step<'t, S: Sink>(
         machine.new }
     ensures waits { (t : Turn) → result.turn ≡ Ok t → t ≢ Turn.Waits → machine.new.waiting ≡ Waiting.Field }
 {
-    if let Some((node, field)) = machine.sent_field(templates, *limits) {
+    if let Some((node, field)) = machine.next_field(templates, *limits) {
         return machine.step_by_field(templates, limits, node, field, rest, sink);
     }
     machine.step_by_turn(templates, limits, rest, sink)

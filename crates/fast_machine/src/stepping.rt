@@ -1,6 +1,6 @@
 //! Steps on the general path: a field that is in the stream, or a turn of the machine and the unit that it waits for then.
 
-ghost use Rattle.std.specs.Prelude.{◌≡◌, ◌≢◌, ◌<◌, ℕ, length, true, false, Ok, Err, IfSome};
+ghost use Rattle.std.specs.Prelude.{◌≡◌, ◌≢◌, ◌<◌, ℕ, length, drop, true, false, Ok, Err, IfSome};
 ghost use Rattle.fast_machine.specs.declared.machine.Waiting.{Waiting};
 ghost use Rattle.fast_stream.specs.declared.faults.FaultCode.{FaultCode};
 ghost use Rattle.fast_machine.specs.device.Handing.{Hands};
@@ -8,8 +8,8 @@ ghost use Rattle.fast_tree.specs.meaning.Nodes.{field_data};
 ghost use Rattle.fast_dict.specs.meaning.Slots.{slots_dictionary};
 ghost use Rattle.fast_units.specs.device.UnitFronts.{IsSent};
 ghost use Rattle.fast_machine.specs.device.Words.{IsServedBy};
-ghost use Rattle.fast_machine.specs.device.Positions.{set_of, state_in, bit_of, IsAtField, CanTurn, IsReady, turning, meaning};
-ghost use Rattle.fast_machine.specs.device.TurnsLeft.{Way, HasTurns, HasTurnsWaiting};
+ghost use Rattle.fast_machine.specs.device.Positions.{set_of, state_in, bit_of, IsAtField, CanTurn, IsReady, IsTurn, turning, meaning};
+ghost use Rattle.fast_machine.specs.device.TurnsLeft.{Way, HasTurns, HasTurnsWaiting, HasTurnsBehind};
 ghost use Rattle.fast_machine.specs.declared.machine.Machine.{Machine};
 ghost use Rattle.fast_machine.specs.device.Steps.{IsStep};
 ghost use Rattle.fast_machine.specs.declared.machine.Turn.{Turn};
@@ -63,9 +63,9 @@ impl<'t> Machine<'t> {
         }
     }
 
-    /// Returns the next instruction and its node, if it is a field that is in the stream.
+    /// Returns the next instruction and its node, if it is a field.
     #[inline(always)]
-    pub fn sent_field(
+    pub fn next_field(
         &self,
         templates: &'t Templates,
         limits: Limits,
@@ -73,8 +73,6 @@ impl<'t> Machine<'t> {
         requires turn { CanTurn (set_of templates.now) limits self.now }
         ensures next { IfSome result
             (λ r. IsAtField (set_of templates.now) self.now.cursor r.0 (field_data r.1.now)) }
-        ensures sent { IfSome result (λ r. IsSent (field_data r.1.now) (bit_of (field_data r.1.now)
-            (state_in (slots_dictionary self.now.slots) self.now.counted self.now.cursor))) }
         ensures serves { IfSome result (λ r. IsServedBy (set_of templates.now) self.now (field_data r.1.now)) }
     {
         let _ = limits;
@@ -82,10 +80,6 @@ impl<'t> Machine<'t> {
         let Shape::Field(field) = &templates.node(number).shape else {
             return None;
         };
-        // the operators that look at the bit use one
-        if !needs_bytes(field, self.cursor.bit()) {
-            return None;
-        }
         Some((number, field))
     }
 
@@ -122,7 +116,7 @@ impl<'t> Machine<'t> {
         self.take_field(templates, limits, node, field, rest, sink)
     }
 
-    /// Reads the next instruction as [`Machine::take_sent_field`] does. If the machine goes on, it waits for a field.
+    /// Reads the next instruction, a field, or passes it if nothing is sent of it. If the machine goes on, it waits for a field.
     #[inline(always)]
     pub fn step_by_field<S: Sink>(
         &mut self,
@@ -135,13 +129,16 @@ impl<'t> Machine<'t> {
     ) -> UnitTaken
         requires turn { CanTurn (set_of templates.now) limits.now self.old }
         requires next { IsAtField (set_of templates.now) self.old.cursor node (field_data field.now) }
-        requires sent { IsSent (field_data field.now) (bit_of (field_data field.now)
-            (state_in (slots_dictionary self.old.slots) self.old.counted self.old.cursor)) }
         requires serves { IsServedBy (set_of templates.now) self.old (field_data field.now) }
         ensures step { IsStep S.takes S.stops (set_of templates.now) limits.now self.old rest.now sink.old result
             sink.new self.new }
         ensures waits { (t : Turn) → result.turn ≡ Ok t → t ≢ Turn.Waits → self.new.waiting ≡ Waiting.Field }
     {
+        // each operator for which the bit counts uses one
+        if !needs_bytes(field, self.cursor.bit()) {
+            let turn = self.turn_at_field(templates, *limits, node, field, sink);
+            return self.step_after(templates, limits, turn, rest, sink);
+        }
         let unit = self.take_sent_field(templates, limits, node, field, rest, sink);
         if unit.goes_on() {
             self.wait_for_field();
@@ -167,9 +164,13 @@ impl<'t> Machine<'t> {
             → HasTurnsWaiting way (set_of templates.now) limits n self.new }
         ensures same { sink.new ≡ sink.old }
     {
-        let Some((_, field)) = self.sent_field(templates, limits) else {
+        let Some((_, field)) = self.next_field(templates, limits) else {
             return false;
         };
+        let bit = self.cursor.bit();
+        if !needs_bytes(field, bit) {
+            return false;
+        }
         self.wait_first(field);
         true
     }
@@ -189,6 +190,30 @@ impl<'t> Machine<'t> {
         ensures waits { (t : Turn) → result.turn ≡ Ok t → t ≢ Turn.Waits → self.new.waiting ≡ Waiting.Field }
     {
         let turn = self.turn(templates, *limits, rest.len(), sink);
+        self.step_after(templates, limits, turn, rest, sink)
+    }
+
+    /// Ends a step after its turn: reads the unit that the machine waits for then, if it does, or the part of it that is there.
+    #[inline(always)]
+    fn step_after<S: Sink>(
+        &mut self,
+        templates: &'t Templates,
+        limits: &Limits,
+        turn: Result<Turn, FaultCode>,
+        rest: &[u8],
+        sink: &mut S,
+    ) -> UnitTaken
+        requires ready { turn ≡ Ok Turn.Waits → IsReady (set_of templates.now) limits.now self.old }
+        ensures step { (m : Machine) (s : S)
+            → IsTurn S.takes S.stops (set_of templates.now) limits.now (turning (set_of templates.now) limits.now m) s
+            turn sink.old self.old
+            → (turn ≡ Ok Turn.Silent
+            → (0 < length m.cursor.left) × (self.old.cursor.left ≡ drop 1 m.cursor.left))
+            → ((way : Way) (n : ℕ) → HasTurns way (set_of templates.now) limits.now 0 n m
+            → HasTurnsBehind turn way (set_of templates.now) limits.now n self.old)
+            → IsStep S.takes S.stops (set_of templates.now) limits.now m rest.now s result sink.new self.new }
+        ensures waits { (t : Turn) → result.turn ≡ Ok t → t ≢ Turn.Waits → self.new.waiting ≡ Waiting.Field }
+    {
         match turn {
             Err(code) => UnitTaken {
                 bytes: 0,

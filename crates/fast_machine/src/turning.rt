@@ -172,6 +172,30 @@ impl<'t> Machine<'t> {
         self.begin(templates, limits, left, sink)
     }
 
+    /// Makes a turn at a field, the next instruction.
+    #[inline(always)]
+    pub fn turn_at_field<S: Sink>(
+        &mut self,
+        templates: &'t Templates,
+        limits: Limits,
+        node: u32,
+        field: &FieldInstruction,
+        sink: &mut S,
+    ) -> Result<Turn, FaultCode>
+        requires turn { CanTurn (set_of templates.now) limits self.old }
+        requires next { IsAtField (set_of templates.now) self.old.cursor node (field_data field.now) }
+        requires serves { Serves (set_of templates.now).entries (slots_terms self.old.slots) (field_data field.now) }
+        ensures turn { IsTurn S.takes S.stops (set_of templates.now) limits
+            (turning (set_of templates.now) limits self.old) sink.old result sink.new self.new }
+        ensures past { result ≡ Ok Turn.Silent
+            → (0 < length self.old.cursor.left) × (self.new.cursor.left ≡ drop 1 self.old.cursor.left) }
+        ensures turns { (way : Way) (n : ℕ) → HasTurns way (set_of templates.now) limits 0 n self.old
+            → HasTurnsBehind result way (set_of templates.now) limits n self.new }
+    {
+        self.turns = Turns::after(&self.turns);
+        self.begin_field(templates, limits, node, field, sink)
+    }
+
     /// Makes a turn, after it was counted.
     #[inline(always)]
     fn begin<S: Sink>(

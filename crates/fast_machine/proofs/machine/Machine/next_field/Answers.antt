@@ -5,8 +5,7 @@ use Rattle.fast_tree.specs.declared.instructions.Shape.TheVariants.{Field}
 use Rattle.fast_machine.specs.device.Positions.{set_of}
 use Rattle.fast_machine.proofs.fields.Heads.{field_head}
 use Rattle.fast_machine.proofs.fields.FieldNodes.{first_below, served_node}
-use Rattle.fast_machine.proofs.steps.FieldTurns.{state_of, sent_next}
-use Rattle.fast_machine.proofs.machine.Machine.sent_field.Goals as goal
+use Rattle.fast_machine.proofs.machine.Machine.next_field.Goals as goal
 
 pub node-requires : goal.node-requires
 node-requires c = first_below _ c.args.self.now.cursor.left c.in_ok-number.number c.requires.turn.placed.below (sym c.next.ensures ∙ c.in_ok-number.was)
@@ -15,12 +14,6 @@ pub returns-clause-next : goal.returns-clause-next
 returns-clause-next c =
     field_head c.args.templates.now c.args.self.now.cursor c.in_ok-number.number c.node.result.now (sym c.next.ensures ∙ c.in_ok-number.was)
     c.node.ensures.found c.in-Field.field c.in-Field.is
-
-pub returns-clause-sent : goal.returns-clause-sent
-returns-clause-sent c =
-    let m = c.args.self.now in
-    sent_next (field_data c.in-Field.field) c.bit.result (state_of m) c.bit.ensures
-    (c.needs_bytes.ensures.operator c.if-not-needs_bytes.false) (c.needs_bytes.ensures.sent c.if-not-needs_bytes.false)
 
 pub returns-clause-serves : goal.returns-clause-serves
 returns-clause-serves c =
