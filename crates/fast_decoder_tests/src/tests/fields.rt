@@ -121,7 +121,13 @@ fn read_node(set: &Templates, values: &mut Values, node: u32, bytes: &[u8]) -> O
         max_text: ROOM,
         ..LENIENT
     };
-    Some(read_field(&mut values.slots, &mut values.scratch, field, bytes, &limits))
+    Some(read_field(
+        &mut values.slots,
+        &mut values.scratch,
+        field,
+        bytes,
+        &limits,
+    ))
 }
 
 /// Writes the results for none of the bytes, for the first, for two of them and so on.
